@@ -70,7 +70,15 @@ fn add(out: &mut Octets, asked: Subcommand<'_>) -> Result<(), AllocError> {
         Subcommand::Session(asked) => add_at(out, "session", asked.location, &[]),
         Subcommand::Daemon(asked) => {
             let check = if asked.check { "checks" } else { "" };
-            add_texts(out, &["daemon", asked.path, check, asked.managesieve])
+            let managesieve = asked.managesieve.unwrap_or("no port");
+            let lmtp = asked.lmtp.unwrap_or("no place");
+            let names = asked.names.unwrap_or("no names");
+            let host = asked.host.unwrap_or("no host");
+            let quiet = if asked.quiet { "quiet" } else { "" };
+            add_texts(
+                out,
+                &["daemon", asked.path, check, managesieve, lmtp, names, host, quiet],
+            )
         }
     }
 }

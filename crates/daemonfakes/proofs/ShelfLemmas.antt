@@ -1,14 +1,15 @@
 -- Events of others, and what follows them, on accounts that are kept in memory.
-use Rattle.std.proofs.Common.{◌≡◌, inl, inr, true, List, [], ◌∷◌, ◌++◌, ◌∙◌, refl, ap}
+use Rattle.std.proofs.Common.{◌≡◌, ℕ, inl, inr, true, List, [], ◌∷◌, ◌++◌, ◌∙◌, refl, ap}
+use Rattle.lmtp.specs.declared.receiver.Lookup.{Lookup}
 use Rattle.mailstore.specs.Account.{Accounts}
 use Rattle.mailengine.specs.Hosts.{Kept}
 use Rattle.mailengine.specs.World.{World, Clients, Next}
 use Rattle.mailengine.specs.declared.answer.Answer.{Answer}
 use Rattle.mailengine.specs.declared.event.Event.{Event}
 use Rattle.mailengine.specs.declared.event.Event.TheVariants.{Deliver, AddUser, TakeOut, TakeMail}
-use Rattle.sieveddaemon.specs.Desk.{IsOthers, AreOthers, IsDone}
+use Rattle.sieveddaemon.specs.Desk.{IsOthers, AreOthers, IsDone, IsAsked}
 use Rattle.sieveddaemon.proofs.EventLemmas.{runs_then, runs_one}
-use Rattle.daemonfakes.specs.Shelves.{IsApplied, LetsOthers, is_of_accounts}
+use Rattle.daemonfakes.specs.Shelves.{IsApplied, IsSought, LetsOthers, is_of_accounts}
 
 -- no event
 pub lets_none : {S : Type 0} (holds : S → Accounts → Type 0) (s : S) (kept : Kept) → LetsOthers holds [] s kept s kept
@@ -57,3 +58,14 @@ done_behind holds others event answer s mid t before between after lets applied 
     let let_them = lets w is in
     let made = applied let_them.0 let_them.2 in
     (made.0, record { strangers = let_them.1.strangers; told = let_them.1.told; between = let_them.0; theirs = let_them.1.runs; apart = let_them.1.apart; ours = made.1 }, made.2)
+
+-- and then an account is looked for
+pub asked_behind : {S : Type 0} (holds : S → Accounts → Type 0) (others : List Event) (user : List ℕ) (lookup : Lookup) (s mid t : S) (before between : Kept) → LetsOthers holds others s before mid between
+    → IsSought holds user lookup mid t → IsAsked holds others user lookup s before t between
+asked_behind holds others user lookup s mid t before between lets sought = λ w is.
+    let let_them = lets w is in
+    let seen = sought let_them.0.accounts let_them.2.shown in (
+      let_them.0,
+      record { strangers = let_them.1.strangers; told = let_them.1.told; theirs = let_them.1.runs; apart = let_them.1.apart; found = seen.0 },
+      record { shown = seen.1; sessions = let_them.2.sessions },
+    )

@@ -1,9 +1,12 @@
 //! Copies of events and answers, for a note.
-ghost use Rattle.std.specs.Prelude.{◌≡◌, IfSome};
+ghost use Rattle.std.specs.Prelude.{◌≡◌, IfOk, IfSome};
 ghost use Rattle.daemonfakes.specs.Shelves as shelves;
+ghost use Rattle.sieveddaemon.specs.Desk.{delivery_of};
 
-use mailengine::{Answer, Event};
-use std::alloc::Global;
+use mailengine::{Answer, Envelope, Event, Report};
+use mailposts::Parcel;
+use octets::Octets;
+use std::alloc::{AllocError, Global};
 
 /// The same event, where it is one that the daemon brings; none else.
 pub fn copy_event(event: &Event) -> Option<Event>
@@ -18,7 +21,22 @@ pub fn copy_event(event: &Event) -> Option<Event>
     }
 }
 
-/// The same answer, where it is one of a session; none else, or where memory is lacking.
+/// The event of a message for one recipient, at a moment in seconds since 1970.
+pub fn copy_delivery(alloc: Global, parcel: &Parcel, moment: u64) -> Result<Event, AllocError>
+    ensures { IfOk result (λ event. event ≡ delivery_of parcel.now moment) }
+{
+    Ok(Event::Deliver {
+        user: parcel.user.try_clone(alloc)?,
+        envelope: Envelope {
+            from: parcel.sender.try_clone(alloc)?,
+            to: parcel.recipient.try_clone(alloc)?,
+        },
+        message: parcel.message.try_clone(alloc)?,
+        moment,
+    })
+}
+
+/// The same answer, where it is one of a session or of a delivery; none else, or where memory is lacking.
 pub fn copy_answer(alloc: Global, answer: &Answer) -> Option<Answer>
     ensures { IfSome result (λ copy. copy ≡ answer.now) }
 {
@@ -27,9 +45,33 @@ pub fn copy_answer(alloc: Global, answer: &Answer) -> Option<Answer>
             Ok(octets) => Some(Answer::Out(*progress, octets)),
             Err(_) => None,
         },
+        Answer::Delivered(report) => match copy_report(alloc, report) {
+            Ok(report) => Some(Answer::Delivered(report)),
+            Err(_) => None,
+        },
         Answer::Ignored => Some(Answer::Ignored),
         Answer::Refused(refusal) => Some(Answer::Refused(*refusal)),
         _ => None,
+    }
+}
+
+fn copy_report(alloc: Global, report: &Report) -> Result<Report, AllocError>
+    ensures { IfOk result (λ copy. copy ≡ report.now) }
+{
+    Ok(Report {
+        filed: report.filed.try_clone(alloc)?,
+        sent: report.sent.try_clone(alloc)?,
+        vacation: report.vacation,
+        notice: copy_text(alloc, &report.notice)?,
+    })
+}
+
+fn copy_text(alloc: Global, text: &Option<Octets>) -> Result<Option<Octets>, AllocError>
+    ensures { IfOk result (λ copy. copy ≡ text.now) }
+{
+    match text {
+        Some(text) => Ok(Some(text.try_clone(alloc)?)),
+        None => Ok(None),
     }
 }
 

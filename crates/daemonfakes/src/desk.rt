@@ -2,13 +2,16 @@
 ghost use Rattle.std.specs.Prelude.{◌≡◌, [], ◌∷◌, ◌++◌, true, false, IsTrue, IfSome, not};
 ghost use Rattle.wires.specs.Told.{IsOwn};
 ghost use Rattle.wires.specs.declared.act.Act.TheVariants.{Noted};
-ghost use Rattle.mailengine.specs.Hosts.{Kept};
+ghost use Rattle.mailengine.specs.Hosts.{Kept, IsGivenUp};
+ghost use Rattle.sieveddaemon.specs.Desk.{Carries};
 ghost use Rattle.daemonfakes.specs.Shelves.{LetsOthers, is_of_accounts};
 
-use crate::copies::{copy_answer, copy_event, is_of_accounts};
+use crate::copies::{copy_answer, copy_delivery, copy_event, is_of_accounts};
 use crate::shelf::Shelf;
+use lmtp::Lookup;
 use mailengine::{Answer, Clients, Event};
-use octets::List;
+use mailposts::Parcel;
+use octets::{List, Octets};
 use sieveddaemon::desk::Desk;
 use sieveddaemon::note::Note;
 use std::alloc::Global;
@@ -49,20 +52,50 @@ impl<S: Shelf + Drop> DeskFake<S> {
         ensures left { self.new.stage.fake.rest ≡ self.old.stage.fake.rest }
     {
         match copy_event(event) {
-            Some(event) => match copy_answer(self.stage.fake.alloc, answer) {
-                Some(answer) => self.stage.keep(Act::Noted(
-                    id,
-                    Note::Did {
-                        others,
-                        event,
-                        answer,
-                    },
-                )),
-                None => {
-                    self.stage.fake.lost = true;
-                }
-            },
+            Some(event) => self.note_event(id, others, event, answer),
             None => {
+                self.stage.fake.lost = true;
+            }
+        }
+    }
+
+    /// The same, without a copy of the event.
+    fn note_event(&mut self, id: u32, others: List<Event>, event: Event, answer: &Answer)
+        ensures kept { IsTrue (not self.new.stage.fake.lost) → IsTrue (not self.old.stage.fake.lost) }
+        ensures told { IsTrue (not self.new.stage.fake.lost) → self.new.stage.fake.acts.items ≡ self.old.stage.fake.acts.items ++ Noted id (Note.Did others event answer.now) ∷ [] }
+        ensures left { self.new.stage.fake.rest ≡ self.old.stage.fake.rest }
+    {
+        match copy_answer(self.stage.fake.alloc, answer) {
+            Some(answer) => self.stage.keep(Act::Noted(
+                id,
+                Note::Did {
+                    others,
+                    event,
+                    answer,
+                },
+            )),
+            None => {
+                self.stage.fake.lost = true;
+            }
+        }
+    }
+
+    /// Notes what was found of an account.
+    fn note_asked(&mut self, id: u32, others: List<Event>, user: &[u8], lookup: Lookup)
+        ensures kept { IsTrue (not self.new.stage.fake.lost) → IsTrue (not self.old.stage.fake.lost) }
+        ensures told { IsTrue (not self.new.stage.fake.lost) → self.new.stage.fake.acts.items ≡ self.old.stage.fake.acts.items ++ Noted id (Note.Asked others user.now lookup) ∷ [] }
+        ensures left { self.new.stage.fake.rest ≡ self.old.stage.fake.rest }
+    {
+        match Octets::from_slice(self.stage.fake.alloc, user) {
+            Ok(user) => self.stage.keep(Act::Noted(
+                id,
+                Note::Asked {
+                    others,
+                    user,
+                    lookup,
+                },
+            )),
+            Err(_) => {
                 self.stage.fake.lost = true;
             }
         }
@@ -94,6 +127,22 @@ impl<S: Shelf + Drop> DeskFake<S> {
         ensures { self.new.stage ≡ self.old.stage }
     {
         self.away.pop_front() == Some(true)
+    }
+
+    /// Brings an event to the store, as `carry` does, without a copy of it.
+    fn bring(&mut self, id: u32, clients: &mut Clients, event: Event) -> Option<Answer>
+        requires { ¬ IsGivenUp event }
+        ensures kept { IsTrue (not self.new.stage.fake.lost) → IsTrue (not self.old.stage.fake.lost) }
+        ensures brings { Carries (λ desk. not desk.stage.fake.lost) (λ desk. desk.stage.fake.acts.items) (λ desk. desk.stage.fake.rest) S.holds (λ _. Unit {0}) id event self.old clients.old.sessions result self.new clients.new.sessions }
+    {
+        if self.is_away() {
+            self.stage.keep(Act::Noted(id, Note::Away));
+            return None;
+        }
+        let others = self.let_others(clients);
+        let answer = self.stage.fake.rest.change(clients, &event);
+        self.note_event(id, others, event, &answer);
+        Some(answer)
     }
 
     /// Lets all events of others happen that wait, each where there is room to tell it, and tells which did.
@@ -234,6 +283,33 @@ impl<S: Shelf + Drop> Desk for DeskFake<S> {
 
     fn tell_freed(&mut self, id: u32, event: &Event, answer: &Answer) {
         self.note_freed(id, event, answer)
+    }
+
+    fn look_up(&mut self, id: u32, clients: &mut Clients, user: &[u8]) -> Option<Lookup> {
+        if self.is_away() {
+            self.stage.keep(Act::Noted(id, Note::Away));
+            return None;
+        }
+        let others = self.let_others(clients);
+        let lookup = self.stage.fake.rest.find(user);
+        self.note_asked(id, others, user, lookup);
+        Some(lookup)
+    }
+
+    // Where memory is lacking for the event the store is as good as away.
+    fn deliver(&mut self, id: u32, clients: &mut Clients, parcel: &Parcel) -> Option<Answer> {
+        let moment = self.stage.fake.moment / 1000;
+        match copy_delivery(self.stage.fake.alloc, parcel, moment) {
+            Ok(event) => self.bring(id, clients, event),
+            Err(_) => {
+                self.stage.keep(Act::Noted(id, Note::Away));
+                None
+            }
+        }
+    }
+
+    fn tell_answered(&mut self, id: u32) {
+        self.stage.keep(Act::Noted(id, Note::Answered));
     }
 
     fn tell_spoke(&mut self, id: u32) {

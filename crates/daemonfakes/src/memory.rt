@@ -2,8 +2,10 @@
 ghost use Rattle.std.specs.Prelude.{◌≡◌};
 
 use crate::shelf::Shelf;
+use lmtp::Lookup;
 use mailengine::{Answer, Clients, Event, Refusal, apply};
 use mailstore::Store;
+use sieveddaemon::account::find_account;
 use sqlite::MemStore;
 use std::alloc::AllocError;
 
@@ -25,5 +27,9 @@ impl Shelf for MemShelf {
             Ok(answer) => answer,
             Err(AllocError) => Answer::Refused(Refusal::Memory),
         }
+    }
+
+    fn find(&mut self, user: &[u8]) -> Lookup {
+        find_account(&mut self.store, user)
     }
 }

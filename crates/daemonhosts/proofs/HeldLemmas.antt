@@ -1,17 +1,25 @@
 -- What a store shows that is had now and then, from one call to the next.
-use Rattle.std.proofs.Common.{◌≡◌, Bool, false, List, [], Option, Some, None, IsTrue, refl, sym, subst, inl}
+use Rattle.std.proofs.Common.{◌≡◌, ℕ, Bool, false, List, [], Option, Some, None, Result, IsTrue, refl, sym, subst, inl}
 use Rattle.sqlite_trees.specs.declared.store.Store.{Ghosts}
 use Rattle.sqlite.specs.Effect.{Database}
 use Rattle.sqlite.specs.Held.{Held, state}
-use Rattle.sqlite.specs.State.{HasCleanDisk}
 use Rattle.mailstore.specs.Account.{Accounts}
 use Rattle.mailstore.specs.Shows.{Presents, Offers}
 use Rattle.keepers.specs.Taken.{IsTaken}
 use Rattle.sessions.specs.Acts.{HasAccounts}
-use Rattle.mailengine.specs.Hosts.{Kept, IsEvent, host}
+use Rattle.lmtp.specs.declared.receiver.Lookup.{Lookup}
+use Rattle.mailstore.specs.declared.refusal.Refusal.{Refusal}
+use Rattle.mailstore.specs.declared.report.Report.{Report}
+use Rattle.sieveexec.specs.declared.envelope.Envelope.{Envelope}
+use Rattle.mailposts.specs.declared.demand.Parcel.{Parcel}
+use Rattle.sqlite.specs.State.{State, HasCleanDisk}
+use Rattle.mailengine.specs.AccountEvents.{Delivery}
+use Rattle.mailengine.specs.Hosts.{Kept, IsEvent, host, ActsDelivery, MayRefuseDelivery, answer_by}
+use Rattle.mailengine.specs.declared.answer.Answer.TheVariants.{Delivered}
+use Rattle.mailengine.proofs.HostLemmas.{account_event, delivery_may}
 use Rattle.mailengine.specs.declared.answer.Answer.{Answer}
 use Rattle.mailengine.specs.declared.event.Event.{Event}
-use Rattle.sieveddaemon.specs.Desk.{StillShows, IsDone, NothingDone}
+use Rattle.sieveddaemon.specs.Desk.{StillShows, IsDone, IsAsked, IsFoundIn, NothingDone, delivery_of}
 use Rattle.daemonhosts.specs.Held.{ShowsBy}
 
 -- tables of ours are tables that `open` takes
@@ -51,3 +59,22 @@ done_behind shows r m q others event answer before after still done = λ w at. d
 -- nothing was done behind such a call
 pub nothing_behind : {R : Type 0} (shows : R → Accounts → Type 0) (r m q : R) (before after : Kept) → StillShows shows r m → NothingDone shows m before q after → NothingDone shows r before q after
 nothing_behind shows r m q before after still none = record { shown = λ accounts shown. none.shown accounts (still accounts shown); kept = none.kept }
+
+-- an account was looked for, and nobody came between
+pub asked_alone : {R : Type 0} (shows : R → Accounts → Type 0) (r q : R) (user : List ℕ) (lookup : Lookup) (kept : Kept) → ((accounts : Accounts) → shows r accounts → IsFoundIn accounts user lookup × shows q accounts)
+    → IsAsked shows [] user lookup r kept q kept
+asked_alone shows r q user lookup kept finds = λ w at.
+    let seen = finds w.accounts at.shown in
+    (w, record { strangers = tt; told = []; theirs = refl; apart = refl; found = seen.0 }, record { shown = seen.1; sessions = at.sessions })
+
+-- a delivery is an event, whatever sessions there are
+pub delivered_as : (parcel : Parcel) (moment : ℕ) (user message : List ℕ) (envelope : Envelope) (old new : State) (kept : Kept) (r : Result Report Refusal)
+    → user ≡ parcel.user → envelope ≡ record { from = parcel.sender; to = parcel.recipient } → message ≡ parcel.message → ActsDelivery user envelope message moment old new r
+    → IsEvent (delivery_of parcel moment) (answer_by Delivered r) (host old kept) (host new kept)
+delivered_as parcel moment user message envelope old new kept r is_user is_envelope is_message acts =
+    let own : Envelope = record { from = parcel.sender; to = parcel.recipient } in
+    let made : ActsDelivery parcel.user own parcel.message moment old new r =
+    subst (λ u. ActsDelivery u own parcel.message moment old new r) is_user
+    (subst (λ e. ActsDelivery user e parcel.message moment old new r) is_envelope (subst (λ m. ActsDelivery user envelope m moment old new r) is_message acts)) in
+    account_event (delivery_of parcel moment) (λ accounts. Delivery accounts parcel.user own parcel.message moment) (MayRefuseDelivery own parcel.message moment) (λ w answer next done. done)
+    (delivery_may parcel.user parcel.message own moment) old new kept Delivered r made

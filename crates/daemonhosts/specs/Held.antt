@@ -4,6 +4,7 @@ use Rattle.sqlite_trees.specs.declared.store.Store.{Ghosts}
 use Rattle.sqlite.specs.Effect.{Database}
 use Rattle.sqlite.specs.Held.{Held, state}
 use Rattle.sqlite.specs.State.{HasCleanDisk}
+use Rattle.lmtp.specs.declared.receiver.Lookup.{Lookup}
 use Rattle.mailstore.specs.Account.{Accounts}
 use Rattle.mailstore.specs.Shows.{Offers}
 use Rattle.sessions.specs.Acts.{HasAccounts}
@@ -11,7 +12,7 @@ use Rattle.mailengine.specs.Hosts.{Kept}
 use Rattle.mailengine.specs.declared.answer.Answer.{Answer}
 use Rattle.mailengine.specs.declared.event.Event.{Event}
 use Rattle.keepers.specs.declared.keeper.Unavailable.{Unavailable}
-use Rattle.sieveddaemon.specs.Desk.{StillShows, IsDone, NothingDone}
+use Rattle.sieveddaemon.specs.Desk.{StillShows, IsDone, NothingDone, IsFoundIn}
 use Rattle.daemonhosts.specs.declared.held.HeldStore.{HeldStore}
 
 -- while it is had the store shows the accounts; else they are those of its keeper's tables, and none can be claimed where it doesn't tell these
@@ -50,3 +51,11 @@ DeniesAtOnce refuses waits path denial = (keeper : _) × refuses keeper path den
 -- one that waits for nobody gave it out at this path
 abbrev pub GivesAtOnce : {K : Type 0} → (K → List ℕ → Type 0) → (K → Bool) → List ℕ → Type 0
 GivesAtOnce gives waits path = (keeper : _) × gives keeper path × (waits keeper ≡ false)
+
+-- that was found of an account of that name, and the accounts are as they were; or nothing was asked
+abbrev pub Finds : {R : Type 0} → (R → Accounts → Type 0) → (R → Type 0) → List ℕ → Option Lookup → R → R → Type 0
+Finds shows clean user (Some lookup) r q = clean q → (accounts : Accounts) → shows r accounts → IsFoundIn accounts user lookup × shows q accounts
+Finds shows clean user None r q = StillShows shows r q
+
+abbrev pub Seeks : {K S : Type 0} → Ghosts S → Bool → (K → Database) → List ℕ → Option Lookup → HeldStore K S → HeldStore K S → Type 0
+Seeks g tells holds user lookup held later = Finds (Shows g tells holds) (IsClean g tells) user lookup held later

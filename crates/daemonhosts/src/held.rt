@@ -1,13 +1,18 @@
 //! A store, where it is had, and its keeper.
-ghost use Rattle.std.specs.Prelude.{◌≡◌, None, IsTrue, IfErr, IfSome, OnOk, is_some};
-ghost use Rattle.mailengine.specs.Hosts.{IsGivenUp};
-ghost use Rattle.daemonhosts.specs.Held.{IsClean, StillShown, Brings, DeniesAtOnce, GivesAtOnce};
+ghost use Rattle.std.specs.Prelude.{◌≡◌, None, IsTrue, IfErr, IfOk, IfSome, OnOk, is_some};
+ghost use Rattle.mailposts.specs.Posts.{IsFound};
+ghost use Rattle.mailengine.specs.Hosts.{IsGivenUp, Kept};
+ghost use Rattle.sieveddaemon.specs.Desk.{delivery_of};
+ghost use Rattle.daemonhosts.specs.Held.{IsClean, StillShown, Brings, DeniesAtOnce, GivesAtOnce, Seeks};
 
 use keepers::{Keeper, Unavailable};
-use mailengine::{Answer, Clients, Event, Refusal, apply};
+use lmtp::Lookup;
+use mailengine::{Answer, Clients, Envelope, Event, Refusal, apply, deliver};
+use mailposts::Parcel;
 use mailstore::Store;
+use sieveddaemon::account::find_account;
 use sqlite::ErrorCode;
-use std::alloc::AllocError;
+use std::alloc::{AllocError, Global};
 
 /// The keeper of a store, and the store while it is had.
 #[derive(Drop)]
@@ -92,4 +97,42 @@ impl<K: Keeper + Drop> HeldStore<K> {
             Err(AllocError) => Some(Answer::Refused(Refusal::Memory)),
         }
     }
+
+    /// Whether there is an account of that name; none where the store isn't had.
+    pub fn find(&mut self, user: &[u8]) -> Option<Lookup>
+        ensures found { IfSome result IsFound }
+        ensures seeks { Seeks K.S.Store K.tells K.holds user.now result self.old self.new }
+    {
+        let Some(store) = &mut self.store else {
+            return None;
+        };
+        Some(find_account(store, user))
+    }
+
+    /// Delivers a message for one recipient, at a moment in seconds since 1970, and answers that as an event; no copy is made of
+    /// the message. None where the store isn't had, or memory is lacking for the envelope.
+    pub fn deliver(&mut self, alloc: Global, parcel: &Parcel, moment: u64) -> Option<Answer>
+        ensures { (kept : Kept) → Brings K.S.Store K.tells K.holds (delivery_of parcel.now moment) result self.old kept self.new kept }
+    {
+        let Ok(envelope) = envelope_of(alloc, parcel) else {
+            return None;
+        };
+        let Some(store) = &mut self.store else {
+            return None;
+        };
+        let (user, message) = (parcel.user.as_slice(), parcel.message.as_slice());
+        match deliver(alloc, store, user, envelope, message, moment) {
+            Ok(report) => Some(Answer::Delivered(report)),
+            Err(refusal) => Some(Answer::Refused(refusal)),
+        }
+    }
+}
+
+fn envelope_of(alloc: Global, parcel: &Parcel) -> Result<Envelope, AllocError>
+    ensures { IfOk result (λ envelope. envelope ≡ record { from = parcel.now.sender; to = parcel.now.recipient }) }
+{
+    Ok(Envelope {
+        from: parcel.sender.try_clone(alloc)?,
+        to: parcel.recipient.try_clone(alloc)?,
+    })
 }

@@ -1,15 +1,19 @@
 //! The outside of the daemon, over the system.
-ghost use Rattle.std.specs.Prelude.{◌≡◌, [], ◌∷◌, ◌++◌, false, IsTrue};
-ghost use Rattle.mailengine.specs.Hosts.{IsGivenUp};
+ghost use Rattle.std.specs.Prelude.{◌≡◌, ℕ, [], ◌∷◌, ◌++◌, false, IsTrue, IfSome};
+ghost use Rattle.mailposts.specs.Posts.{IsFound};
+ghost use Rattle.mailengine.specs.Hosts.{IsGivenUp, Kept};
+ghost use Rattle.sieveddaemon.specs.Desk.{delivery_of};
 ghost use Rattle.wires.specs.Told.{IsOwn};
-ghost use Rattle.daemonhosts.specs.Held.{Shows, IsClean, StillShown, Brings};
+ghost use Rattle.daemonhosts.specs.Held.{Shows, IsClean, StillShown, Brings, Seeks};
 
 use crate::held::HeldStore;
 use crate::pause::Pause;
 use crate::queue::Queue;
 use keepers::cause::of_sqlite;
 use keepers::{Keeper, Unavailable};
+use lmtp::Lookup;
 use mailengine::{Answer, Clients, Event, Refusal};
+use mailposts::Parcel;
 use sieveddaemon::desk::Desk;
 use sieveddaemon::note::Note;
 use sievedrun::fault::Fault;
@@ -20,6 +24,7 @@ use std::collections::VecDeque;
 use std::io::Write;
 use std::net::Net;
 use std::time;
+use std::time::SystemTime;
 use systemsockets::SystemSockets;
 use wires::act::Act;
 use wires::outcome::{self, Accepted, Input, Output, Wake};
@@ -31,6 +36,8 @@ use wires::outside::{Clock, Outside, Sockets};
 /// alone for a while. Connections that wait for it come to it in the order in which they came.
 #[derive(Drop)]
 pub struct Host<'a, N: Net + time::Clock, E: Write + Drop, K: Keeper + Drop> {
+    alloc: Global,
+    system: &'a N,
     sockets: SystemSockets<'a, N>,
     /// A wait has failed.
     broken: bool,
@@ -50,12 +57,15 @@ impl<'a, N: Net + time::Clock, E: Write + Drop, K: Keeper + Drop> Host<'a, N, E,
     /// The store isn't had yet. What goes wrong with it is told on the errors.
     pub fn new(
         alloc: Global,
+        system: &'a N,
         sockets: SystemSockets<'a, N>,
         keeper: K,
         path: &'a str,
         errors: E,
     ) -> Host<'a, N, E, K> {
         Host {
+            alloc,
+            system,
             sockets,
             broken: false,
             held: HeldStore::new(keeper),
@@ -93,6 +103,38 @@ impl<'a, N: Net + time::Clock, E: Write + Drop, K: Keeper + Drop> Host<'a, N, E,
         let answer = self.held.change(clients, event)?;
         self.note_answer(&answer);
         Some(answer)
+    }
+
+    /// Looks for an account, where the store may be asked and is to be had.
+    fn seek(&mut self, id: u32, user: &[u8]) -> Option<Lookup>
+        ensures found { IfSome result IsFound }
+        ensures seeks { Seeks K.S.Store K.tells K.holds user.now result self.old.held self.new.held }
+    {
+        if !self.may_ask(id) {
+            return None;
+        }
+        self.reach();
+        let lookup = self.held.find(user)?;
+        self.note_lookup(lookup);
+        Some(lookup)
+    }
+
+    /// Delivers a message at the moment that the clock shows, where the store may be asked and is to be had.
+    fn file(&mut self, id: u32, parcel: &Parcel) -> Option<Answer>
+        ensures { (moment : ℕ) × ((kept : Kept) → Brings K.S.Store K.tells K.holds (delivery_of parcel.now moment) result self.old.held kept self.new.held kept) }
+    {
+        if !self.may_ask(id) {
+            return None;
+        }
+        self.reach();
+        let moment = seconds(self.system);
+        match self.held.deliver(self.alloc, parcel, moment) {
+            Some(answer) => {
+                self.note_answer(&answer);
+                Some(answer)
+            }
+            None => None,
+        }
     }
 
     /// Takes the store, where it isn't had and isn't left alone.
@@ -134,6 +176,19 @@ impl<'a, N: Net + time::Clock, E: Write + Drop, K: Keeper + Drop> Host<'a, N, E,
         }
     }
 
+    /// The same of a look for an account.
+    fn note_lookup(&mut self, lookup: Lookup)
+        ensures { self.new.held ≡ self.old.held }
+    {
+        match lookup {
+            Lookup::Fault => self.note_failure(),
+            Lookup::NoRoom => {}
+            _ => {
+                self.pause = Pause::none();
+            }
+        }
+    }
+
     fn note_failure(&mut self)
         ensures { self.new.held ≡ self.old.held }
     {
@@ -160,6 +215,17 @@ impl<'a, N: Net + time::Clock, E: Write + Drop, K: Keeper + Drop> Host<'a, N, E,
             let now = self.sockets.now();
             self.pause.begin(now);
         }
+    }
+}
+
+/// The seconds since 1970; where the clock can't be read, a moment at which nothing is delivered.
+fn seconds<C: time::Clock>(clock: &C) -> u64 {
+    let Ok(now) = SystemTime::now(clock) else {
+        return u64::MAX;
+    };
+    match now.duration_since(SystemTime::UNIX_EPOCH) {
+        Ok(passed) => passed.as_secs(),
+        Err(_) => u64::MAX,
     }
 }
 
@@ -269,6 +335,36 @@ impl<N: Net + time::Clock, E: Write + Drop, K: Keeper + Drop> Desk for Host<'_, 
     }
 
     fn tell_freed(&mut self, id: u32, _event: &Event, _answer: &Answer) {
+        self.queue.leave(id);
+    }
+
+    fn look_up(&mut self, id: u32, _clients: &mut Clients, user: &[u8]) -> Option<Lookup> {
+        match self.seek(id, user) {
+            Some(lookup) => {
+                self.queue.leave(id);
+                Some(lookup)
+            }
+            None => {
+                self.queue.join(id);
+                None
+            }
+        }
+    }
+
+    fn deliver(&mut self, id: u32, _clients: &mut Clients, parcel: &Parcel) -> Option<Answer> {
+        match self.file(id, parcel) {
+            Some(answer) => {
+                self.queue.leave(id);
+                Some(answer)
+            }
+            None => {
+                self.queue.join(id);
+                None
+            }
+        }
+    }
+
+    fn tell_answered(&mut self, id: u32) {
         self.queue.leave(id);
     }
 

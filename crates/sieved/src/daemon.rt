@@ -1,64 +1,74 @@
 //! Many clients at once.
-use crate::listener::tell_listening;
+use crate::listening::{Asked, Listening, listen, read_asked, trouble_of_socket};
 use daemonhosts::host::Host;
 use keepers::Keeper;
-use keepers::cause::of_socket;
-use mio::net::TcpListener;
-use sieveddaemon::daemon::Daemon;
+use octets::Octets;
 use sieveddaemon::life;
+use sieveddaemon::mail::MailDaemon;
 use sievedrun::fault::Fault;
 use sievedrun::trouble::Trouble;
-use sievedrun::values::port_of;
 use sievedwords as words;
-use std::alloc::Global;
+use std::alloc::{AllocError, Global};
+use std::fs::Files;
 use std::io;
-use std::io::{ErrorKind, Write};
-use std::net::{Ipv4Addr, Net, SocketAddr};
+use std::io::Write;
+use std::net::Net;
+use std::os::fd::AsFd;
 use std::time::Clock;
-use systemsockets::{Listener, SystemSockets};
+use systemsockets::SystemSockets;
 use wires::service::Service;
 
-/// Serves many clients at once, from the store of a keeper. The answer is the exit status, where there is one.
-pub fn serve_many<N: Net + Clock, W: Write, E: Write + Drop, K: Keeper + Drop>(
+/// Serves many clients at once, from the store of a keeper. What is inherited is on the descriptor. The answer is the exit status,
+/// where there is one.
+pub fn serve_many<
+    N: Net + Files + Clock,
+    D: AsFd,
+    W: Write,
+    E: Write + Drop,
+    K: Keeper + Drop,
+>(
     system: &N,
     alloc: Global,
-    asked: words::Daemon<'_>,
+    words: words::Daemon<'_>,
+    descriptor: &D,
     output: &mut W,
     mut errors: E,
     mut keeper: K,
 ) -> u8 {
-    match listen(system, alloc, asked, output, &mut errors, &mut keeper) {
-        Ok(Some(sockets)) => live(alloc, Host::new(alloc, sockets, keeper, asked.path, errors)),
-        Ok(None) => 0,
-        Err(trouble) => refuse(&mut errors, trouble),
+    let asked = match read_asked(words) {
+        Ok(asked) => asked,
+        Err(fault) => return refuse(&mut errors, trouble_of(fault)),
+    };
+    let listening = match begin(system, alloc, words, &asked, descriptor, &mut errors, &mut keeper) {
+        Ok(Some(listening)) => listening,
+        Ok(None) => return 0,
+        Err(trouble) => return refuse(&mut errors, trouble),
+    };
+    match watch(system, alloc, listening, output) {
+        Ok(sockets) => {
+            let host = Host::new(alloc, system, sockets, keeper, words.path, errors);
+            live(alloc, &asked, host)
+        }
+        Err(error) => refuse(&mut errors, trouble_of_socket(error)),
     }
 }
 
 /// What listens, once the lock for life is had and the store was looked at; nothing where that is all that is asked for.
-fn listen<'n, N: Net + Clock, W: Write, E: Write, K: Keeper>(
-    system: &'n N,
+fn begin<N: Net + Files, D: AsFd, E: Write, K: Keeper>(
+    system: &N,
     alloc: Global,
-    asked: words::Daemon<'_>,
-    output: &mut W,
+    words: words::Daemon<'_>,
+    asked: &Asked<'_>,
+    descriptor: &D,
     errors: &mut E,
     keeper: &mut K,
-) -> Result<Option<SystemSockets<'n, N>>, Trouble> {
-    let port = match port_of(asked.managesieve) {
-        Ok(port) => port,
-        Err(fault) => return Err(trouble_of(fault)),
-    };
-    look_at_store(asked.path, errors, keeper)?;
-    let listener = match TcpListener::bind(system, SocketAddr::from((Ipv4Addr::LOCALHOST, port))) {
-        Ok(listener) => listener,
-        Err(error) => return Err(trouble_of_socket(error.kind())),
-    };
-    if asked.check {
+) -> Result<Option<Listening>, Trouble> {
+    look_at_store(words.path, errors, keeper)?;
+    let listening = listen(system, alloc, asked, descriptor)?;
+    if words.check {
         return Ok(None);
     }
-    match begin(system, alloc, listener, output) {
-        Ok(sockets) => Ok(Some(sockets)),
-        Err(error) => Err(trouble_of_socket(error.kind())),
-    }
+    Ok(Some(listening))
 }
 
 /// Takes the lock for life, and looks whether the file is a store, once nobody else has it.
@@ -82,26 +92,31 @@ fn look_at_store<E: Write, K: Keeper>(
     Ok(())
 }
 
-/// Has the system tell of a listener's clients, and tells that it listens.
-fn begin<'n, N: Net + Clock, W: Write>(
+/// Has the system tell of the clients of all listeners, and tells that they listen.
+fn watch<'n, N: Net + Clock, W: Write>(
     system: &'n N,
     alloc: Global,
-    listener: TcpListener,
+    listening: Listening,
     output: &mut W,
 ) -> io::Result<SystemSockets<'n, N>> {
-    let told = listener.local_addr()?;
-    let listeners = vec![in alloc; Listener::Tcp(listener)]?;
+    let Listening { listeners, told } = listening;
     let sockets = SystemSockets::new(system, alloc, listeners)?;
-    tell_listening(alloc, told, output)?;
+    output.write_all(told.as_slice())?;
+    output.flush()?;
     Ok(sockets)
 }
 
 /// Serves clients for good.
 fn live<N: Net + Clock, E: Write + Drop, K: Keeper + Drop>(
     alloc: Global,
+    asked: &Asked<'_>,
     mut host: Host<'_, N, E, K>,
 ) -> u8 {
-    let mut daemon = Daemon::new(alloc);
+    let name = match Octets::from_slice(alloc, asked.host.as_bytes()) {
+        Ok(name) => name,
+        Err(AllocError) => return host.refuse(trouble_of(Fault::from(AllocError))),
+    };
+    let mut daemon = MailDaemon::new(alloc, asked.names, name);
     let mut service = Service::new(alloc);
     match life::serve(&mut host, &mut daemon, &mut service, u64::MAX) {
         Ok(()) => 0,
@@ -111,14 +126,6 @@ fn live<N: Net + Clock, E: Write + Drop, K: Keeper + Drop>(
 
 fn trouble_of(fault: Fault) -> Trouble {
     Trouble { fault, cause: None }
-}
-
-/// Nobody can be listened to, for this cause.
-fn trouble_of_socket(kind: ErrorKind) -> Trouble {
-    Trouble {
-        fault: Fault::Stream,
-        cause: of_socket(kind),
-    }
 }
 
 fn refuse<E: Write>(errors: &mut E, trouble: Trouble) -> u8 {

@@ -4,6 +4,7 @@
 
 mod daemon;
 mod listener;
+mod listening;
 
 use clap::error::ErrorKind;
 use daemon::serve_many;
@@ -17,8 +18,10 @@ use sievedrun::session::run_session;
 use sievedwords::{CommandLine, ReadError, Subcommand, read};
 use std::alloc::{AllocError, Global};
 use std::env::{Env, FillError};
+use std::fs::Files;
 use std::io::{Read, Write};
 use std::net::{Net, TcpListener, TcpStream};
+use std::os::fd::AsFd;
 use std::process::ExitCode;
 use std::time::{Clock, SystemTime};
 
@@ -46,7 +49,7 @@ fn run(rt: &HostRuntime, words: &CommandLine) -> u8 {
 }
 
 /// Does what the words ask for, and answers the exit status.
-fn answer<N, R: Read, W: Write, E: Write + Drop, K: Keeper + Drop, T: MailSink>(
+fn answer<N, R: Read + AsFd, W: Write, E: Write + Drop, K: Keeper + Drop, T: MailSink>(
     net: &N,
     alloc: Global,
     words: &CommandLine,
@@ -58,7 +61,7 @@ fn answer<N, R: Read, W: Write, E: Write + Drop, K: Keeper + Drop, T: MailSink>(
     sink: &mut T,
 ) -> u8
 where
-    N: Net<Listener = TcpListener, Stream = TcpStream> + Clock,
+    N: Net<Listener = TcpListener, Stream = TcpStream> + Files + Clock,
 {
     match server_subcommand(alloc, words) {
         Err(refused) => refuse(&mut errors, Fault::from(refused)),
@@ -76,7 +79,7 @@ where
             )
         }
         Ok(Some(Subcommand::Daemon(asked))) => serve_many(
-            net, alloc, asked, output, errors, keeper,
+            net, alloc, asked, &*input, output, errors, keeper,
         ),
         _ => drive(
             alloc,

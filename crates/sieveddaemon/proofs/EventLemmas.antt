@@ -67,6 +67,11 @@ give_lacked w s piece (Some c) is = (Refused Memory, inr (record { refusal = Mem
 pub give_refused : (w : World) (s : ℕ) (piece : List ℕ) → (answer : Answer) × Next w (Give s piece) answer w
 give_refused w s piece = give_lacked w s piece (get w.sessions s) refl
 
+-- octets of a connection without a session
+pub give_unheard : (w : World) (s : ℕ) (piece : List ℕ) → get w.sessions s ≡ None → (answer : Answer) × (answer ≡ Ignored) × Next w (Give s piece) answer w
+give_unheard w s piece is =
+    (Ignored, refl, inl (subst (λ o. InSession w o (λ c. Becomes (Out (progress_of c) []) (with_session s (client_given piece c) w)) Ignored w) (sym is) (record { ignored = refl; stays = refl })))
+
 -- ---- an event of a session that isn't answered by octets changes nothing
 
 abbrev IsOwn : Event → Type 0

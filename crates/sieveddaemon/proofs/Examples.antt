@@ -1,5 +1,5 @@
 -- Right cases of the definitions, and near misses.
-use Rattle.std.proofs.Common.{◌≡◌, ℕ, false, List, [], ◌∷◌, Option, Some, None, codes, refl, sym, ◌∙◌, arith, inl, inr}
+use Rattle.std.proofs.Common.{◌≡◌, ℕ, false, List, [], ◌∷◌, Option, Some, None, IfSome, codes, refl, sym, ◌∙◌, arith, inl, inr}
 use Rattle.std.specs.FinMap.{get}
 use Rattle.msproto.specs.Replies.{spelled}
 use Rattle.mailstore.specs.declared.refusal.Refusal.TheVariants.{Memory, Store}
@@ -83,36 +83,40 @@ abbrev puts_off : ℕ → List (Act Note)
 puts_off moment = Noted 1 Away ∷ Timed moment ∷ Noted 1 (Freed (GiveUp 1) (Out Done [])) ∷ []
 
 -- five seconds behind the first time that the store was away it is given up, and not a moment before
-put_off_then : AreRight 1 0 no_line (puts_off 5000)
+put_off_then : AreRight 1 0 (Some no_line) (puts_off 5000)
 put_off_then = (tt, (tt, ((omega arith, refl), tt)))
 
-not_a_moment_before : AreRight 1 0 no_line (puts_off 4999) → ⊥
+not_a_moment_before : AreRight 1 0 (Some no_line) (puts_off 4999) → ⊥
 not_a_moment_before is = omega (arith, is.1.1.0.0)
+
+-- what was sent to a client of ManageSieve is a front of what these acts spell for it
+abbrev IsSent : ℕ → List (Act Note) → Type 0
+IsSent id acts = IfSome (tell_on id 0 (Some no_line) acts) (λ l. IsFrontOf l.sent l.spelled)
 
 -- an answer is sent behind its event
 abbrev answered : List (Act Note)
 answered = Noted 1 (Did [] (Step 1) (Out Done (79 ∷ []))) ∷ Sent 1 (79 ∷ []) ∷ []
 
-sent_behind : IsFrontOf (tell_on 1 0 no_line answered).sent (tell_on 1 0 no_line answered).spelled
+sent_behind : IsSent 1 answered
 sent_behind = ([], refl)
 
 -- near misses: before its event; twice; to another
 abbrev early : List (Act Note)
 early = Sent 1 (79 ∷ []) ∷ []
 
-not_before : IsFrontOf (tell_on 1 0 no_line early).sent (tell_on 1 0 no_line early).spelled → ⊥
+not_before : IsSent 1 early → ⊥
 not_before is = let no_octet : 79 ∷ is.0 ≡ [] = is.1 in cc
 
 abbrev twice : List (Act Note)
 twice = Noted 1 (Did [] (Step 1) (Out Done (79 ∷ []))) ∷ Sent 1 (79 ∷ []) ∷ Sent 1 (79 ∷ []) ∷ []
 
-not_twice : IsFrontOf (tell_on 1 0 no_line twice).sent (tell_on 1 0 no_line twice).spelled → ⊥
+not_twice : IsSent 1 twice → ⊥
 not_twice is = let more : 79 ∷ 79 ∷ is.0 ≡ 79 ∷ [] = is.1 in cc
 
 abbrev elsewhere : List (Act Note)
 elsewhere = Noted 1 (Did [] (Step 1) (Out Done (79 ∷ []))) ∷ Sent 2 (79 ∷ []) ∷ []
 
-not_to_another : IsFrontOf (tell_on 2 0 no_line elsewhere).sent (tell_on 2 0 no_line elsewhere).spelled → ⊥
+not_to_another : IsSent 2 elsewhere → ⊥
 not_to_another is = let no_octet : 79 ∷ is.0 ≡ [] = is.1 in cc
 
 -- ---- accounts

@@ -1,8 +1,9 @@
 -- From the moves of a life to its headline.
-use Rattle.std.proofs.Common.{◌≡◌, inl, ℕ, List, [], ◌∷◌, ◌++◌, Some, None, refl, sym, ◌∙◌, ap, subst}
+use Rattle.std.proofs.Common.{◌≡◌, inl, ℕ, ◌==◌, Bool, true, false, List, [], ◌∷◌, ◌++◌, Option, Some, None, IfSome, refl, sym, ◌∙◌, ap, subst}
 use Rattle.std.specs.Ordering.{nat_cmp}
 use Rattle.std.specs.BTreeMap as tree
 use Rattle.std.specs.Map.{lookup}
+use Rattle.lmtp.specs.declared.name.Names.{Names}
 use Rattle.mailstore.specs.Account.{Accounts}
 use Rattle.mailengine.specs.World.{World, Next, Runs}
 use Rattle.mailengine.specs.declared.answer.Answer.{Answer}
@@ -16,18 +17,22 @@ use Rattle.wires.specs.declared.turn.Turn.TheVariants.{Stuffed}
 use Rattle.wires.specs.Life.{Move, acts_of, Passes, Fresh, IsFrontOf}
 use Rattle.wires.specs.Moves.{Moment, Moves}
 use Rattle.wires.specs.Talk.{client_of}
-use Rattle.sieveddaemon.specs.Acts.{Line, no_line, LeadsBy, LacksThen, Leads, LeadsOn, events_by, events_at, events_in, AnswersBy, AnswersAt, AnswersIn, moment_after, tell, tell_on, IsRight, AreRight}
-use Rattle.sieveddaemon.specs.DaemonRules.{daemon_rules, place_at}
+use Rattle.sieveddaemon.specs.Acts.{Line, no_line, LeadsBy, LacksThen, LeadsIn, Leads, LeadsOn, opened_by, events_by, events_at, events_in, AnswersBy, AnswersAt, AnswersIn, moment_after, tell_line, tell_on, IsRight, AreRight}
+use Rattle.sieveddaemon.specs.DaemonRules.{lmtp, place_at}
 use Rattle.sieveddaemon.specs.Desk.{IsWorld}
 use Rattle.sieveddaemon.specs.Headline.{world_of, HoldsAfter, Headline, IsNew}
-use Rattle.sieveddaemon.specs.declared.daemon.Daemon.{Daemon}
+use Rattle.sieveddaemon.specs.MailActs.{MailLine, Tells, TellsOn}
+use Rattle.sieveddaemon.specs.MailRules.{mail_rules, post_at}
+use Rattle.sieveddaemon.specs.declared.mail.MailDaemon.{MailDaemon}
 use Rattle.sieveddaemon.specs.declared.note.Note.{Note}
-use Rattle.sieveddaemon.specs.declared.note.Note.TheVariants.{Did, Away, Freed, Spoke, Looked}
+use Rattle.sieveddaemon.specs.declared.note.Note.TheVariants.{Did, Away, Freed, Spoke, Answered, Asked, Looked}
 use Rattle.sieveddaemon.proofs.EventLemmas.{runs_then, runs_one, none_open}
 use Rattle.sieveddaemon.proofs.LeadLemmas.{Led, leads}
-use Rattle.sieveddaemon.proofs.LineLemmas.{Tied, moment_is, tied_after, right_at}
-use Rattle.sieveddaemon.proofs.SentLemmas.{Fits, front, fits_after}
+use Rattle.sieveddaemon.proofs.LineLemmas.{TiedBy, moment_is, tied_after, right_at}
+use Rattle.sieveddaemon.proofs.MailLemmas.{IsSetUp, stays_set_up, BoundBy, FitsBy as MailFits, words_of as mail_words, mail_after}
+use Rattle.sieveddaemon.proofs.SentLemmas.{Fits, front}
 use Rattle.sieveddaemon.proofs.TurnLemmas.{IsFull, fulls}
+use Rattle.sieveddaemon.proofs.WordLemmas.{FitsBy, words_of, none_sent, line_after}
 
 -- ---- acts as events
 
@@ -39,10 +44,16 @@ runs_by w v (Freed event answer) led =
     (answer ∷ [], runs_one w v event answer (subst (λ a. Next w event answer (record v { accounts = a })) (sym led.0) at), refl)
 runs_by w v Away led = ([], led, refl)
 runs_by w v Spoke led = ([], led, refl)
+runs_by w v Answered led = ([], led, refl)
+runs_by w v (Asked others user lookup) led = (led.told, led.theirs, tt)
 runs_by w v (Looked wanted) led = ([], led, refl)
 
+runs_opened : (b : Bool) (w v : World) (id : ℕ) (more : List (Act Note)) → LeadsIn b w id more v → (told : List Answer) × Runs w (opened_by b id) told v
+runs_opened true w v id more led = ([], led)
+runs_opened false w v id more led = (led.0 ∷ [], runs_one w v (Open id) led.0 led.2)
+
 runs_at : (w v : World) (act : Act Note) (more : List (Act Note)) → Leads w act more v → (told : List Answer) × Runs w (events_at act) told v × AnswersAt act told
-runs_at w v (Came id kind) more led = (led.0 ∷ [], runs_one w v (Open id) led.0 led.2, tt)
+runs_at w v (Came id kind) more led = let run = runs_opened (kind == lmtp) w v id more led in (run.0, run.1, tt)
 runs_at w v (Heard id piece) more led = (led.0 ∷ [], runs_one w v (Give id piece) led.0 led.2, tt)
 runs_at w v (Ended id) more led = (led.0 ∷ [], runs_one w v (Close id) led.0 led.1, tt)
 runs_at w v (Noted id note) more led = runs_by w v note led
@@ -60,24 +71,24 @@ runs_in w v (act ∷ acts) led =
 
 module _ {R : Type 0} (shows : R → Accounts → Type 0) where
   -- the store and the sessions are those of a world
-  abbrev Stands : Moment Daemon Note R → World → Type 0
-  Stands m w = IsWorld shows m.rest m.machine.clients.sessions w
+  abbrev Stands : Moment MailDaemon Note R → World → Type 0
+  Stands m w = IsWorld shows m.rest m.machine.daemon.clients.sessions w
 
   -- of one for which memory was lacking that is what follows says
   full_then : (id : ℕ) (act : Act Note) (more : List (Act Note)) → IsFull id act → LacksThen id (act ∷ more)
   full_then id (Full n) more is = is
   full_then id _ more is = absurd is
 
-  lacks_then : (m : Moment Daemon Note R) (moves : List (Move Note)) (n : Moment Daemon Note R) → Passes (daemon_rules shows) m moves n → (id kind : ℕ) → m.service.turn ≡ Stuffed id kind → LacksThen id (acts_of moves)
+  lacks_then : (m : Moment MailDaemon Note R) (moves : List (Move Note)) (n : Moment MailDaemon Note R) → Passes (mail_rules shows) m moves n → (id kind : ℕ) → m.service.turn ≡ Stuffed id kind → LacksThen id (acts_of moves)
   lacks_then m [] n passes id kind stuffed = tt
   lacks_then m (move ∷ moves) n passes id kind stuffed =
       let mid = passes.0 in
       let one = passes.1 in
-      let is : IsFull id one.act = fulls (daemon_rules shows) m.machine mid.machine m.rest mid.rest m.service mid.service id kind stuffed one.act one.said one.turns in
+      let is : IsFull id one.act = fulls (mail_rules shows) m.machine mid.machine m.rest mid.rest m.service mid.service id kind stuffed one.act one.said one.turns in
       full_then id move.act (acts_of moves) (subst (λ a. IsFull id a) passes.2 is)
 
-  leads_on : (m : Moment Daemon Note R) (moves : List (Move Note)) (n : Moment Daemon Note R) (w : World) → Passes (daemon_rules shows) m moves n → Stands m w → (v : World) × LeadsOn w (acts_of moves) v × Stands n v
-  leads_on m [] n w passes stands = (w, refl, subst (λ (k : Moment Daemon Note R). Stands k w) (sym passes) stands)
+  leads_on : (m : Moment MailDaemon Note R) (moves : List (Move Note)) (n : Moment MailDaemon Note R) (w : World) → Passes (mail_rules shows) m moves n → Stands m w → (v : World) × LeadsOn w (acts_of moves) v × Stands n v
+  leads_on m [] n w passes stands = (w, refl, subst (λ (k : Moment MailDaemon Note R). Stands k w) (sym passes) stands)
   leads_on m (move ∷ moves) n w passes stands =
       let mid = passes.0 in
       let one = passes.1 in
@@ -87,46 +98,90 @@ module _ {R : Type 0} (shows : R → Accounts → Type 0) where
       let more = leads_on mid moves n led.0 passes.4 led.2 in
       (more.0, (led.0, led.1, more.1), more.2)
 
-  -- one connection behind one move
-  module _ (m n : Moment Daemon Note R) (one : Moves (daemon_rules shows) m n) (id : ℕ) (l : Line) (tied : Tied m.machine id l) where
-    abbrev later : Act Note → Line
-    later act = tell id m.service.moment l act
+  -- the moment behind one move
+  moment_then : (m mid : Moment MailDaemon Note R) (one : Moves (mail_rules shows) m mid) (act : Act Note) → one.act ≡ act → mid.service.moment ≡ moment_after m.service.moment act
+  moment_then m mid one act is = moment_is m.service.moment one.act mid.service.moment one.ticks ∙ ap (λ a. moment_after m.service.moment a) is
 
-    tied_one : Tied n.machine id (later one.act)
-    tied_one = tied_after shows m.machine n.machine m.rest n.rest m.service n.service id l tied one.act one.said one.turns
+  -- ---- a client of ManageSieve
 
-    right_one : IsRight id m.service.moment l one.act
-    right_one = right_at shows m.machine n.machine m.rest n.rest m.service n.service id l tied one.act one.said one.turns
+  abbrev Line_at : ℕ → Moment MailDaemon Note R → Option Line → Type 0
+  Line_at id m o = TiedBy m.machine id o × FitsBy id o (client_of m.service id) m.service.turn
 
-    fits_one : Fits id l (client_of m.service id) m.service.turn → Fits id (later one.act) (client_of n.service id) n.service.turn
-    fits_one fits = fits_after shows m.machine n.machine m.rest n.rest m.service n.service id l tied one.act one.said fits one.turns (one.talks id)
+  line_one : (m mid : Moment MailDaemon Note R) (one : Moves (mail_rules shows) m mid) (id : ℕ) (o : Option Line) → Line_at id m o → Line_at id mid (tell_line id m.service.moment o one.act)
+  line_one m mid one id o at = (
+    tied_after shows m.machine mid.machine m.rest mid.rest m.service mid.service id o at.0 one.act one.said one.turns,
+    line_after shows m.machine mid.machine m.rest mid.rest m.service mid.service id o at.0 at.1 one.act one.said one.turns (one.talks id),
+  )
 
-  right_on : (m : Moment Daemon Note R) (moves : List (Move Note)) (n : Moment Daemon Note R) (id : ℕ) (l : Line) → Passes (daemon_rules shows) m moves n → Tied m.machine id l → AreRight id m.service.moment l (acts_of moves)
-  right_on m [] n id l passes tied = tt
-  right_on m (move ∷ moves) n id l passes tied =
+  line_then : (m mid : Moment MailDaemon Note R) (one : Moves (mail_rules shows) m mid) (id : ℕ) (o : Option Line) (act : Act Note) → one.act ≡ act → Line_at id m o → Line_at id mid (tell_line id m.service.moment o act)
+  line_then m mid one id o act is at = subst (λ a. Line_at id mid (tell_line id m.service.moment o a)) is (line_one m mid one id o at)
+
+  right_one : (m mid : Moment MailDaemon Note R) (one : Moves (mail_rules shows) m mid) (id : ℕ) (o : Option Line) (act : Act Note) → one.act ≡ act → Line_at id m o → IfSome o (λ l. IsRight id m.service.moment l act)
+  right_one m mid one id o act is at =
+      subst (λ a. IfSome o (λ l. IsRight id m.service.moment l a)) is (right_at shows m.machine mid.machine m.rest mid.rest m.service mid.service id o at.0 one.act one.said one.turns)
+
+  right_on : (m : Moment MailDaemon Note R) (moves : List (Move Note)) (n : Moment MailDaemon Note R) (id : ℕ) (o : Option Line) → Passes (mail_rules shows) m moves n → Line_at id m o → AreRight id m.service.moment o (acts_of moves)
+  right_on m [] n id o passes at = tt
+  right_on m (move ∷ moves) n id o passes at =
       let mid = passes.0 in
-      let one = passes.1 in
-      let moment : mid.service.moment ≡ moment_after m.service.moment move.act = moment_is m.service.moment one.act mid.service.moment one.ticks ∙ ap (λ a. moment_after m.service.moment a) passes.2 in
-      let right : IsRight id m.service.moment l move.act = subst (λ a. IsRight id m.service.moment l a) passes.2 (right_one m mid one id l tied) in
-      let tied2 : Tied mid.machine id (tell id m.service.moment l move.act) = subst (λ a. Tied mid.machine id (tell id m.service.moment l a)) passes.2 (tied_one m mid one id l tied) in
-      (right, subst (λ t. AreRight id t (tell id m.service.moment l move.act) (acts_of moves)) moment (right_on mid moves n id (tell id m.service.moment l move.act) passes.4 tied2))
+      let moment = moment_then m mid passes.1 move.act passes.2 in
+      let later = line_then m mid passes.1 id o move.act passes.2 at in (
+        right_one m mid passes.1 id o move.act passes.2 at,
+        subst (λ t. AreRight id t (tell_line id m.service.moment o move.act) (acts_of moves)) moment (right_on mid moves n id (tell_line id m.service.moment o move.act) passes.4 later),
+      )
 
-  sent_on : (m : Moment Daemon Note R) (moves : List (Move Note)) (n : Moment Daemon Note R) (id : ℕ) (l : Line) → Passes (daemon_rules shows) m moves n → Tied m.machine id l → Fits id l (client_of m.service id) m.service.turn
-      → IsFrontOf (tell_on id m.service.moment l (acts_of moves)).sent (tell_on id m.service.moment l (acts_of moves)).spelled
-  sent_on m [] n id l passes tied fits = front id l (client_of m.service id) m.service.turn fits
-  sent_on m (move ∷ moves) n id l passes tied fits =
+  line_front : (id : ℕ) (m : Moment MailDaemon Note R) (o : Option Line) → Line_at id m o → IfSome o (λ l. IsFrontOf l.sent l.spelled)
+  line_front id m None at = tt
+  line_front id m (Some l) at = front id (words_of l) (client_of m.service id) m.service.turn at.1
+
+  sent_on : (m : Moment MailDaemon Note R) (moves : List (Move Note)) (n : Moment MailDaemon Note R) (id : ℕ) (o : Option Line) → Passes (mail_rules shows) m moves n → Line_at id m o
+      → IfSome (tell_on id m.service.moment o (acts_of moves)) (λ l. IsFrontOf l.sent l.spelled)
+  sent_on m [] n id o passes at = line_front id m o at
+  sent_on m (move ∷ moves) n id o passes at =
       let mid = passes.0 in
-      let one = passes.1 in
-      let moment : mid.service.moment ≡ moment_after m.service.moment move.act = moment_is m.service.moment one.act mid.service.moment one.ticks ∙ ap (λ a. moment_after m.service.moment a) passes.2 in
-      let tied2 : Tied mid.machine id (tell id m.service.moment l move.act) = subst (λ a. Tied mid.machine id (tell id m.service.moment l a)) passes.2 (tied_one m mid one id l tied) in
-      let fits2 : Fits id (tell id m.service.moment l move.act) (client_of mid.service id) mid.service.turn =
-      subst (λ a. Fits id (tell id m.service.moment l a) (client_of mid.service id) mid.service.turn) passes.2 (fits_one m mid one id l tied fits) in
-      subst (λ t. IsFrontOf (tell_on id t (tell id m.service.moment l move.act) (acts_of moves)).sent (tell_on id t (tell id m.service.moment l move.act) (acts_of moves)).spelled) moment
-      (sent_on mid moves n id (tell id m.service.moment l move.act) passes.4 tied2 fits2)
+      let moment = moment_then m mid passes.1 move.act passes.2 in
+      let later = line_then m mid passes.1 id o move.act passes.2 at in
+      subst (λ t. IfSome (tell_on id t (tell_line id m.service.moment o move.act) (acts_of moves)) (λ l. IsFrontOf l.sent l.spelled)) moment (sent_on mid moves n id (tell_line id m.service.moment o move.act) passes.4 later)
+
+  -- ---- a client of LMTP
+
+  module _ (names : Names) (host : List ℕ) where
+    pub record MailAt (id : ℕ) (m : Moment MailDaemon Note R) (o : Option MailLine) : Type 0 where
+      pub set_up : IsSetUp names host m.machine
+      pub bound : BoundBy m.machine id o
+      pub fits : MailFits id o (client_of m.service id) m.service.turn
+
+    mail_one : (m mid : Moment MailDaemon Note R) (one : Moves (mail_rules shows) m mid) (id : ℕ) (o : Option MailLine) → MailAt id m o
+        → (p : Option MailLine) × Tells names host id m.service.moment o one.act p × MailAt id mid p
+    mail_one m mid one id o at =
+        let it = mail_after shows names host m.machine mid.machine m.rest mid.rest m.service mid.service id at.set_up o at.bound at.fits one.act one.said one.turns (one.talks id) in (
+          it.0,
+          it.1,
+          record {
+            set_up = stays_set_up shows names host m.machine mid.machine m.rest mid.rest m.service mid.service at.set_up one.act one.said one.turns;
+            bound = it.2;
+            fits = it.3;
+          },
+        )
+
+    mail_on : (m : Moment MailDaemon Note R) (moves : List (Move Note)) (n : Moment MailDaemon Note R) (id : ℕ) (o : Option MailLine) → Passes (mail_rules shows) m moves n → MailAt id m o
+        → (p : Option MailLine) × TellsOn names host id m.service.moment o (acts_of moves) p × MailAt id n p
+    mail_on m [] n id o passes at = (o, refl, subst (λ (k : Moment MailDaemon Note R). MailAt id k o) (sym passes) at)
+    mail_on m (move ∷ moves) n id o passes at =
+        let mid = passes.0 in
+        let moment = moment_then m mid passes.1 move.act passes.2 in
+        let it = mail_one m mid passes.1 id o at in
+        let told : Tells names host id m.service.moment o move.act it.0 = subst (λ a. Tells names host id m.service.moment o a it.0) passes.2 it.1 in
+        let more = mail_on mid moves n id it.0 passes.4 it.2 in
+        (more.0, (it.0, told, subst (λ t. TellsOn names host id t it.0 (acts_of moves) more.0) moment more.1), more.2)
+
+    mail_front : (id : ℕ) (m : Moment MailDaemon Note R) (o : Option MailLine) → MailAt id m o → IfSome o (λ l. IsFrontOf l.sent l.spelled)
+    mail_front id m None at = tt
+    mail_front id m (Some l) at = front id (mail_words l) (client_of m.service id) m.service.turn at.fits
 
   -- some first acts are those of some first moves
-  some_first : (m : Moment Daemon Note R) (moves : List (Move Note)) (n : Moment Daemon Note R) (some rest : List (Act Note)) → some ++ rest ≡ acts_of moves → Passes (daemon_rules shows) m moves n
-      → (first : List (Move Note)) × (mid : Moment Daemon Note R) × (acts_of first ≡ some) × Passes (daemon_rules shows) m first mid
+  some_first : (m : Moment MailDaemon Note R) (moves : List (Move Note)) (n : Moment MailDaemon Note R) (some rest : List (Act Note)) → some ++ rest ≡ acts_of moves → Passes (mail_rules shows) m moves n
+      → (first : List (Move Note)) × (mid : Moment MailDaemon Note R) × (acts_of first ≡ some) × Passes (mail_rules shows) m first mid
   some_first m moves n [] rest is passes = ([], m, refl, refl)
   some_first m [] n (act ∷ some) rest is passes = let never : ⊥ = cc in absurd never
   some_first m (move ∷ moves) n (act ∷ some) rest is passes =
@@ -137,23 +192,30 @@ module _ {R : Type 0} (shows : R → Accounts → Type 0) where
 
   -- ---- the headline
 
-  module _ (m : Moment Daemon Note R) (fresh : Fresh m.service) (new : IsNew m.machine) (start : Accounts) (shown : shows m.rest start) where
+  module _ (m : Moment MailDaemon Note R) (fresh : Fresh m.service) (new : IsNew m.machine) (start : Accounts) (shown : shows m.rest start) where
     no_client : (id : ℕ) → client_of m.service id ≡ None
     no_client id = ap (λ es. lookup (tree.is_at (nat_cmp id)) es) fresh.none
 
-    no_place : (id : ℕ) → place_at m.machine id ≡ None
+    no_place : (id : ℕ) → place_at m.machine.daemon id ≡ None
     no_place id = ap (λ es. lookup (tree.is_at (nat_cmp id)) es) new.places
 
+    no_post : (id : ℕ) → post_at m.machine id ≡ None
+    no_post id = ap (λ es. lookup (tree.is_at (nat_cmp id)) es) new.posts
+
     stands : Stands m (world_of start)
-    stands = record { shown = shown; sessions = none_open m.machine.clients.sessions new.sessions }
+    stands = record { shown = shown; sessions = none_open m.machine.daemon.clients.sessions new.sessions }
 
-    untied : (id : ℕ) → Tied m.machine id no_line
-    untied id place at = let never : ⊥ = let is : None ≡ Some place = sym (no_place id) ∙ at in cc in absurd never
+    line_begins : (id : ℕ) → Line_at id m (Some no_line)
+    line_begins id = (
+      record { none = no_post id; waits = λ place at. let never : ⊥ = let is : None ≡ Some place = sym (no_place id) ∙ at in cc in absurd never },
+      none_sent id (client_of m.service id) m.service.turn (no_client id),
+    )
 
-    unsaid : (id : ℕ) → Fits id no_line (client_of m.service id) m.service.turn
-    unsaid id = subst (λ o. Fits id no_line o m.service.turn) (sym (no_client id)) (inl ([], refl))
+    mail_begins : (id : ℕ) → MailAt m.machine.names m.machine.host id m None
+    mail_begins id = record { set_up = record { named = refl; hosted = refl }; bound = tt; fits = tt }
 
-    holds : (moves : List (Move Note)) (n : Moment Daemon Note R) → Passes (daemon_rules shows) m moves n → (v : World) × HoldsAfter (world_of start) m.service.moment (acts_of moves) v × Stands n v
+    holds : (moves : List (Move Note)) (n : Moment MailDaemon Note R) → Passes (mail_rules shows) m moves n
+        → (v : World) × HoldsAfter m.machine.names m.machine.host (world_of start) m.service.moment (acts_of moves) v × Stands n v
     holds moves n passes =
         let led = leads_on m moves n (world_of start) passes stands in
         let ran = runs_in (world_of start) led.0 (acts_of moves) led.1 in (
@@ -166,20 +228,23 @@ module _ {R : Type 0} (shows : R → Accounts → Type 0) where
             alone = projection (events_in (acts_of moves)) ran.0 (world_of start) led.0 ran.1;
             spaced = spacing (events_in (acts_of moves)) ran.0 (world_of start) led.0 ran.1;
             sound = λ are_sound. runs_sound (events_in (acts_of moves)) ran.0 (world_of start) led.0 are_sound ran.1;
-            right = λ id. right_on m moves n id no_line passes (untied id);
-            sent = λ id. sent_on m moves n id no_line passes (untied id) (unsaid id);
+            right = λ id. right_on m moves n id (Some no_line) passes (line_begins id);
+            sent = λ id. sent_on m moves n id (Some no_line) passes (line_begins id);
+            mail = λ id.
+                let it = mail_on m.machine.names m.machine.host m moves n id None passes (mail_begins id) in
+                (it.0, it.1, mail_front m.machine.names m.machine.host id n it.0 it.2);
           },
           led.2,
         )
 
-    pub headline : (moves : List (Move Note)) (n : Moment Daemon Note R) → Passes (daemon_rules shows) m moves n → Headline shows start m.service.moment (acts_of moves) n.rest n.machine
+    pub headline : (moves : List (Move Note)) (n : Moment MailDaemon Note R) → Passes (mail_rules shows) m moves n → Headline shows m.machine.names m.machine.host start m.service.moment (acts_of moves) n.rest n.machine
     headline moves n passes =
         let all = holds moves n passes in
         record {
           each_moment = λ some rest is.
               let first = some_first m moves n some rest is passes in
               let at = holds first.0 first.1 first.3 in
-              (at.0, subst (λ (acts : List (Act Note)). HoldsAfter (world_of start) m.service.moment acts at.0) first.2 at.1);
+              (at.0, subst (λ (acts : List (Act Note)). HoldsAfter m.machine.names m.machine.host (world_of start) m.service.moment acts at.0) first.2 at.1);
           end = all.0;
           holds = all.1;
           shown = all.2;

@@ -1,13 +1,15 @@
 -- What a move of the daemon makes of accounts and sessions.
-use Rattle.std.proofs.Common.{◌≡◌, ◌⊎◌, inl, inr, ℕ, ◌==◌, Bool, true, false, List, Option, Some, None, is_some, IfSome, refl, sym, subst, if◌then◌else◌}
+use Rattle.std.proofs.Common.{◌≡◌, ◌⊎◌, inl, inr, ℕ, ◌==◌, Bool, true, false, List, Option, Some, None, is_some, IfSome, refl, sym, ◌∙◌, ap, subst, if◌then◌else◌}
 use Rattle.std.specs.FinMap.{get}
 use Rattle.sessions.specs.Clients.{Client}
 use Rattle.mailstore.specs.Account.{Accounts}
 use Rattle.mailengine.specs.Hosts.{KeepsClients, IsSessionEvent}
 use Rattle.mailengine.specs.World.{World, Clients, Next}
 use Rattle.mailengine.specs.declared.answer.Answer.{Answer}
+use Rattle.mailengine.specs.declared.clients.Clients.{Clients as CodeClients}
 use Rattle.mailengine.specs.declared.event.Event.{Event}
 use Rattle.mailengine.specs.declared.event.Event.TheVariants.{Open, Give, Close}
+use Rattle.mailposts.specs.Posts.{Deed}
 use Rattle.wires.specs.declared.act.Act.{Act}
 use Rattle.wires.specs.declared.act.Act.TheVariants.{Woke, Began, Timed, Late, Waits, Roused, Worked, Came, NoneCame, Crowded, Displaced, Listened, InUse, Heard, ReadBlocked, Over, Sent, WriteBlocked, Lost, Noted, Full, Again, Shut, Dropped, Ended}
 use Rattle.wires.specs.declared.service.Service.{Service}
@@ -15,16 +17,19 @@ use Rattle.wires.specs.declared.turn.Turn.TheVariants.{Stuffed}
 use Rattle.wires.specs.Moves.{Leaves}
 use Rattle.wires.specs.Turns.{Turns, Opens as Enters, Goes, Lacks, Parting, is_open_of, room_by, makes_room}
 use Rattle.wires.specs.Talk.{client_of, kind_of}
-use Rattle.sieveddaemon.specs.Acts.{LeadsBy, Leads, LacksThen, IsMadeOr, IsGuest}
-use Rattle.sieveddaemon.specs.DaemonRules.{daemon_rules, displaced_of, Happened, Made, Makes, Rests, Opens, Gives, LacksFor}
-use Rattle.sieveddaemon.specs.Desk.{IsWorld, StillShows}
+use Rattle.sieveddaemon.specs.Acts.{LeadsBy, LeadsIn, Leads, LacksThen, IsMadeOr, IsHeardOr, IsGuest}
+use Rattle.sieveddaemon.specs.DaemonRules.{lmtp, displaced_of, Happened, Made, Makes, Rests, LacksFor}
+use Rattle.sieveddaemon.specs.Deeds.{IsDeed, Stores}
+use Rattle.sieveddaemon.specs.Desk.{IsWorld, NothingDone, StillShows}
+use Rattle.sieveddaemon.specs.MailRules.{mail_rules, displaced_for, OpensBy, GivesBy, GoesBy, LacksBy}
 use Rattle.sieveddaemon.specs.Places.{is_user}
 use Rattle.sieveddaemon.specs.Room.{longest_guest}
 use Rattle.sieveddaemon.proofs.RoomLemmas.{no_user_goes}
 use Rattle.sieveddaemon.specs.declared.daemon.Daemon.{Daemon}
+use Rattle.sieveddaemon.specs.declared.mail.MailDaemon.{MailDaemon}
 use Rattle.sieveddaemon.specs.declared.note.Note.{Note}
-use Rattle.sieveddaemon.specs.declared.note.Note.TheVariants.{Did, Away, Freed, Spoke, Looked}
-use Rattle.sieveddaemon.proofs.EventLemmas.{clients_one, open_refused, give_refused}
+use Rattle.sieveddaemon.specs.declared.note.Note.TheVariants.{Did, Away, Freed, Spoke, Answered, Asked, Looked}
+use Rattle.sieveddaemon.proofs.EventLemmas.{clients_one, open_refused, give_refused, give_unheard}
 
 -- who makes room is the one that the machine names
 named_by : (s : Service) (kind : ℕ) (o : Option ℕ) (id : ℕ) → room_by kind s o ≡ Some id → o ≡ Some id
@@ -47,20 +52,28 @@ guest_of (Some c) is = by c.user is
     by None none = refl
     by (Some name) some = let never : true ≡ false = some in cc
 
-module _ {R : Type 0} (shows : R → Accounts → Type 0) (d e : Daemon) (r q : R) where
+-- a client of LMTP makes no room
+by_kind : (b : Bool) (o : Option ℕ) (id : ℕ) → (if b then None else o) ≡ Some id → o ≡ Some id
+by_kind true o id is = let never : ◌≡◌ {A = Option ℕ} None (Some id) = is in cc
+by_kind false o id is = is
+
+module _ {R : Type 0} (shows : R → Accounts → Type 0) (d e : MailDaemon) (r q : R) where
   -- an act, which others follow, led there, and the store and the sessions are so
   abbrev pub Led : World → Act Note → List (Act Note) → Type 0
-  Led w act more = (v : World) × Leads w act more v × IsWorld shows q e.clients.sessions v
+  Led w act more = (v : World) × Leads w act more v × IsWorld shows q e.daemon.clients.sessions v
 
   -- nothing changed
-  same : (w : World) → IsWorld shows r d.clients.sessions w → KeepsClients d.clients.sessions e.clients.sessions → q ≡ r → IsWorld shows q e.clients.sessions w
+  same : (w : World) → IsWorld shows r d.daemon.clients.sessions w → KeepsClients d.daemon.clients.sessions e.daemon.clients.sessions → q ≡ r → IsWorld shows q e.daemon.clients.sessions w
   same w is keeps left = record { shown = subst (λ x. shows x w.accounts) (sym left) is.shown; sessions = keeps w.sessions is.sessions }
 
-  kept : e ≡ d → KeepsClients d.clients.sessions e.clients.sessions
-  kept is = subst (λ (k : Daemon). KeepsClients d.clients.sessions k.clients.sessions) (sym is) (λ clients has. has)
+  kept_of : e.daemon ≡ d.daemon → KeepsClients d.daemon.clients.sessions e.daemon.clients.sessions
+  kept_of is = subst (λ (k : Daemon). KeepsClients d.daemon.clients.sessions k.clients.sessions) (sym is) (λ clients has. has)
+
+  kept : e ≡ d → KeepsClients d.daemon.clients.sessions e.daemon.clients.sessions
+  kept is = kept_of (ap (λ (m : MailDaemon). m.daemon) is)
 
   -- an event of sessions alone
-  happened : (event : Event) (w : World) → IsWorld shows r d.clients.sessions w → Happened event d e → q ≡ r → (v : World) × ((answer : Answer) × Next w event answer v) × IsWorld shows q e.clients.sessions v
+  happened : (event : Event) (w : World) → IsWorld shows r d.daemon.clients.sessions w → Happened event d.daemon e.daemon → q ≡ r → (v : World) × ((answer : Answer) × Next w event answer v) × IsWorld shows q e.daemon.clients.sessions v
   happened event w is h left =
       let made = h.1 w is.sessions in (
         record { accounts = w.accounts; sessions = made.0 },
@@ -68,8 +81,8 @@ module _ {R : Type 0} (shows : R → Accounts → Type 0) (d e : Daemon) (r q : 
         record { shown = subst (λ x. shows x w.accounts) (sym left) is.shown; sessions = made.2 },
       )
 
-  made : (event : Event) (id : ℕ) (more : List (Act Note)) (w : World) → IsWorld shows r d.clients.sessions w → Made event d e → q ≡ r
-      → (v : World) × ((answer : Answer) × IsMadeOr answer id more × Next w event answer v) × IsWorld shows q e.clients.sessions v
+  made : (event : Event) (id : ℕ) (more : List (Act Note)) (w : World) → IsWorld shows r d.daemon.clients.sessions w → Made event d.daemon e.daemon → q ≡ r
+      → (v : World) × ((answer : Answer) × IsMadeOr answer id more × Next w event answer v) × IsWorld shows q e.daemon.clients.sessions v
   made event id more w is h left =
       let did = h.2 w is.sessions in (
         record { accounts = w.accounts; sessions = did.0 },
@@ -78,71 +91,108 @@ module _ {R : Type 0} (shows : R → Accounts → Type 0) (d e : Daemon) (r q : 
       )
 
   -- what asks no store is the same whatever accounts there are
-  freed : (event : Event) (answer : Answer) (w : World) → IsWorld shows r d.clients.sessions w → StillShows shows r q → IsSessionEvent event answer d.clients.sessions e.clients.sessions
-      → (v : World) × LeadsBy w (Freed event answer) v × IsWorld shows q e.clients.sessions v
+  freed : (event : Event) (answer : Answer) (w : World) → IsWorld shows r d.daemon.clients.sessions w → StillShows shows r q → IsSessionEvent event answer d.daemon.clients.sessions e.daemon.clients.sessions
+      → (v : World) × LeadsBy w (Freed event answer) v × IsWorld shows q e.daemon.clients.sessions v
   freed event answer w is still free =
       let made = free w is.sessions in
       let any : (accounts : Accounts) → Next (record w { accounts = accounts }) event answer (record { accounts = accounts; sessions = made.0 }) = λ accounts.
       let other = free (record w { accounts = accounts }) is.sessions in
-      subst (λ (c : Clients). Next (record w { accounts = accounts }) event answer (record { accounts = accounts; sessions = c })) (clients_one e.clients.sessions other.0 made.0 other.2 made.2) other.1 in (
+      subst (λ (c : Clients). Next (record w { accounts = accounts }) event answer (record { accounts = accounts; sessions = c })) (clients_one e.daemon.clients.sessions other.0 made.0 other.2 made.2) other.1 in (
         record { accounts = w.accounts; sessions = made.0 },
         (refl, any),
         record { shown = still w.accounts is.shown; sessions = made.2 },
       )
 
-  noted : (note : Note) (w : World) → IsWorld shows r d.clients.sessions w → Makes shows r d note q e → (v : World) × LeadsBy w note v × IsWorld shows q e.clients.sessions v
+  nothing : (w : World) → IsWorld shows r d.daemon.clients.sessions w → NothingDone shows r d.daemon.clients.sessions q e.daemon.clients.sessions → IsWorld shows q e.daemon.clients.sessions w
+  nothing w is none = record { shown = none.shown w.accounts is.shown; sessions = none.kept w.sessions is.sessions }
+
+  -- what is done for a client of ManageSieve
+  noted : (note : Note) (w : World) → IsWorld shows r d.daemon.clients.sessions w → Makes shows r d.daemon note q e.daemon → (v : World) × LeadsBy w note v × IsWorld shows q e.daemon.clients.sessions v
   noted (Did others event answer) w is makes = makes w is
-  noted Away w is makes = (w, refl, record { shown = makes.shown w.accounts is.shown; sessions = makes.kept w.sessions is.sessions })
+  noted Away w is makes = (w, refl, nothing w is makes)
   noted (Freed event answer) w is makes = freed event answer w is makes.0 makes.1
-  noted Spoke w is makes = (w, refl, record { shown = makes.shown w.accounts is.shown; sessions = makes.kept w.sessions is.sessions })
+  noted Spoke w is makes = (w, refl, nothing w is makes)
+  noted Answered w is makes = absurd makes
+  noted (Asked others user lookup) w is makes = absurd makes
   noted (Looked wanted) w is makes = absurd makes
 
-  rested : (now : ℕ) (note : Note) → Rests d now note e → KeepsClients d.clients.sessions e.clients.sessions
-  rested now (Looked wanted) rests = subst (λ (k : Daemon). KeepsClients d.clients.sessions k.clients.sessions) (sym rests) (λ clients has. has)
+  -- what is done for a client of LMTP
+  did : (note : Note) (deed : Deed) (w : World) → IsWorld shows r d.daemon.clients.sessions w → IsDeed note deed → Stores shows r d.daemon.clients.sessions note q e.daemon.clients.sessions
+      → (v : World) × LeadsBy w note v × IsWorld shows q e.daemon.clients.sessions v
+  did (Did others event answer) deed w is told stores = stores w is
+  did (Asked others user lookup) deed w is told stores = stores w is
+  did Away deed w is told stores = (w, refl, nothing w is stores)
+  did Answered deed w is told stores = (w, refl, nothing w is stores)
+  did (Freed event answer) deed w is told stores = absurd told
+  did Spoke deed w is told stores = absurd told
+  did (Looked wanted) deed w is told stores = absurd told
+
+  goes : (now id : ℕ) (note : Note) (said : List ℕ) (w : World) → IsWorld shows r d.daemon.clients.sessions w → GoesBy shows d r now id note said e q → (v : World) × LeadsBy w note v × IsWorld shows q e.daemon.clients.sessions v
+  goes now id note said w is (inl g) = did note g.does.deed w is g.does.is g.does.stores
+  goes now id note said w is (inr g) = noted note w is g.goes.makes
+
+  rested : (now : ℕ) (note : Note) → Rests d.daemon now note e.daemon → KeepsClients d.daemon.clients.sessions e.daemon.clients.sessions
+  rested now (Looked wanted) rests = subst (λ (k : Daemon). KeepsClients d.daemon.clients.sessions k.clients.sessions) (sym rests) (λ clients has. has)
   rested now (Did others event answer) rests = absurd rests
   rested now Away rests = absurd rests
   rested now (Freed event answer) rests = absurd rests
   rested now Spoke rests = absurd rests
+  rested now Answered rests = absurd rests
+  rested now (Asked others user lookup) rests = absurd rests
 
   -- who makes room is a guest
-  guest_goes : (s : Service) (kind id : ℕ) → makes_room (daemon_rules shows) d s kind ≡ Some id → (w : World) → IsWorld shows r d.clients.sessions w → IsGuest w id
+  guest_goes : (s : Service) (kind id : ℕ) → makes_room (mail_rules shows) d s kind ≡ Some id → (w : World) → IsWorld shows r d.daemon.clients.sessions w → IsGuest w id
   guest_goes s kind id room w is =
-      let named = if_named (kind == 0) (longest_guest d.clients.sessions d.places) id (named_by s kind (displaced_of d kind) id room) in
-      guest_of (get w.sessions id) (subst (λ c. is_user c ≡ false) (is.sessions id) (no_user_goes d.clients.sessions d.places id named))
+      let chosen = by_kind (kind == lmtp) (displaced_of d.daemon kind) id (named_by s kind (displaced_for d kind) id room) in
+      let named = if_named (kind == 0) (longest_guest d.daemon.clients.sessions d.daemon.places) id chosen in
+      guest_of (get w.sessions id) (subst (λ c. is_user c ≡ false) (is.sessions id) (no_user_goes d.daemon.clients.sessions d.daemon.places id named))
 
   -- where memory was lacking for a connection, that is what follows says
   module _ (s u : Service) (more : List (Act Note)) (lacks_then : (id kind : ℕ) → u.turn ≡ Stuffed id kind → LacksThen id more) where
-    came : (id kind : ℕ) (said : List ℕ) (w : World) → IsWorld shows r d.clients.sessions w → q ≡ r → Enters (daemon_rules shows) d s.moment id kind said e u → Led w (Came id kind) more
-    came id kind said w is left (inl o) = made (Open id) id more w is o.0.event left
+    opened : (b : Bool) (id : ℕ) (said : List ℕ) (w : World) → IsWorld shows r d.daemon.clients.sessions w → q ≡ r → OpensBy b d s.moment id said e → (v : World) × LeadsIn b w id more v × IsWorld shows q e.daemon.clients.sessions v
+    opened true id said w is left o = (w, refl, same w is (subst (λ (k : CodeClients). KeepsClients d.daemon.clients.sessions k.sessions) (sym o.daemon.clients) (λ clients has. has)) left)
+    opened false id said w is left o = made (Open id) id more w is o.opens.event left
+
+    lacking : (b : Bool) (id kind : ℕ) (w : World) → IsWorld shows r d.daemon.clients.sessions w → q ≡ r → u.turn ≡ Stuffed id kind → LacksBy d id e → (v : World) × LeadsIn b w id more v × IsWorld shows q e.daemon.clients.sessions v
+    lacking true id kind w is left turn l = (w, refl, same w is l.lacks.kept left)
+    lacking false id kind w is left turn l = let refused = open_refused w id in (w, (refused.0, inr (lacks_then id kind turn), refused.1), same w is l.lacks.kept left)
+
+    came : (id kind : ℕ) (said : List ℕ) (w : World) → IsWorld shows r d.daemon.clients.sessions w → q ≡ r → Enters (mail_rules shows) d s.moment id kind said e u → Led w (Came id kind) more
+    came id kind said w is left (inl o) = opened (kind == lmtp) id said w is left o.0
     came id kind said w is left (inr o) = by o.2
       where
-        by : Opens d s.moment id said e ⊎ LacksFor d id e → Led w (Came id kind) more
-        by (inl opens) = made (Open id) id more w is opens.event left
-        by (inr lacks) = let refused = open_refused w id in (w, (refused.0, inr (lacks_then id kind o.1), refused.1), same w is lacks.kept left)
+        by : OpensBy (kind == lmtp) d s.moment id said e ⊎ LacksBy d id e → Led w (Came id kind) more
+        by (inl opens) = opened (kind == lmtp) id said w is left opens
+        by (inr lacks) = lacking (kind == lmtp) id kind w is left o.1 lacks
 
-    heard : (id : ℕ) (piece said : List ℕ) (count : ℕ) (w : World) → IsWorld shows r d.clients.sessions w → q ≡ r
-        → Goes (Gives d s.moment id piece said e) (LacksFor d id e) id (kind_of (client_of s id)) count said u.turn → Led w (Heard id piece) more
-    heard id piece said count w is left (inl g) = made (Give id piece) id more w is g.0.event left
+    given : (id : ℕ) (piece said : List ℕ) (w : World) → IsWorld shows r d.daemon.clients.sessions w → q ≡ r → GivesBy d s.moment id piece said e → Led w (Heard id piece) more
+    given id piece said w is left (inl g) =
+        let unheard = give_unheard w id piece (sym (is.sessions id) ∙ g.other) in (w, (unheard.0, inr unheard.1, unheard.2), same w is (kept_of g.daemon) left)
+    given id piece said w is left (inr g) = let it = made (Give id piece) id more w is g.gives.event left in (it.0, (it.1.0, inl it.1.1, it.1.2), it.2)
+
+    heard : (id : ℕ) (piece said : List ℕ) (count : ℕ) (w : World) → IsWorld shows r d.daemon.clients.sessions w → q ≡ r
+        → Goes (GivesBy d s.moment id piece said e) (LacksBy d id e) id (kind_of (client_of s id)) count said u.turn → Led w (Heard id piece) more
+    heard id piece said count w is left (inl g) = given id piece said w is left g.0
     heard id piece said count w is left (inr g) =
-        let refused = give_refused w id piece in (w, (refused.0, inr (lacks_then id (kind_of (client_of s id)) g.2), refused.1), same w is g.0.kept left)
+        let refused = give_refused w id piece in (w, (refused.0, inl (inr (lacks_then id (kind_of (client_of s id)) g.2)), refused.1), same w is g.0.lacks.kept left)
 
-    lacked : (id : ℕ) → Lacks (daemon_rules shows) d s id e u → KeepsClients d.clients.sessions e.clients.sessions
+    lacked : (id : ℕ) → Lacks (mail_rules shows) d s id e u → KeepsClients d.daemon.clients.sessions e.daemon.clients.sessions
     lacked id (inl l) = kept l.2
-    lacked id (inr (inl l)) = l.0.kept
+    lacked id (inr (inl l)) = l.0.lacks.kept
     lacked id (inr (inr l)) = kept l.0
 
-    late : (id : ℕ) (said : List ℕ) → Parting (daemon_rules shows) d s id said e u → KeepsClients d.clients.sessions e.clients.sessions
-    late id said (inl p) = kept p.1.1
+    late : (id : ℕ) (said : List ℕ) → Parting (mail_rules shows) d s id said e u → KeepsClients d.daemon.clients.sessions e.daemon.clients.sessions
+    late id said (inl p) = kept p.1.stays
     late id said (inr (inl p)) = kept p.2.0
-    late id said (inr (inr p)) = p.2.kept
+    late id said (inr (inr p)) = p.2.lacks.kept
 
     -- each act, of whatever accounts and sessions there were
-    pub leads : (act : Act Note) (said : List ℕ) (w : World) → Turns (daemon_rules shows) d r s act said e q u → Leaves r act q → IsWorld shows r d.clients.sessions w → Led w act more
+    pub leads : (act : Act Note) (said : List ℕ) (w : World) → Turns (mail_rules shows) d r s act said e q u → Leaves r act q → IsWorld shows r d.daemon.clients.sessions w → Led w act more
     leads (Came id kind) said w turns left is = came id kind said w is left turns.3
     leads (Heard id piece) said w turns left is = heard id piece said turns.count w is left turns.goes
-    leads (Ended id) said w turns left is = happened (Close id) w is turns.0.event left
-    leads (Noted id note) said w turns left is = noted note w is turns.0.makes
-    leads (Worked note) said w turns left is = (w, refl, record { shown = turns.0.0 w.accounts is.shown; sessions = rested s.moment note turns.0.1 w.sessions is.sessions })
+    leads (Ended id) said w turns left is = happened (Close id) w is turns.0.closes.event left
+    leads (Noted id note) said w turns left is = goes s.moment id note said w is turns.0
+    leads (Worked note) said w turns left is = (w, refl, record { shown = turns.0.shown w.accounts is.shown; sessions = rested s.moment note turns.0.rests w.sessions is.sessions })
     leads (Late id) said w turns left is = (w, refl, same w is (late id said turns.2) left)
     leads (Displaced id) said w turns left is = (w, (refl, guest_goes s turns.0.0 id turns.0.2 w is), same w is (late id said turns.1) left)
     leads (Listened kind) said w turns left is = (w, refl, same w is (kept turns.0.0) left)

@@ -1,9 +1,13 @@
+pub mod DeedLemmas
 pub mod EventLemmas
 pub mod Examples
 pub mod HeadlineLemmas
 pub mod LeadLemmas
 pub mod LineLemmas
+pub mod MailExamples
+pub mod MailLemmas
 pub mod RoomLemmas
 pub mod SentLemmas
 pub mod StepLemmas
 pub mod TurnLemmas
+pub mod WordLemmas

@@ -1,23 +1,27 @@
--- What acts tell of one connection agrees with what the daemon and the loop keep of it.
-use Rattle.std.proofs.Common.{◌≡◌, ◌⊎◌, inl, inr, ℕ, ◌≤◌, nat_lt, Bool, true, false, cond, List, ◌++◌, Option, Some, None, refl, sym, ◌∙◌, ap, subst}
+-- What acts tell of one client of ManageSieve agrees with what the daemon and the loop keep of it.
+use Rattle.std.proofs.Common.{◌≡◌, ◌⊎◌, inl, inr, ℕ, ◌==◌, ◌≤◌, nat_lt, Bool, true, false, cond, List, ◌++◌, Option, Some, None, IfSome, option_map, refl, sym, ◌∙◌, ap, subst}
 use Rattle.std.proofs.lemmas.Bool.{ltb-false}
 use Rattle.mailstore.specs.Account.{Accounts}
+use Rattle.mailposts.specs.declared.post.Post.{Post}
 use Rattle.sessions.specs.Clients.{Client as SessionClient}
 use Rattle.wires.specs.declared.act.Act.{Act}
 use Rattle.wires.specs.declared.act.Act.TheVariants.{Woke, Began, Timed, Late, Waits, Roused, Worked, Came, NoneCame, Crowded, Displaced, Listened, InUse, Heard, ReadBlocked, Over, Sent, WriteBlocked, Lost, Noted, Full, Again, Shut, Dropped, Ended}
+use Rattle.wires.specs.declared.machine.Want.{Want}
 use Rattle.wires.specs.declared.service.Service.{Service}
 use Rattle.wires.specs.declared.turn.Task.TheVariants.{Step, Rest}
 use Rattle.wires.specs.Moves.{Ticks}
 use Rattle.wires.specs.Talk.{same, client_of, kind_of, task_wanted}
 use Rattle.wires.specs.Turns.{Turns, GoesOn, Goes as Went, Lacks, Parting, Opens as Enters}
 use Rattle.wires.proofs.TalkLemmas.{one_number}
-use Rattle.sieveddaemon.specs.Acts.{Line, new_line, moment_after, noted, tell, IsRight}
-use Rattle.sieveddaemon.specs.DaemonRules.{daemon_rules, place_at, Rests, Opens, Gives, Goes, LacksFor}
+use Rattle.sieveddaemon.specs.Acts.{Line, new_line, line_came, moment_after, noted, idled, tell, tell_line, IsRight}
+use Rattle.sieveddaemon.specs.DaemonRules.{lmtp, place_at, Rests}
+use Rattle.sieveddaemon.specs.MailRules.{mail_rules, post_at, wants_by, OpensBy, GivesBy, GoesBy, PostGives, PostGoes, SessionGives, SessionGoes, Looks, LacksBy, SamePosts}
 use Rattle.sieveddaemon.specs.Places.{client_at, want_of, want_by, place_given, place_behind, new_place}
-use Rattle.sieveddaemon.specs.Waiting.{Allows, IsDue, waits_behind, idle}
+use Rattle.sieveddaemon.specs.Waiting.{Allows, IsDue, waits_behind}
 use Rattle.sieveddaemon.specs.declared.daemon.Daemon.{Daemon}
+use Rattle.sieveddaemon.specs.declared.mail.MailDaemon.{MailDaemon}
 use Rattle.sieveddaemon.specs.declared.note.Note.{Note}
-use Rattle.sieveddaemon.specs.declared.note.Note.TheVariants.{Looked, Did, Away, Freed, Spoke}
+use Rattle.sieveddaemon.specs.declared.note.Note.TheVariants.{Looked, Did, Away, Freed, Spoke, Answered, Asked}
 use Rattle.sieveddaemon.specs.declared.place.Place.{Place}
 use Rattle.sieveddaemon.specs.declared.place.Waits.{Waits as Waiting}
 use Rattle.sieveddaemon.specs.declared.place.Waits.TheVariants as waits
@@ -28,28 +32,6 @@ use Rattle.sieveddaemon.proofs.TurnLemmas.{wanted_at}
 pub moment_is : (now : ℕ) (act : Act Note) (later : ℕ) → Ticks now act later → later ≡ moment_after now act
 moment_is now (Timed moment) later is = is
 moment_is now _ later is = is
-
--- ---- what is waited for
-
-abbrev pub TiedBy : Option Place → Waiting → Type 0
-TiedBy o w = (place : Place) → o ≡ Some place → place.waits ≡ w
-
-abbrev pub Tied : Daemon → ℕ → Line → Type 0
-Tied d id l = TiedBy (place_at d id) l.waits
-
--- what is known of the connection n changes
-tied_put : (b : Bool) (o p : Option Place) (new : Place) (l k : Line) → p ≡ cond b (Some new) o → (b ≡ true → new.waits ≡ k.waits) → TiedBy o l.waits → TiedBy p (cond b k l).waits
-tied_put true o p new l k is put tied place at = let one : new ≡ place = cc in ap (λ (x : Place). x.waits) (sym one) ∙ put refl
-tied_put false o p new l k is put tied place at = tied place (sym is ∙ at)
-
-tied_gone : (b : Bool) (o p : Option Place) (l k : Line) → p ≡ cond b None o → TiedBy o l.waits → TiedBy p (cond b k l).waits
-tied_gone true o p l k is tied place at = absurd (let never : None ≡ Some place = sym is ∙ at in cc)
-tied_gone false o p l k is tied place at = tied place (sym is ∙ at)
-
--- nothing is changed of what is waited for
-tied_kept : (b : Bool) (o : Option Place) (l k : Line) → k.waits ≡ l.waits → TiedBy o l.waits → TiedBy o (cond b k l).waits
-tied_kept true o l k is tied place at = tied place at ∙ sym is
-tied_kept false o l k is tied place at = tied place at
 
 -- one that is to go on has come to its moment
 due_by : (now : ℕ) (w : Waiting) (c : SessionClient) → task_wanted now (want_by w c) ≡ Step → IsDue now w
@@ -66,98 +48,226 @@ due_at : (now : ℕ) (place : Place) (c : Option SessionClient) → task_wanted 
 due_at now place None is = let never : ⊥ = cc in absurd never
 due_at now place (Some c) is = due_by now place.waits c is
 
-module _ {R : Type 0} (shows : R → Accounts → Type 0) (d e : Daemon) (r q : R) (s u : Service) (id : ℕ) (l : Line) where
-  unchanged : e ≡ d → (b : Bool) (k : Line) → k.waits ≡ l.waits → Tied d id l → Tied e id (cond b k l)
-  unchanged is b k keeps tied = subst (λ (x : Daemon). TiedBy (place_at x id) (cond b k l).waits) (sym is) (tied_kept b (place_at d id) l k keeps tied)
+-- ---- what is known of one connection, behind an act of another or of its own
 
-  gone : (n : ℕ) → LacksFor d n e → (k : Line) → Tied d id l → Tied e id (cond (same n id) k l)
-  gone n lacks k tied = tied_gone (same n id) (place_at d id) (place_at e id) l k (lacks.place.places id) tied
+-- it changes for the connection n alone
+pub record Touches (d : MailDaemon) (n : ℕ) (post : Option Post) (place : Option Place) (e : MailDaemon) : Type 0 where
+  pub posts : (other : ℕ) → post_at e other ≡ cond (same n other) post (post_at d other)
+  pub places : (other : ℕ) → place_at e.daemon other ≡ cond (same n other) place (place_at d.daemon other)
 
-  -- behind each act
-  module _ (tied : Tied d id l) where
+-- what stays of n changes nothing
+stays_by : {X : Type 0} (at : ℕ → Option X) (n other : ℕ) (b : Bool) → same n other ≡ b → at other ≡ cond b (at n) (at other)
+stays_by at n other true is = ap at (sym (one_number n other is))
+stays_by at n other false is = refl
+
+pub same_posts : (d e : MailDaemon) (n : ℕ) → e.posts ≡ d.posts → (other : ℕ) → post_at e other ≡ cond (same n other) (post_at d n) (post_at d other)
+same_posts d e n is other = ap (λ posts. post_at (record d { posts = posts }) other) is ∙ stays_by (post_at d) n other (same n other) refl
+
+pub same_places : (d e : MailDaemon) (n : ℕ) → ((other : ℕ) → place_at e.daemon other ≡ place_at d.daemon other) → (other : ℕ) → place_at e.daemon other ≡ cond (same n other) (place_at d.daemon n) (place_at d.daemon other)
+same_places d e n is other = is other ∙ stays_by (place_at d.daemon) n other (same n other) refl
+
+pub touch_same : (d e : MailDaemon) (n : ℕ) (place : Option Place) → post_at d n ≡ None → e.posts ≡ d.posts → ((other : ℕ) → place_at e.daemon other ≡ cond (same n other) place (place_at d.daemon other)) → Touches d n None place e
+touch_same d e n place none same_ones places = record {
+  posts = λ other. same_posts d e n same_ones other ∙ ap (λ o. cond (same n other) o (post_at d other)) none;
+  places = places;
+}
+
+pub touch_post : (d e : MailDaemon) (n : ℕ) (post : Option Post) → ((other : ℕ) → post_at e other ≡ cond (same n other) post (post_at d other)) → ((other : ℕ) → place_at e.daemon other ≡ place_at d.daemon other) → Touches d n post (place_at d.daemon n) e
+touch_post d e n post posts places = record { posts = posts; places = same_places d e n places }
+
+-- ---- what a client of ManageSieve waits for
+
+abbrev pub WaitsBy : Option Place → Waiting → Type 0
+WaitsBy o w = (place : Place) → o ≡ Some place → place.waits ≡ w
+
+-- nothing of a client of LMTP has its number
+pub record Tied (d : MailDaemon) (id : ℕ) (l : Line) : Type 0 where
+  pub none : post_at d id ≡ None
+  pub waits : WaitsBy (place_at d.daemon id) l.waits
+
+abbrev pub TiedBy : MailDaemon → ℕ → Option Line → Type 0
+TiedBy d id None = Unit {0}
+TiedBy d id (Some l) = Tied d id l
+
+no_place : (w : Waiting) → WaitsBy None w
+no_place w place at = let never : ⊥ = cc in absurd never
+
+waits_at : (new : Place) (w : Waiting) → new.waits ≡ w → WaitsBy (Some new) w
+waits_at new w is place at = let one : new ≡ place = cc in ap (λ (x : Place). x.waits) (sym one) ∙ is
+
+-- a connection n of which this is known now
+pub record Holds (post : Option Post) (place : Option Place) (w : Waiting) : Type 0 where
+  pub none : post ≡ None
+  pub waits : WaitsBy place w
+
+tied_put : (d e : MailDaemon) (n id : ℕ) (post : Option Post) (place : Option Place) (b : Bool) (k l : Line) → post_at e id ≡ cond b post (post_at d id) → place_at e.daemon id ≡ cond b place (place_at d.daemon id)
+    → (b ≡ true → Holds post place k.waits) → Tied d id l → Tied e id (cond b k l)
+tied_put d e n id post place true k l posts places put tied =
+    let new = put refl in record { none = posts ∙ new.none; waits = λ it at. new.waits it (sym places ∙ at) }
+tied_put d e n id post place false k l posts places put tied = record { none = posts ∙ tied.none; waits = λ it at. tied.waits it (sym places ∙ at) }
+
+same_line : (b : Bool) (l : Line) → cond b l l ≡ l
+same_line true l = refl
+same_line false l = refl
+
+module _ {R : Type 0} (shows : R → Accounts → Type 0) (d e : MailDaemon) (r q : R) (s u : Service) (id : ℕ) where
+  touched : (n : ℕ) (post : Option Post) (place : Option Place) → Touches d n post place e → (k l : Line) → (same n id ≡ true → Holds post place k.waits) → Tied d id l → Tied e id (cond (same n id) k l)
+  touched n post place t k l put tied = tied_put d e n id post place (same n id) k l (t.posts id) (t.places id) put tied
+
+  touched_still : (n : ℕ) (post : Option Post) (place : Option Place) → Touches d n post place e → (l : Line) → (same n id ≡ true → Holds post place l.waits) → Tied d id l → Tied e id l
+  touched_still n post place t l put tied = subst (λ k. Tied e id k) (same_line (same n id) l) (touched n post place t l l put tied)
+
+  unchanged : e ≡ d → (b : Bool) (k l : Line) → k.waits ≡ l.waits → Tied d id l → Tied e id (cond b k l)
+  unchanged is true k l keeps tied = subst (λ (x : MailDaemon). Tied x id k) (sym is) (record { none = tied.none; waits = λ it at. tied.waits it at ∙ sym keeps })
+  unchanged is false k l keeps tied = subst (λ (x : MailDaemon). Tied x id l) (sym is) tied
+
+  lost : (n : ℕ) → LacksBy d n e → Touches d n None None e
+  lost n lacks = record { posts = lacks.posts; places = lacks.lacks.place.places }
+
+  gone : (n : ℕ) → LacksBy d n e → (k l : Line) → Tied d id l → Tied e id (cond (same n id) k l)
+  gone n lacks k l tied = touched n None None (lost n lacks) k l (λ is. record { none = refl; waits = no_place k.waits }) tied
+
+  -- one comes
+  came_by : (b c : Bool) (post : Option Post) (place : Option Place) (o : Option Line) → post_at e id ≡ cond b post (post_at d id) → place_at e.daemon id ≡ cond b place (place_at d.daemon id)
+      → (c ≡ false → Holds post place waits.Nothing) → TiedBy d id o → TiedBy e id (cond b (line_came c) o)
+  came_by true true post place o posts places put tied = tt
+  came_by true false post place o posts places put tied =
+      let new = put refl in
+      let is : Tied e id new_line = record { none = posts ∙ new.none; waits = λ it at. new.waits it (sym places ∙ at) } in is
+  came_by false c post place None posts places put tied = tt
+  came_by false c post place (Some l) posts places put tied =
+      let is : Tied e id l = record { none = posts ∙ tied.none; waits = λ it at. tied.waits it (sym places ∙ at) } in is
+
+  opened : (b : Bool) (n : ℕ) (said : List ℕ) (o : Option Line) → OpensBy b d s.moment n said e → TiedBy d id o → TiedBy e id (cond (same n id) (line_came b) o)
+  opened true n said o opens tied = came_by (same n id) true (Some opens.post) None o (opens.posts id) (opens.daemon.place.places id) (λ is. absurd (let never : ⊥ = cc in never)) tied
+  opened false n said o opens tied =
+      came_by (same n id) false None (Some (new_place s.moment)) o (opens.posts id) (opens.opens.place.places id) (λ is. record { none = refl; waits = waits_at (new_place s.moment) waits.Nothing refl }) tied
+
+  lacking : (b : Bool) (n : ℕ) (o : Option Line) → LacksBy d n e → TiedBy d id o → TiedBy e id (cond (same n id) (line_came b) o)
+  lacking b n o lacks tied = came_by (same n id) b None None o (lacks.posts id) (lacks.lacks.place.places id) (λ is. record { none = refl; waits = no_place waits.Nothing }) tied
+
+  came : (n kind : ℕ) (said : List ℕ) (o : Option Line) → Enters (mail_rules shows) d s.moment n kind said e u → TiedBy d id o → TiedBy e id (cond (same n id) (line_came (kind == lmtp)) o)
+  came n kind said o (inl opens) tied = opened (kind == lmtp) n said o opens.0 tied
+  came n kind said o (inr opens) tied = by opens.2
+    where
+      by : OpensBy (kind == lmtp) d s.moment n said e ⊎ LacksBy d n e → TiedBy e id (cond (same n id) (line_came (kind == lmtp)) o)
+      by (inl is) = opened (kind == lmtp) n said o is tied
+      by (inr lacks) = lacking (kind == lmtp) n o lacks tied
+
+  -- behind each act of one that came
+  module _ (l : Line) (tied : Tied d id l) where
     still : e ≡ d → Tied e id l
-    still is = subst (λ (x : Daemon). Tied x id l) (sym is) tied
+    still is = subst (λ (x : MailDaemon). Tied x id l) (sym is) tied
 
-    came : (n kind : ℕ) (said : List ℕ) → Enters (daemon_rules shows) d s.moment n kind said e u → Tied e id (cond (same n id) new_line l)
-    came n kind said (inl o) = tied_put (same n id) (place_at d id) (place_at e id) (new_place s.moment) l new_line (o.0.place.places id) (λ is. refl) tied
-    came n kind said (inr o) = by o.2
-      where
-        by : Opens d s.moment n said e ⊎ LacksFor d n e → Tied e id (cond (same n id) new_line l)
-        by (inl opens) = tied_put (same n id) (place_at d id) (place_at e id) (new_place s.moment) l new_line (opens.place.places id) (λ is. refl) tied
-        by (inr lacks) = gone n lacks new_line tied
+    -- of a client of ManageSieve nothing is known as of one of LMTP
+    no_post : (n : ℕ) (post : Post) → post_at d n ≡ Some post → same n id ≡ true → ⊥
+    no_post n post was is = let never : None ≡ Some post = sym tied.none ∙ ap (λ k. post_at d k) (sym (one_number n id is)) ∙ was in cc
 
     -- what the line of n waits for, where it is ours
-    ours : (n : ℕ) (before : Place) → place_at d n ≡ Some before → same n id ≡ true → before.waits ≡ l.waits
-    ours n before was is = tied before (ap (λ k. place_at d k) (sym (one_number n id is)) ∙ was)
+    ours : (n : ℕ) (before : Place) → place_at d.daemon n ≡ Some before → same n id ≡ true → before.waits ≡ l.waits
+    ours n before was is = tied.waits before (ap (λ k. place_at d.daemon k) (sym (one_number n id is)) ∙ was)
 
-    same_line : (b : Bool) → cond b l l ≡ l
-    same_line true = refl
-    same_line false = refl
+    given : (n : ℕ) (piece said : List ℕ) → GivesBy d s.moment n piece said e → Tied e id l
+    given n piece said (inl g) =
+        touched_still n (Some g.after) (place_at d.daemon n) (touch_post d e n (Some g.after) g.posts (λ other. ap (λ (k : Daemon). place_at k other) g.daemon)) l (λ is. absurd (no_post n g.before g.was is)) tied
+    given n piece said (inr g) =
+        let new : Place = place_given s.moment g.gives.before g.gives.client in
+        touched_still n None (Some new) (touch_same d e n (Some new) g.other g.same.posts g.gives.place.places) l (λ is. record { none = refl; waits = waits_at new l.waits (ours n g.gives.before g.gives.was is) }) tied
 
-    heard : (n count : ℕ) (piece said : List ℕ) → Went (Gives d s.moment n piece said e) (LacksFor d n e) n (kind_of (client_of s n)) count said u.turn → Tied e id l
-    heard n count piece said (inl g) =
-        subst (λ k. Tied e id k) (same_line (same n id))
-        (tied_put (same n id) (place_at d id) (place_at e id) (place_given s.moment g.0.before g.0.client) l l (g.0.place.places id) (λ is. ours n g.0.before g.0.was is) tied)
-    heard n count piece said (inr g) = subst (λ k. Tied e id k) (same_line (same n id)) (gone n g.0 l tied)
+    heard : (n count : ℕ) (piece said : List ℕ) → Went (GivesBy d s.moment n piece said e) (LacksBy d n e) n (kind_of (client_of s n)) count said u.turn → Tied e id l
+    heard n count piece said (inl g) = given n piece said g.0
+    heard n count piece said (inr g) = subst (λ k. Tied e id k) (same_line (same n id) l) (gone n g.0 l l tied)
 
-    goes : (n : ℕ) (note : Note) (said : List ℕ) → Goes shows d r s.moment n note said e q → Tied e id (cond (same n id) (noted s.moment l note) l)
-    goes n note said g =
-        tied_put (same n id) (place_at d id) (place_at e id) (place_behind s.moment g.before note (client_at e.clients.sessions n)) l (noted s.moment l note) (g.place id)
-        (λ is. ap (λ w. waits_behind s.moment w note) (ours n g.before g.was is)) tied
+    goes : (n : ℕ) (note : Note) (said : List ℕ) → GoesBy shows d r s.moment n note said e q → Tied e id (cond (same n id) (noted s.moment l note) l)
+    goes n note said (inl g) =
+        touched n (Some g.after) (place_at d.daemon n) (touch_post d e n (Some g.after) g.posts (λ other. ap (λ places. place_at (record d.daemon { places = places }) other) g.does.places)) (noted s.moment l note) l
+        (λ is. absurd (no_post n g.before g.was is)) tied
+    goes n note said (inr g) =
+        let new : Place = place_behind s.moment g.goes.before note (client_at e.daemon.clients.sessions n) in
+        touched n None (Some new) (touch_same d e n (Some new) g.other g.same.posts g.goes.place) (noted s.moment l note) l
+        (λ is. record { none = refl; waits = waits_at new (waits_behind s.moment l.waits note) (ap (λ w. waits_behind s.moment w note) (ours n g.goes.before g.goes.was is)) }) tied
 
-    late : (n : ℕ) (said : List ℕ) → Parting (daemon_rules shows) d s n said e u → Tied e id (cond (same n id) (record l { spelled = l.spelled ++ idle }) l)
-    late n said (inl p) = unchanged p.1.1 (same n id) (record l { spelled = l.spelled ++ idle }) refl tied
-    late n said (inr (inl p)) = unchanged p.2.0 (same n id) (record l { spelled = l.spelled ++ idle }) refl tied
-    late n said (inr (inr p)) = gone n p.2 (record l { spelled = l.spelled ++ idle }) tied
+    late : (n : ℕ) (said : List ℕ) → Parting (mail_rules shows) d s n said e u → Tied e id (cond (same n id) (idled l) l)
+    late n said (inl p) = unchanged p.1.stays (same n id) (idled l) l refl tied
+    late n said (inr (inl p)) = unchanged p.2.0 (same n id) (idled l) l refl tied
+    late n said (inr (inr p)) = gone n p.2 (idled l) l tied
 
-    lacked : (n : ℕ) → Lacks (daemon_rules shows) d s n e u → Tied e id l
+    lacked : (n : ℕ) → Lacks (mail_rules shows) d s n e u → Tied e id l
     lacked n (inl t) = still t.2
-    lacked n (inr (inl t)) = subst (λ k. Tied e id k) (same_line (same n id)) (gone n t.0 l tied)
+    lacked n (inr (inl t)) = subst (λ k. Tied e id k) (same_line (same n id) l) (gone n t.0 l l tied)
     lacked n (inr (inr t)) = still t.0
 
-    rested : (note : Note) → Rests d s.moment note e → Tied e id l
-    rested (Looked wanted) is = subst (λ (x : Daemon). Tied x id l) (sym is) tied
-    rested (Did others event answer) is = absurd is
-    rested Away is = absurd is
-    rested (Freed event answer) is = absurd is
-    rested Spoke is = absurd is
+    rests_at : (note : Note) → Rests d.daemon s.moment note e.daemon → place_at e.daemon id ≡ place_at d.daemon id
+    rests_at (Looked wanted) is = ap (λ (k : Daemon). place_at k id) is
+    rests_at (Did others event answer) is = absurd is
+    rests_at Away is = absurd is
+    rests_at (Freed event answer) is = absurd is
+    rests_at Spoke is = absurd is
+    rests_at Answered is = absurd is
+    rests_at (Asked others user lookup) is = absurd is
 
-    pub tied_after : (act : Act Note) (said : List ℕ) → Turns (daemon_rules shows) d r s act said e q u → Tied e id (tell id s.moment l act)
-    tied_after (Came n kind) said t = came n kind said t.3
-    tied_after (Heard n piece) said t = heard n t.count piece said t.goes
-    tied_after (Ended n) said t = subst (λ k. Tied e id k) (same_line (same n id)) (tied_gone (same n id) (place_at d id) (place_at e id) l l (t.0.place.places id) tied)
-    tied_after (Noted n note) said t = goes n note said t.0
-    tied_after (Late n) said t = late n said t.2
-    tied_after (Displaced n) said t = late n said t.1
-    tied_after (Listened kind) said t = still t.0.0
-    tied_after (Full n) said t = lacked n t.1
-    tied_after (Worked note) said t = rested note t.0.1
-    tied_after (Sent n octets) said t = unchanged t.0.0 (same n id) (record l { sent = l.sent ++ octets }) refl tied
-    tied_after (Woke within wakes) said t = still t.0.0
-    tied_after (Timed moment) said t = still t.0.0
-    tied_after (Began wake) said t = still t.0.0
-    tied_after (Roused n) said t = still t.0.0
-    tied_after (NoneCame kind) said t = still t.0.0
-    tied_after (Crowded kind) said t = still t.0.0
-    tied_after (InUse n) said t = still t.0.0
-    tied_after (ReadBlocked n) said t = still t.0.0
-    tied_after (Over n) said t = still t.0.0
-    tied_after (WriteBlocked n) said t = still t.0.0
-    tied_after (Lost n) said t = still t.0.0
-    tied_after (Waits n) said t = still t.0.0
-    tied_after (Again n) said t = still t.0.0
-    tied_after (Shut n) said t = still t.0.0
-    tied_after (Dropped n count) said t = still t.0.0
+    rested : (note : Note) → Looks shows d r s.moment note e q → Tied e id l
+    rested note looks =
+        let post : post_at e id ≡ post_at d id = ap (λ posts. post_at (record d { posts = posts }) id) looks.same.posts in
+        record { none = post ∙ tied.none; waits = λ it at. tied.waits it (sym (rests_at note looks.rests) ∙ at) }
+
+    tied_then : (act : Act Note) (said : List ℕ) → Turns (mail_rules shows) d r s act said e q u → TiedBy e id (tell_line id s.moment (Some l) act)
+    tied_then (Came n kind) said t = came n kind said (Some l) t.3 tied
+    tied_then (Heard n piece) said t = heard n t.count piece said t.goes
+    tied_then (Ended n) said t =
+        touched_still n None None (record { posts = t.0.posts; places = t.0.closes.place.places }) l (λ is. record { none = refl; waits = no_place l.waits }) tied
+    tied_then (Noted n note) said t = goes n note said t.0
+    tied_then (Late n) said t = late n said t.2
+    tied_then (Displaced n) said t = late n said t.1
+    tied_then (Listened kind) said t = still t.0.0
+    tied_then (Full n) said t = lacked n t.1
+    tied_then (Worked note) said t = rested note t.0
+    tied_then (Sent n octets) said t = unchanged t.0.0 (same n id) (record l { sent = l.sent ++ octets }) l refl tied
+    tied_then (Woke within wakes) said t = still t.0.0
+    tied_then (Timed moment) said t = still t.0.0
+    tied_then (Began wake) said t = still t.0.0
+    tied_then (Roused n) said t = still t.0.0
+    tied_then (NoneCame kind) said t = still t.0.0
+    tied_then (Crowded kind) said t = still t.0.0
+    tied_then (InUse n) said t = still t.0.0
+    tied_then (ReadBlocked n) said t = still t.0.0
+    tied_then (Over n) said t = still t.0.0
+    tied_then (WriteBlocked n) said t = still t.0.0
+    tied_then (Lost n) said t = still t.0.0
+    tied_then (Waits n) said t = still t.0.0
+    tied_then (Again n) said t = still t.0.0
+    tied_then (Shut n) said t = still t.0.0
+    tied_then (Dropped n count) said t = still t.0.0
 
     -- what is done is allowed
-    allowed : (b : Bool) (n : ℕ) (note : Note) (said : List ℕ) → same n id ≡ b → Goes shows d r s.moment n note said e q → GoesOn (daemon_rules shows) d s n Step u.turn
+    session_allowed : (n : ℕ) (note : Note) (said : List ℕ) → same n id ≡ true → SessionGoes shows d r s.moment n note said e q → GoesOn (mail_rules shows) d s n Step u.turn → Allows s.moment l.waits id note
+    session_allowed n note said is g on =
+        let wants : Want = want_of (place_at d.daemon n) (client_at d.daemon.clients.sessions n) in
+        let wanted : task_wanted s.moment (wants_by (post_at d n) wants) ≡ Step = wanted_at (mail_rules shows) d s.moment n (client_of s n) on.1.task in
+        let own : task_wanted s.moment wants ≡ Step = subst (λ o. task_wanted s.moment (wants_by o wants) ≡ Step) g.other wanted in
+        let due : IsDue s.moment g.goes.before.waits =
+        due_at s.moment g.goes.before (client_at d.daemon.clients.sessions n) (subst (λ o. task_wanted s.moment (want_of o (client_at d.daemon.clients.sessions n)) ≡ Step) g.goes.was own) in
+        subst (λ w. Allows s.moment w id note) (ours n g.goes.before g.goes.was is) (subst (λ k. Allows s.moment g.goes.before.waits k note) (one_number n id is) (g.goes.allows due))
+
+    allowed : (b : Bool) (n : ℕ) (note : Note) (said : List ℕ) → same n id ≡ b → GoesBy shows d r s.moment n note said e q → GoesOn (mail_rules shows) d s n Step u.turn
         → cond b (Allows s.moment l.waits id note) (Unit {0})
     allowed false n note said is g on = tt
-    allowed true n note said is g on =
-        let wanted : task_wanted s.moment (want_of (place_at d n) (client_at d.clients.sessions n)) ≡ Step = wanted_at (daemon_rules shows) d s.moment n (client_of s n) on.1.task in
-        let due : IsDue s.moment g.before.waits = due_at s.moment g.before (client_at d.clients.sessions n) (subst (λ o. task_wanted s.moment (want_of o (client_at d.clients.sessions n)) ≡ Step) g.was wanted) in
-        subst (λ w. Allows s.moment w id note) (ours n g.before g.was is) (subst (λ k. Allows s.moment g.before.waits k note) (one_number n id is) (g.allows due))
+    allowed true n note said is (inl g) on = absurd (no_post n g.before g.was is)
+    allowed true n note said is (inr g) on = session_allowed n note said is g on
 
-    pub right_at : (act : Act Note) (said : List ℕ) → Turns (daemon_rules shows) d r s act said e q u → IsRight id s.moment l act
-    right_at (Noted n note) said t = allowed (same n id) n note said refl t.0 t.1
-    right_at _ said t = tt
+    right_then : (act : Act Note) (said : List ℕ) → Turns (mail_rules shows) d r s act said e q u → IsRight id s.moment l act
+    right_then (Noted n note) said t = allowed (same n id) n note said refl t.0 t.1
+    right_then _ said t = tt
+
+  -- one that hasn't come, or is a client of LMTP
+  none_then : (act : Act Note) (said : List ℕ) → Turns (mail_rules shows) d r s act said e q u → TiedBy e id (tell_line id s.moment None act)
+  none_then (Came n kind) said t = came n kind said None t.3 tt
+  none_then _ said t = tt
+
+  pub tied_after : (o : Option Line) → TiedBy d id o → (act : Act Note) (said : List ℕ) → Turns (mail_rules shows) d r s act said e q u → TiedBy e id (tell_line id s.moment o act)
+  tied_after None tied act said t = none_then act said t
+  tied_after (Some l) tied act said t = tied_then l tied act said t
+
+  pub right_at : (o : Option Line) → TiedBy d id o → (act : Act Note) (said : List ℕ) → Turns (mail_rules shows) d r s act said e q u → IfSome o (λ l. IsRight id s.moment l act)
+  right_at None tied act said t = tt
+  right_at (Some l) tied act said t = right_then l tied act said t

@@ -1,7 +1,6 @@
--- What was sent on a connection is a front of what its acts spell.
+-- What was sent on a connection is a front of what its acts spell, for any machine that says no more than that.
 use Rattle.std.proofs.Common.{◌≡◌, ◌⊎◌, inl, inr, ℕ, Bool, true, false, cond, List, [], ◌++◌, Option, Some, None, refl, sym, ◌∙◌, ap, subst, append_assoc, append-nil}
 use Rattle.std.specs.Cmp.{eq_by_cmp_equiv, nat_cmp_total}
-use Rattle.mailstore.specs.Account.{Accounts}
 use Rattle.wires.specs.declared.act.Act.{Act}
 use Rattle.wires.specs.declared.act.Act.TheVariants.{Woke, Began, Timed, Late, Waits, Roused, Worked, Came, NoneCame, Crowded, Displaced, Listened, InUse, Heard, ReadBlocked, Over, Sent, WriteBlocked, Lost, Noted, Full, Again, Shut, Dropped, Ended}
 use Rattle.wires.specs.declared.service.Client.{Client}
@@ -11,204 +10,231 @@ use Rattle.wires.specs.declared.turn.Turn.{Turn}
 use Rattle.wires.specs.declared.turn.Turn.TheVariants.{Leaving}
 use Rattle.wires.specs.declared.turn.Task.TheVariants.{Hear, Step}
 use Rattle.wires.specs.Life.{IsFrontOf}
+use Rattle.wires.specs.Rules.{Rules}
 use Rattle.wires.specs.Talk.{same, client_of, kind_of, newcomer, Comes, Answers, Sends, Parts, OrNothing, Shuts, Drops, At, Talks, after_span, max_unsent, max_parting}
 use Rattle.wires.specs.Turns.{Turns, Goes as Went, Parting, Opens as Enters}
 use Rattle.wires.proofs.TalkLemmas.{one_number, unsent_of}
-use Rattle.sieveddaemon.specs.Acts.{Line, new_line, noted, idled, tell}
-use Rattle.sieveddaemon.specs.DaemonRules.{daemon_rules, place_at, Gives, LacksFor}
-use Rattle.sieveddaemon.specs.Waiting.{said_with, greeting, idle}
-use Rattle.sieveddaemon.specs.declared.daemon.Daemon.{Daemon}
-use Rattle.sieveddaemon.specs.declared.note.Note.{Note}
 use Rattle.sieveddaemon.proofs.TurnLemmas.{IsEnd, ends, unsent_at, quiet}
-use Rattle.sieveddaemon.proofs.LineLemmas.{Tied}
+
+-- what a connection's acts spell since it came, and what was sent on it
+pub record Words : Type 0 where
+  pub spelled : List ℕ
+  pub sent : List ℕ
+
+abbrev pub spells : List ℕ → Words → Words
+spells octets l = record { spelled = l.spelled ++ octets; sent = l.sent }
+
+abbrev pub sends : List ℕ → Words → Words
+sends octets l = record { spelled = l.spelled; sent = l.sent ++ octets }
+
+-- of one that came
+abbrev pub begins : List ℕ → Words
+begins greeting = record { spelled = greeting; sent = [] }
 
 -- what was sent and what waits is all that is spelled; of one that is gone what was sent is a front of it
-abbrev pub Whole : Line → Option Client → Type 0
+abbrev pub Whole : Words → Option Client → Type 0
 Whole l None = IsFrontOf l.sent l.spelled
 Whole l (Some c) = l.sent ++ c.unsent ≡ l.spelled
 
 -- it is a front
-abbrev pub Part : Line → Option Client → Type 0
+abbrev pub Part : Words → Option Client → Type 0
 Part l None = IsFrontOf l.sent l.spelled
 Part l (Some c) = IsFrontOf (l.sent ++ c.unsent) l.spelled
 
 -- it is a front alone where nothing but the connection's end follows
-abbrev pub Fits : ℕ → Line → Option Client → Turn → Type 0
+abbrev pub Fits : ℕ → Words → Option Client → Turn → Type 0
 Fits id l o turn = Whole l o ⊎ (Part l o × ((kind : ℕ) × (turn ≡ Leaving id kind)))
 
-part_of : (l : Line) (o : Option Client) → Whole l o → Part l o
+part_of : (l : Words) (o : Option Client) → Whole l o → Part l o
 part_of l None whole = whole
 part_of l (Some c) whole = ([], append-nil (l.sent ++ c.unsent) ∙ whole)
 
-front_by : (l : Line) (o : Option Client) → Part l o → IsFrontOf l.sent l.spelled
+front_by : (l : Words) (o : Option Client) → Part l o → IsFrontOf l.sent l.spelled
 front_by l None part = part
 front_by l (Some c) part = (c.unsent ++ part.0, sym (append_assoc l.sent c.unsent part.0) ∙ part.1)
 
-pub front : (id : ℕ) (l : Line) (o : Option Client) (turn : Turn) → Fits id l o turn → IsFrontOf l.sent l.spelled
+pub front : (id : ℕ) (l : Words) (o : Option Client) (turn : Turn) → Fits id l o turn → IsFrontOf l.sent l.spelled
 front id l o turn (inl whole) = front_by l o (part_of l o whole)
 front id l o turn (inr part) = front_by l o part.0
 
 -- ---- one act of it
 
 -- all is sent where nothing waits
-all_sent : (l : Line) (c : Client) → l.sent ++ c.unsent ≡ l.spelled → c.unsent ≡ [] → l.sent ≡ l.spelled
+all_sent : (l : Words) (c : Client) → l.sent ++ c.unsent ≡ l.spelled → c.unsent ≡ [] → l.sent ≡ l.spelled
 all_sent l c whole none = sym (append-nil l.sent) ∙ ap (λ t. l.sent ++ t) (sym none) ∙ whole
 
-said_more : (l : Line) (o p : Option Client) (c d : Client) (said : List ℕ) → Whole l o → unsent_of o ≡ [] → o ≡ Some c → p ≡ Some d → d.unsent ≡ said → Whole (record l { spelled = l.spelled ++ said }) p
+said_more : (l : Words) (o p : Option Client) (c d : Client) (said : List ℕ) → Whole l o → unsent_of o ≡ [] → o ≡ Some c → p ≡ Some d → d.unsent ≡ said → Whole (spells said l) p
 said_more l o p c d said whole none was is says =
     let here : l.sent ++ c.unsent ≡ l.spelled = subst (λ x. Whole l x) was whole in
     let empty : c.unsent ≡ [] = subst (λ x. unsent_of x ≡ []) was none in
-    subst (λ x. Whole (record l { spelled = l.spelled ++ said }) x) (sym is) (ap (λ t. l.sent ++ t) says ∙ ap (λ t. t ++ said) (all_sent l c here empty))
+    subst (λ x. Whole (spells said l) x) (sym is) (ap (λ t. l.sent ++ t) says ∙ ap (λ t. t ++ said) (all_sent l c here empty))
 
-answered : (l : Line) (now : ℕ) (said : List ℕ) (o p : Option Client) → Whole l o → unsent_of o ≡ [] → Answers now said o p → Whole (record l { spelled = l.spelled ++ said }) p
+answered : (l : Words) (now : ℕ) (said : List ℕ) (o p : Option Client) → Whole l o → unsent_of o ≡ [] → Answers now said o p → Whole (spells said l) p
 answered l now said o p whole none a = said_more l o p a.before (record a.before { unsent = said; until = after_span now max_unsent }) said whole none a.was a.after refl
 
-parted : (l : Line) (now : ℕ) (said : List ℕ) (o p : Option Client) → Whole l o → Parts now said o p → Whole (record l { spelled = l.spelled ++ said }) p
+parted : (l : Words) (now : ℕ) (said : List ℕ) (o p : Option Client) → Whole l o → Parts now said o p → Whole (spells said l) p
 parted l now said o p whole a = said_more l o p a.before (record a.before { unsent = said; phase = phase.Closing; until = after_span now max_parting }) said whole (quiet o a.quiet) a.was a.after refl
 
-silent : (l : Line) (p : Option Client) (said : List ℕ) → said ≡ [] → Whole (record l { spelled = l.spelled ++ said }) p → Whole l p
-silent l p said none whole = subst (λ t. Whole (record l { spelled = t }) p) (ap (λ t. l.spelled ++ t) none ∙ append-nil l.spelled) whole
+silent : (l : Words) (p : Option Client) (said : List ℕ) → said ≡ [] → Whole (spells said l) p → Whole l p
+silent l p said none whole = subst (λ t. Whole (record { spelled = t; sent = l.sent }) p) (ap (λ t. l.spelled ++ t) none ∙ append-nil l.spelled) whole
 
-heard : (l : Line) (now : ℕ) (said : List ℕ) (o p : Option Client) → Whole l o → unsent_of o ≡ [] → said ≡ [] → OrNothing (Answers now said o p) said o p → Whole l p
+heard : (l : Words) (now : ℕ) (said : List ℕ) (o p : Option Client) → Whole l o → unsent_of o ≡ [] → said ≡ [] → OrNothing (Answers now said o p) said o p → Whole l p
 heard l now said o p whole none quiet (inl a) = silent l p said quiet (answered l now said o p whole none a)
 heard l now said o p whole none quiet (inr a) = subst (λ x. Whole l x) (sym a.1) whole
 
-sent : (l : Line) (now : ℕ) (octets : List ℕ) (o p : Option Client) → Whole l o → Sends now octets o p → Whole (record l { sent = l.sent ++ octets }) p
+sent : (l : Words) (now : ℕ) (octets : List ℕ) (o p : Option Client) → Whole l o → Sends now octets o p → Whole (sends octets l) p
 sent l now octets o p whole a =
     let here : l.sent ++ a.before.unsent ≡ l.spelled = subst (λ x. Whole l x) a.was whole in
-    subst (λ x. Whole (record l { sent = l.sent ++ octets }) x) (sym a.after) (append_assoc l.sent octets a.rest ∙ ap (λ t. l.sent ++ t) (sym a.front) ∙ here)
+    subst (λ x. Whole (sends octets l) x) (sym a.after) (append_assoc l.sent octets a.rest ∙ ap (λ t. l.sent ++ t) (sym a.front) ∙ here)
 
-shut : (l : Line) (now : ℕ) (o p : Option Client) → Whole l o → Shuts now o p → Whole l p
+shut : (l : Words) (now : ℕ) (o p : Option Client) → Whole l o → Shuts now o p → Whole l p
 shut l now o p whole a =
     let here : l.sent ++ a.before.unsent ≡ l.spelled = subst (λ x. Whole l x) a.was whole in
     subst (λ x. Whole l x) (sym a.after) here
 
-dropped : (l : Line) (count : ℕ) (o p : Option Client) → Whole l o → Drops count o p → Whole l p
+dropped : (l : Words) (count : ℕ) (o p : Option Client) → Whole l o → Drops count o p → Whole l p
 dropped l count o p whole a =
     let here : l.sent ++ a.before.unsent ≡ l.spelled = subst (λ x. Whole l x) a.was whole in
     subst (λ x. Whole l x) (sym a.after) here
 
 -- one that came
-new_one : (now n kind : ℕ) (said : List ℕ) (p : Option Client) → said ≡ greeting → (p ≡ Some (newcomer now n kind said)) ⊎ (p ≡ None) → Whole new_line p
-new_one now n kind said p greets (inl is) = let whole : Whole new_line (Some (newcomer now n kind said)) = greets in subst (λ x. Whole new_line x) (sym is) whole
-new_one now n kind said p greets (inr is) = let none : Whole new_line None = (greeting, refl) in subst (λ x. Whole new_line x) (sym is) none
+new_one : (now n kind : ℕ) (greeting said : List ℕ) (p : Option Client) → said ≡ greeting → p ≡ Some (newcomer now n kind said) → Whole (begins greeting) p
+new_one now n kind greeting said p greets is = let whole : Whole (begins greeting) (Some (newcomer now n kind said)) = greets in subst (λ x. Whole (begins greeting) x) (sym is) whole
 
-gone_one : (p : Option Client) → p ≡ None → Whole new_line p
-gone_one p is = let none : Whole new_line None = (greeting, refl) in subst (λ x. Whole new_line x) (sym is) none
+gone_one : (greeting : List ℕ) (p : Option Client) → p ≡ None → Whole (begins greeting) p
+gone_one greeting p is = let none : Whole (begins greeting) None = (greeting, refl) in subst (λ x. Whole (begins greeting) x) (sym is) none
 
 -- one that was late, and to which nothing is said: its end follows
-still_part : (l : Line) (o : Option Client) → Part l o → Part (idled l) o
-still_part l None part = (part.0 ++ idle, sym (append_assoc l.sent part.0 idle) ∙ ap (λ t. t ++ idle) part.1)
-still_part l (Some c) part = (part.0 ++ idle, sym (append_assoc (l.sent ++ c.unsent) part.0 idle) ∙ ap (λ t. t ++ idle) part.1)
+still_part : (word : List ℕ) (l : Words) (o : Option Client) → Part l o → Part (spells word l) o
+still_part word l None part = (part.0 ++ word, sym (append_assoc l.sent part.0 word) ∙ ap (λ t. t ++ word) part.1)
+still_part word l (Some c) part = (part.0 ++ word, sym (append_assoc (l.sent ++ c.unsent) part.0 word) ∙ ap (λ t. t ++ word) part.1)
 
-said_nothing : (l : Line) (now : ℕ) (said : List ℕ) (o p : Option Client) → Whole l o → said ≡ [] → OrNothing (Parts now said o p) said o p → Part (idled l) p
-said_nothing l now said o p whole none (inl a) = still_part l p (part_of l p (silent l p said none (parted l now said o p whole a)))
-said_nothing l now said o p whole none (inr a) = still_part l p (subst (λ x. Part l x) (sym a.1) (part_of l o whole))
+said_nothing : (word : List ℕ) (l : Words) (now : ℕ) (said : List ℕ) (o p : Option Client) → Whole l o → said ≡ [] → OrNothing (Parts now said o p) said o p → Part (spells word l) p
+said_nothing word l now said o p whole none (inl a) = still_part word l p (part_of l p (silent l p said none (parted l now said o p whole a)))
+said_nothing word l now said o p whole none (inr a) = still_part word l p (subst (λ x. Part l x) (sym a.1) (part_of l o whole))
 
-idle_some : [] ≡ idle → ⊥
-idle_some is = cc
-
-said_idle : (l : Line) (now : ℕ) (said : List ℕ) (o p : Option Client) → Whole l o → said ≡ idle → OrNothing (Parts now said o p) said o p → Whole (idled l) p
-said_idle l now said o p whole is (inl a) = subst (λ t. Whole (record l { spelled = l.spelled ++ t }) p) is (parted l now said o p whole a)
-said_idle l now said o p whole is (inr a) = absurd (idle_some (sym a.0 ∙ is))
+said_word : (word : List ℕ) → ([] ≡ word → ⊥) → (l : Words) (now : ℕ) (said : List ℕ) (o p : Option Client) → Whole l o → said ≡ word → OrNothing (Parts now said o p) said o p → Whole (spells word l) p
+said_word word some l now said o p whole is (inl a) = subst (λ t. Whole (spells t l) p) is (parted l now said o p whole a)
+said_word word some l now said o p whole is (inr a) = absurd (some (sym a.0 ∙ is))
 
 -- ---- each act
 
-module _ {R : Type 0} (shows : R → Accounts → Type 0) (d e : Daemon) (r q : R) (s u : Service) (id : ℕ) (l : Line) (tied : Tied d id l) where
-  abbrev After : Act Note → Type 0
-  After act = Fits id (tell id s.moment l act) (client_of u id) u.turn
+module _ {M N R : Type 0} (rules : Rules M N R) (m n : M) (r q : R) (s u : Service) (id : ℕ) (word : List ℕ) where
+  -- what an act spells of it or sends to it; `said` is what the machine says then, and `word` what it says last to one that is late
+  abbrev pub words_after : List ℕ → Words → Act N → Words
+  words_after said l (Noted k note) = cond (same k id) (spells said l) l
+  words_after said l (Late k) = cond (same k id) (spells word l) l
+  words_after said l (Displaced k) = cond (same k id) (spells word l) l
+  words_after said l (Sent k octets) = cond (same k id) (sends octets l) l
+  words_after said l _ = l
 
-  at : (b : Bool) (k : Line) (changes : Type 0) → (b ≡ true → changes → Whole k (client_of u id)) → Whole l (client_of s id) → At b changes (client_of u id ≡ client_of s id) → Whole (cond b k l) (client_of u id)
-  at true k changes put whole talks = put refl talks
-  at false k changes put whole talks = subst (λ x. Whole l x) (sym talks) whole
+  -- to one that came its greeting is said first
+  pub fits_new : (k kind : ℕ) (greeting said : List ℕ) → same k id ≡ true → (rules.opens m s.moment kind k said n → said ≡ greeting) → Enters rules m s.moment k kind said n u → Fits id (begins greeting) (client_of u id) u.turn
+  fits_new k kind greeting said is greets (inl o) = inl (new_one s.moment k kind greeting said (client_of u id) (greets o.0) (ap (λ x. client_of u x) (sym (one_number k id is)) ∙ o.1))
+  fits_new k kind greeting said is greets (inr o) = inl (gone_one greeting (client_of u id) (ap (λ x. client_of u x) (sym (one_number k id is)) ∙ o.0))
 
-  at_same : (b : Bool) (changes : Type 0) → (b ≡ true → changes → Whole l (client_of u id)) → Whole l (client_of s id) → At b changes (client_of u id ≡ client_of s id) → Whole l (client_of u id)
-  at_same true changes put whole talks = put refl talks
-  at_same false changes put whole talks = subst (λ x. Whole l x) (sym talks) whole
+  module _ (l : Words) (some : [] ≡ word → ⊥)
+      (gives_silent : (piece said : List ℕ) → rules.gives m s.moment id piece said n → said ≡ [])
+      (lates_say : (said : List ℕ) → rules.lates m s.moment id said n → said ≡ word) where
+    abbrev After : List ℕ → Act N → Type 0
+    After said act = Fits id (words_after said l act) (client_of u id) u.turn
 
-  came : (n kind : ℕ) (said : List ℕ) → same n id ≡ true → Enters (daemon_rules shows) d s.moment n kind said e u → Whole new_line (client_of u id)
-  came n kind said is (inl o) = new_one s.moment n kind said (client_of u id) o.0.says (inl (ap (λ k. client_of u k) (sym (one_number n id is)) ∙ o.1))
-  came n kind said is (inr o) = gone_one (client_of u id) (ap (λ k. client_of u k) (sym (one_number n id is)) ∙ o.0)
+    at : (b : Bool) (k : Words) (changes : Type 0) → (b ≡ true → changes → Whole k (client_of u id)) → Whole l (client_of s id) → At b changes (client_of u id ≡ client_of s id) → Whole (cond b k l) (client_of u id)
+    at true k changes put whole talks = put refl talks
+    at false k changes put whole talks = subst (λ x. Whole l x) (sym talks) whole
 
-  gives_silent : (n count : ℕ) (piece said : List ℕ) → Went (Gives d s.moment n piece said e) (LacksFor d n e) n (kind_of (client_of s n)) count said u.turn → said ≡ []
-  gives_silent n count piece said (inl g) = g.0.silent
-  gives_silent n count piece said (inr g) = g.1
+    at_same : (b : Bool) (changes : Type 0) → (b ≡ true → changes → Whole l (client_of u id)) → Whole l (client_of s id) → At b changes (client_of u id ≡ client_of s id) → Whole l (client_of u id)
+    at_same true changes put whole talks = put refl talks
+    at_same false changes put whole talks = subst (λ x. Whole l x) (sym talks) whole
 
-  hears : (n : ℕ) (piece said : List ℕ) → same n id ≡ true → Whole l (client_of s id) → Turns (daemon_rules shows) d r s (Heard n piece) said e q u
-      → OrNothing (Answers s.moment said (client_of s id) (client_of u id)) said (client_of s id) (client_of u id) → Whole l (client_of u id)
-  hears n piece said is whole t talks =
-      let none : unsent_of (client_of s id) ≡ [] = ap (λ k. unsent_of (client_of s k)) (sym (one_number n id is)) ∙ unsent_at (daemon_rules shows) d s.moment n (client_of s n) Hear (λ is. cc) t.wanted.task in
-      heard l s.moment said (client_of s id) (client_of u id) whole none (gives_silent n t.count piece said t.goes) talks
+    is_silent : (k count : ℕ) (piece said : List ℕ) → same k id ≡ true → Went (rules.gives m s.moment k piece said n) (rules.lacks m k n) k (kind_of (client_of s k)) count said u.turn → said ≡ []
+    is_silent k count piece said is (inl g) = gives_silent piece said (subst (λ x. rules.gives m s.moment x piece said n) (one_number k id is) g.0)
+    is_silent k count piece said is (inr g) = g.1
 
-  notes : (n : ℕ) (note : Note) (said : List ℕ) → same n id ≡ true → Whole l (client_of s id) → Turns (daemon_rules shows) d r s (Noted n note) said e q u
-      → Answers s.moment said (client_of s id) (client_of u id) → Whole (noted s.moment l note) (client_of u id)
-  notes n note said is whole t talks =
-      let none : unsent_of (client_of s id) ≡ [] = ap (λ k. unsent_of (client_of s k)) (sym (one_number n id is)) ∙ unsent_at (daemon_rules shows) d s.moment n (client_of s n) Step (λ is. cc) t.1.1.task in
-      let waits : t.0.before.waits ≡ l.waits = tied t.0.before (ap (λ k. place_at d k) (sym (one_number n id is)) ∙ t.0.was) in
-      let says : said ≡ said_with l.waits note = t.0.says ∙ ap (λ w. said_with w note) waits in
-      subst (λ x. Whole (record l { spelled = l.spelled ++ x }) (client_of u id)) says (answered l s.moment said (client_of s id) (client_of u id) whole none talks)
+    hears : (k : ℕ) (piece said : List ℕ) → same k id ≡ true → Whole l (client_of s id) → Turns rules m r s (Heard k piece) said n q u
+        → OrNothing (Answers s.moment said (client_of s id) (client_of u id)) said (client_of s id) (client_of u id) → Whole l (client_of u id)
+    hears k piece said is whole t talks =
+        let none : unsent_of (client_of s id) ≡ [] = ap (λ x. unsent_of (client_of s x)) (sym (one_number k id is)) ∙ unsent_at rules m s.moment k (client_of s k) Hear (λ is. cc) t.wanted.task in
+        heard l s.moment said (client_of s id) (client_of u id) whole none (is_silent k t.count piece said is t.goes) talks
 
-  -- one that was late
-  lates : (n : ℕ) (said : List ℕ) → same n id ≡ true → Whole l (client_of s id) → Parting (daemon_rules shows) d s n said e u
-      → OrNothing (Parts s.moment said (client_of s id) (client_of u id)) said (client_of s id) (client_of u id) → Fits id (idled l) (client_of u id) u.turn
-  lates n said is whole (inl p) talks = inl (said_idle l s.moment said (client_of s id) (client_of u id) whole p.1.0 talks)
-  lates n said is whole (inr (inl p)) talks =
-      inr (said_nothing l s.moment said (client_of s id) (client_of u id) whole p.0 talks, (kind_of (client_of s n), p.1 ∙ ap (λ k. Leaving k (kind_of (client_of s n))) (one_number n id is)))
-  lates n said is whole (inr (inr p)) talks =
-      inr (said_nothing l s.moment said (client_of s id) (client_of u id) whole p.0 talks, (kind_of (client_of s n), p.1 ∙ ap (λ k. Leaving k (kind_of (client_of s n))) (one_number n id is)))
+    notes : (k : ℕ) (note : N) (said : List ℕ) → same k id ≡ true → Whole l (client_of s id) → Turns rules m r s (Noted k note) said n q u
+        → Answers s.moment said (client_of s id) (client_of u id) → Whole (spells said l) (client_of u id)
+    notes k note said is whole t talks =
+        let none : unsent_of (client_of s id) ≡ [] = ap (λ x. unsent_of (client_of s x)) (sym (one_number k id is)) ∙ unsent_at rules m s.moment k (client_of s k) Step (λ is. cc) t.1.1.task in
+        answered l s.moment said (client_of s id) (client_of u id) whole none talks
 
-  late_at : (b : Bool) (n : ℕ) (said : List ℕ) → same n id ≡ b → Whole l (client_of s id) → Parting (daemon_rules shows) d s n said e u
-      → At b (OrNothing (Parts s.moment said (client_of s id) (client_of u id)) said (client_of s id) (client_of u id)) (client_of u id ≡ client_of s id) → Fits id (cond b (idled l) l) (client_of u id) u.turn
-  late_at true n said is whole p talks = lates n said is whole p talks
-  late_at false n said is whole p talks = inl (subst (λ x. Whole l x) (sym talks) whole)
+    -- one that was late
+    lates : (k : ℕ) (said : List ℕ) → same k id ≡ true → Whole l (client_of s id) → Parting rules m s k said n u
+        → OrNothing (Parts s.moment said (client_of s id) (client_of u id)) said (client_of s id) (client_of u id) → Fits id (spells word l) (client_of u id) u.turn
+    lates k said is whole (inl p) talks =
+        inl (said_word word some l s.moment said (client_of s id) (client_of u id) whole (lates_say said (subst (λ x. rules.lates m s.moment x said n) (one_number k id is) p.1)) talks)
+    lates k said is whole (inr (inl p)) talks =
+        inr (said_nothing word l s.moment said (client_of s id) (client_of u id) whole p.0 talks, (kind_of (client_of s k), p.1 ∙ ap (λ x. Leaving x (kind_of (client_of s k))) (one_number k id is)))
+    lates k said is whole (inr (inr p)) talks =
+        inr (said_nothing word l s.moment said (client_of s id) (client_of u id) whole p.0 talks, (kind_of (client_of s k), p.1 ∙ ap (λ x. Leaving x (kind_of (client_of s k))) (one_number k id is)))
 
-  not_other : (n : ℕ) → n ≡ id → same n id ≡ false → ⊥
-  not_other n is other =
-      let one : same id id ≡ true = (eq_by_cmp_equiv nat_cmp_total).refl id in
-      let two : same id id ≡ false = subst (λ k. same k id ≡ false) is other in
-      cc
+    late_at : (b : Bool) (k : ℕ) (said : List ℕ) → same k id ≡ b → Whole l (client_of s id) → Parting rules m s k said n u
+        → At b (OrNothing (Parts s.moment said (client_of s id) (client_of u id)) said (client_of s id) (client_of u id)) (client_of u id ≡ client_of s id) → Fits id (cond b (spells word l) l) (client_of u id) u.turn
+    late_at true k said is whole p talks = lates k said is whole p talks
+    late_at false k said is whole p talks = inl (subst (λ x. Whole l x) (sym talks) whole)
 
-  ended_at : (b : Bool) → At b (client_of u id ≡ None) (client_of u id ≡ client_of s id) → Part l (client_of s id) → (b ≡ false → Whole l (client_of s id)) → Whole l (client_of u id)
-  ended_at true talks part whole = let none : Whole l None = front_by l (client_of s id) part in subst (λ x. Whole l x) (sym talks) none
-  ended_at false talks part whole = subst (λ x. Whole l x) (sym talks) (whole refl)
+    not_other : (k : ℕ) → k ≡ id → same k id ≡ false → ⊥
+    not_other k is other =
+        let one : same id id ≡ true = (eq_by_cmp_equiv nat_cmp_total).refl id in
+        let two : same id id ≡ false = subst (λ x. same x id ≡ false) is other in
+        cc
 
-  stays : Whole l (client_of s id) → client_of u id ≡ client_of s id → Fits id l (client_of u id) u.turn
-  stays whole is = inl (subst (λ x. Whole l x) (sym is) whole)
+    ended_at : (b : Bool) → At b (client_of u id ≡ None) (client_of u id ≡ client_of s id) → Part l (client_of s id) → (b ≡ false → Whole l (client_of s id)) → Whole l (client_of u id)
+    ended_at true talks part whole = let none : Whole l None = front_by l (client_of s id) part in subst (λ x. Whole l x) (sym talks) none
+    ended_at false talks part whole = subst (λ x. Whole l x) (sym talks) (whole refl)
 
-  whole_after : (act : Act Note) (said : List ℕ) → Whole l (client_of s id) → Turns (daemon_rules shows) d r s act said e q u → Talks s.moment id (client_of s id) act said (client_of u id) → After act
-  whole_after (Came n kind) said whole t talks = inl (at (same n id) new_line (Comes s.moment n kind said (client_of s id) (client_of u id)) (λ is c. came n kind said is t.3) whole talks)
-  whole_after (Heard n piece) said whole t talks =
-      inl (at_same (same n id) (OrNothing (Answers s.moment said (client_of s id) (client_of u id)) said (client_of s id) (client_of u id)) (λ is c. hears n piece said is whole t c) whole talks)
-  whole_after (Noted n note) said whole t talks = inl (at (same n id) (noted s.moment l note) (Answers s.moment said (client_of s id) (client_of u id)) (λ is c. notes n note said is whole t c) whole talks)
-  whole_after (Late n) said whole t talks = late_at (same n id) n said refl whole t.2 talks
-  whole_after (Displaced n) said whole t talks = late_at (same n id) n said refl whole t.1 talks
-  whole_after (Listened kind) said whole t talks = stays whole talks
-  whole_after (Sent n octets) said whole t talks =
-      inl (at (same n id) (record l { sent = l.sent ++ octets }) (Sends s.moment octets (client_of s id) (client_of u id)) (λ is c. sent l s.moment octets (client_of s id) (client_of u id) whole c) whole talks)
-  whole_after (Shut n) said whole t talks = inl (at_same (same n id) (Shuts s.moment (client_of s id) (client_of u id)) (λ is c. shut l s.moment (client_of s id) (client_of u id) whole c) whole talks)
-  whole_after (Dropped n count) said whole t talks = inl (at_same (same n id) (Drops count (client_of s id) (client_of u id)) (λ is c. dropped l count (client_of s id) (client_of u id) whole c) whole talks)
-  whole_after (Ended n) said whole t talks = inl (ended_at (same n id) talks (part_of l (client_of s id) whole) (λ is. whole))
-  whole_after (Woke within wakes) said whole t talks = stays whole talks
-  whole_after (Timed moment) said whole t talks = stays whole talks
-  whole_after (Began wake) said whole t talks = stays whole talks
-  whole_after (Roused n) said whole t talks = stays whole talks
-  whole_after (Worked note) said whole t talks = stays whole talks
-  whole_after (NoneCame kind) said whole t talks = stays whole talks
-  whole_after (Crowded kind) said whole t talks = stays whole talks
-  whole_after (InUse n) said whole t talks = stays whole talks
-  whole_after (ReadBlocked n) said whole t talks = stays whole talks
-  whole_after (Over n) said whole t talks = stays whole talks
-  whole_after (WriteBlocked n) said whole t talks = stays whole talks
-  whole_after (Lost n) said whole t talks = stays whole talks
-  whole_after (Waits n) said whole t talks = stays whole talks
-  whole_after (Full n) said whole t talks = stays whole talks
-  whole_after (Again n) said whole t talks = stays whole talks
+    stays : Whole l (client_of s id) → client_of u id ≡ client_of s id → Fits id l (client_of u id) u.turn
+    stays whole is = inl (subst (λ x. Whole l x) (sym is) whole)
 
-  -- where its end has to follow, it does
-  ending : (act : Act Note) (said : List ℕ) → Part l (client_of s id) → Talks s.moment id (client_of s id) act said (client_of u id) → IsEnd id act → After act
-  ending (Ended n) said part talks end = inl (ended_at (same n id) talks part (λ other. absurd (not_other n end other)))
-  ending _ said part talks end = absurd end
+    -- another came
+    came_other : (b : Bool) (k kind : ℕ) (said : List ℕ) → b ≡ false → Whole l (client_of s id) → At b (Comes s.moment k kind said (client_of s id) (client_of u id)) (client_of u id ≡ client_of s id) → Fits id l (client_of u id) u.turn
+    came_other true k kind said other whole talks = let never : ⊥ = cc in absurd never
+    came_other false k kind said other whole talks = stays whole talks
 
-  pub fits_after : (act : Act Note) (said : List ℕ) → Fits id l (client_of s id) s.turn → Turns (daemon_rules shows) d r s act said e q u → Talks s.moment id (client_of s id) act said (client_of u id) → After act
-  fits_after act said (inl whole) t talks = whole_after act said whole t talks
-  fits_after act said (inr part) t talks = ending act said part.0 talks (ends (daemon_rules shows) d e r q s u id part.1.0 part.1.1 act said t)
+    -- the connection itself didn't come
+    abbrev IsOther : Act N → Type 0
+    IsOther (Came k kind) = same k id ≡ false
+    IsOther act = Unit {0}
+
+    whole_after : (act : Act N) (said : List ℕ) → IsOther act → Whole l (client_of s id) → Turns rules m r s act said n q u → Talks s.moment id (client_of s id) act said (client_of u id) → After said act
+    whole_after (Came k kind) said other whole t talks = came_other (same k id) k kind said other whole talks
+    whole_after (Heard k piece) said other whole t talks =
+        inl (at_same (same k id) (OrNothing (Answers s.moment said (client_of s id) (client_of u id)) said (client_of s id) (client_of u id)) (λ is c. hears k piece said is whole t c) whole talks)
+    whole_after (Noted k note) said other whole t talks = inl (at (same k id) (spells said l) (Answers s.moment said (client_of s id) (client_of u id)) (λ is c. notes k note said is whole t c) whole talks)
+    whole_after (Late k) said other whole t talks = late_at (same k id) k said refl whole t.2 talks
+    whole_after (Displaced k) said other whole t talks = late_at (same k id) k said refl whole t.1 talks
+    whole_after (Listened kind) said other whole t talks = stays whole talks
+    whole_after (Sent k octets) said other whole t talks =
+        inl (at (same k id) (sends octets l) (Sends s.moment octets (client_of s id) (client_of u id)) (λ is c. sent l s.moment octets (client_of s id) (client_of u id) whole c) whole talks)
+    whole_after (Shut k) said other whole t talks = inl (at_same (same k id) (Shuts s.moment (client_of s id) (client_of u id)) (λ is c. shut l s.moment (client_of s id) (client_of u id) whole c) whole talks)
+    whole_after (Dropped k count) said other whole t talks = inl (at_same (same k id) (Drops count (client_of s id) (client_of u id)) (λ is c. dropped l count (client_of s id) (client_of u id) whole c) whole talks)
+    whole_after (Ended k) said other whole t talks = inl (ended_at (same k id) talks (part_of l (client_of s id) whole) (λ is. whole))
+    whole_after (Woke within wakes) said other whole t talks = stays whole talks
+    whole_after (Timed moment) said other whole t talks = stays whole talks
+    whole_after (Began wake) said other whole t talks = stays whole talks
+    whole_after (Roused k) said other whole t talks = stays whole talks
+    whole_after (Worked note) said other whole t talks = stays whole talks
+    whole_after (NoneCame kind) said other whole t talks = stays whole talks
+    whole_after (Crowded kind) said other whole t talks = stays whole talks
+    whole_after (InUse k) said other whole t talks = stays whole talks
+    whole_after (ReadBlocked k) said other whole t talks = stays whole talks
+    whole_after (Over k) said other whole t talks = stays whole talks
+    whole_after (WriteBlocked k) said other whole t talks = stays whole talks
+    whole_after (Lost k) said other whole t talks = stays whole talks
+    whole_after (Waits k) said other whole t talks = stays whole talks
+    whole_after (Full k) said other whole t talks = stays whole talks
+    whole_after (Again k) said other whole t talks = stays whole talks
+
+    -- where its end has to follow, it does
+    ending : (act : Act N) (said : List ℕ) → Part l (client_of s id) → Talks s.moment id (client_of s id) act said (client_of u id) → IsEnd id act → After said act
+    ending (Ended k) said part talks end = inl (ended_at (same k id) talks part (λ other. absurd (not_other k end other)))
+    ending _ said part talks end = absurd end
+
+    pub fits_after : (act : Act N) (said : List ℕ) → IsOther act → Fits id l (client_of s id) s.turn → Turns rules m r s act said n q u → Talks s.moment id (client_of s id) act said (client_of u id) → After said act
+    fits_after act said other (inl whole) t talks = whole_after act said other whole t talks
+    fits_after act said other (inr part) t talks = ending act said part.0 talks (ends rules m n r q s u id part.1.0 part.1.1 act said t)

@@ -21,7 +21,7 @@ use Rattle.sieveddaemon.specs.Waiting.{Allows, MayAsk, MayGiveUp, said_at_once, 
 use Rattle.sieveddaemon.specs.declared.daemon.Daemon.{Daemon}
 use Rattle.sieveddaemon.specs.declared.daemon.Holding.{Holding}
 use Rattle.sieveddaemon.specs.declared.note.Note.{Note}
-use Rattle.sieveddaemon.specs.declared.note.Note.TheVariants.{Did, Away, Freed, Spoke, Looked}
+use Rattle.sieveddaemon.specs.declared.note.Note.TheVariants.{Did, Away, Freed, Spoke, Answered, Asked, Looked}
 use Rattle.sieveddaemon.specs.declared.place.Place.{Place}
 use Rattle.sieveddaemon.specs.declared.place.Waits.{Waits}
 
@@ -120,6 +120,8 @@ module _ {O R : Type 0} (tells : O → Bool) (seen : O → List (Act Note)) (res
   kept_makes Away keeps makes = record { shown = makes.shown; kept = λ clients has. makes.kept clients (keeps clients has) }
   kept_makes Spoke keeps makes = record { shown = makes.shown; kept = λ clients has. makes.kept clients (keeps clients has) }
   kept_makes (Freed event answer) keeps makes = (makes.0, λ w has. makes.1 w (keeps w.sessions has))
+  kept_makes Answered keeps makes = makes
+  kept_makes (Asked others user lookup) keeps makes = makes
   kept_makes (Looked wanted) keeps makes = makes
 
   kept_asks : (note : Note) → KeepsClients d.clients.sessions c.sessions → AsksFor id note c.sessions → AsksFor id note d.clients.sessions
@@ -127,6 +129,8 @@ module _ {O R : Type 0} (tells : O → Bool) (seen : O → List (Act Note)) (res
   kept_asks Away keeps asks = asks_before id d.clients.sessions c.sessions keeps asks
   kept_asks Spoke keeps asks = tt
   kept_asks (Freed event answer) keeps asks = tt
+  kept_asks Answered keeps asks = tt
+  kept_asks (Asked others user lookup) keeps asks = tt
   kept_asks (Looked wanted) keeps asks = tt
 
   pub behind : KeepsClients d.clients.sessions c.sessions → StepsIf tells seen rest (daemon_rules shows) o (mid_of d c d.holding) now id said p e → StepsIf tells seen rest (daemon_rules shows) o d now id said p e

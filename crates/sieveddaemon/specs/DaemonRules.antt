@@ -17,14 +17,17 @@ use Rattle.sieveddaemon.specs.Waiting.{Allows, IsDue, said_with, greeting, idle}
 use Rattle.sieveddaemon.specs.declared.daemon.Daemon.{Daemon}
 use Rattle.sieveddaemon.specs.declared.daemon.Holding.{Holding}
 use Rattle.sieveddaemon.specs.declared.note.Note.{Note}
-use Rattle.sieveddaemon.specs.declared.note.Note.TheVariants.{Did, Away, Freed, Spoke, Looked}
+use Rattle.sieveddaemon.specs.declared.note.Note.TheVariants.{Did, Away, Freed, Spoke, Asked, Looked}
 use Rattle.sieveddaemon.specs.declared.place.Place.{Place}
 use Rattle.sieveddaemon.specs.declared.place.Waits.{Waits}
 use Rattle.sieveddaemon.specs.declared.place.Waits.TheVariants as waits
 
--- the kind of the connections of ManageSieve, and how many of it there may be
+-- the kinds of the connections of ManageSieve and of LMTP, and how many of the first there may be
 abbrev pub managesieve : ℕ
 managesieve = 0
+
+abbrev pub lmtp : ℕ
+lmtp = 1
 
 abbrev pub max_clients : ℕ
 max_clients = 50
@@ -114,6 +117,7 @@ had_at now d = record d { holding = asked_at now }
 -- behind an event that asked the store it is had, and it is looked at once whether somebody waits for it
 abbrev pub holding_behind : ℕ → Note → Holding → Holding
 holding_behind now (Did others event answer) h = asked_at now
+holding_behind now (Asked others user lookup) h = asked_at now
 holding_behind now _ h = h
 
 -- what its connection waits for allows the note, which says what is done, what is said, and what is waited for then

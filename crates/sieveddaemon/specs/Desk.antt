@@ -1,17 +1,22 @@
 -- What bringing an event to the store comes to.
-use Rattle.std.specs.Prelude.{◌≡◌, ℕ, ◌||◌, Bool, List, [], ◌∷◌, Option, Some, None, IsTrue}
+use Rattle.std.specs.Prelude.{◌≡◌, ℕ, ◌||◌, Bool, List, [], ◌∷◌, Option, Some, None, IsSome, IsTrue}
+use Rattle.lmtp.specs.declared.receiver.Lookup.{Lookup}
+use Rattle.lmtp.specs.declared.receiver.Lookup.TheVariants.{Known, Unknown, Away as Absent}
 use Rattle.std.specs.FinMap.{get}
 use Rattle.mailstore.specs.Account.{Accounts}
+use Rattle.sqlite.specs.State.{State, HasCleanDisk}
+use Rattle.sessions.specs.Acts.{HasAccounts}
 use Rattle.mailengine.specs.Hosts.{Kept, HasClients, KeepsClients}
 use Rattle.mailengine.specs.World.{World, Clients, Next, Runs}
 use Rattle.mailengine.specs.declared.answer.Answer.{Answer}
 use Rattle.mailengine.specs.declared.event.Event.{Event}
-use Rattle.mailengine.specs.declared.event.Event.TheVariants.{Open, Give, Step, GiveUp, Close}
+use Rattle.mailengine.specs.declared.event.Event.TheVariants.{Open, Give, Step, GiveUp, Close, Deliver}
+use Rattle.mailposts.specs.declared.demand.Parcel.{Parcel}
 use Rattle.wires.specs.declared.act.Act.{Act}
 use Rattle.wires.specs.declared.act.Act.TheVariants.{Noted, Worked}
 use Rattle.wires.specs.Told.{TellsIf}
 use Rattle.sieveddaemon.specs.declared.note.Note.{Note}
-use Rattle.sieveddaemon.specs.declared.note.Note.TheVariants.{Did, Away, Looked}
+use Rattle.sieveddaemon.specs.declared.note.Note.TheVariants.{Did, Away, Asked, Looked}
 
 -- whatever accounts were shown, they are shown
 abbrev pub StillShows : {R : Type 0} → (R → Accounts → Type 0) → R → R → Type 0
@@ -72,3 +77,42 @@ Looks tells seen rest shows clean old rests gave new =
 -- the same, where it is told
 abbrev pub StillShowsIf : {O R : Type 0} → (O → Bool) → (O → R) → (R → Accounts → Type 0) → O → O → Type 0
 StillShowsIf tells rest shows old new = IsTrue (tells new) → StillShows shows (rest old) (rest new)
+
+-- what was found of an account of that name, among these
+abbrev pub IsFoundIn : Accounts → List ℕ → Lookup → Type 0
+IsFoundIn accounts user Known = IsSome (get accounts user)
+IsFoundIn accounts user Unknown = get accounts user ≡ None
+IsFoundIn accounts user Absent = ⊥
+IsFoundIn accounts user lookup = Unit {0}
+
+-- the same of a store, as it is behind that: it shows what it showed
+abbrev pub Finds : List ℕ → Lookup → State → State → Type 0
+Finds user lookup old new = HasCleanDisk new → (accounts : Accounts) → HasAccounts old accounts → IsFoundIn accounts user lookup × HasAccounts new accounts
+
+-- from a world others' events lead to accounts, and that was found in them; nothing else changes
+pub record FindsAt (others : List Event) (user : List ℕ) (lookup : Lookup) (w next : World) : Type 0 where
+  pub strangers : AreOthers w.sessions others
+  pub told : List Answer
+  pub theirs : Runs w others told next
+  pub apart : next.sessions ≡ w.sessions
+  pub found : IsFoundIn next.accounts user lookup
+
+abbrev pub IsAsked : {R : Type 0} → (R → Accounts → Type 0) → List Event → List ℕ → Lookup → R → Kept → R → Kept → Type 0
+IsAsked shows others user lookup r before q after =
+    (w : World) → IsWorld shows r before w → (next : World) × FindsAt others user lookup w next × IsWorld shows q after next
+
+abbrev pub LooksUp : {O R : Type 0} → (O → Bool) → (O → List (Act Note)) → (O → R) → (R → Accounts → Type 0) → (R → Type 0) → ℕ → List ℕ → O → Kept → Option Lookup → O → Kept → Type 0
+LooksUp tells seen rest shows clean id user old before (Some lookup) new after =
+    (others : List Event) × (clean (rest new) → IsAsked shows others user lookup (rest old) before (rest new) after)
+    × TellsIf tells seen old (Noted id (Asked others user lookup)) new
+LooksUp tells seen rest shows clean id user old before None new after =
+    (clean (rest new) → NothingDone shows (rest old) before (rest new) after) × TellsIf tells seen old (Noted id Away) new
+
+-- the event of a message for one recipient, at a moment in seconds since 1970
+abbrev pub delivery_of : Parcel → ℕ → Event
+delivery_of parcel moment = Deliver parcel.user (record { from = parcel.sender; to = parcel.recipient }) parcel.message moment
+
+-- the same as `Carries`, at a moment that the call has read
+abbrev pub Delivers : {O R : Type 0} → (O → Bool) → (O → List (Act Note)) → (O → R) → (R → Accounts → Type 0) → (R → Type 0) → ℕ → Parcel → O → Kept → Option Answer → O → Kept → Type 0
+Delivers tells seen rest shows clean id parcel old before answer new after =
+    (moment : ℕ) × Carries tells seen rest shows clean id (delivery_of parcel moment) old before answer new after

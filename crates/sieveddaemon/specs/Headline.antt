@@ -1,6 +1,7 @@
 -- What is true of a daemon's life.
-use Rattle.std.specs.Prelude.{◌≡◌, ℕ, List, [], ◌++◌, Bool, IsTrue}
+use Rattle.std.specs.Prelude.{◌≡◌, ℕ, List, [], ◌++◌, Bool, Option, Some, None, IfSome, IsTrue}
 use Rattle.std.specs.FinMap.{empty}
+use Rattle.lmtp.specs.declared.name.Names.{Names}
 use Rattle.mailstore.specs.Account.{Accounts}
 use Rattle.mailengine.specs.OwnActs.{IsAlone}
 use Rattle.mailengine.specs.Sound.{AreSound}
@@ -12,7 +13,8 @@ use Rattle.wires.specs.declared.act.Act.{Act}
 use Rattle.wires.specs.declared.service.Service.{Service}
 use Rattle.sieveddaemon.specs.Acts.{LeadsOn, events_in, AnswersIn, no_line, tell_on, AreRight}
 use Rattle.sieveddaemon.specs.Desk.{IsWorld}
-use Rattle.sieveddaemon.specs.declared.daemon.Daemon.{Daemon}
+use Rattle.sieveddaemon.specs.MailActs.{MailLine, TellsOn}
+use Rattle.sieveddaemon.specs.declared.mail.MailDaemon.{MailDaemon}
 use Rattle.sieveddaemon.specs.declared.note.Note.{Note}
 
 -- these accounts, and no session
@@ -20,7 +22,7 @@ abbrev pub world_of : Accounts → World
 world_of accounts = record { accounts = accounts; sessions = empty }
 
 -- what holds where these acts were seen and no more, from a world at a moment to another
-pub record HoldsAfter (w : World) (now : ℕ) (acts : List (Act Note)) (v : World) : Type 0 where
+pub record HoldsAfter (names : Names) (host : List ℕ) (w : World) (now : ℕ) (acts : List (Act Note)) (v : World) : Type 0 where
   -- each act does what it is to the accounts and the sessions, and so the events of all, with some answers that agree with those noted,
   -- are a run of the machine of mailengine
   pub leads : LeadsOn w acts v
@@ -32,26 +34,29 @@ pub record HoldsAfter (w : World) (now : ℕ) (acts : List (Act Note)) (v : Worl
   pub spaced : IsSpaced w (events_in acts) told v runs
   -- sound accounts stay sound: each stored script is valid, the active one is there, no folder is empty
   pub sound : AreSound w.accounts → AreSound v.accounts
-  -- what is done for a connection is what it allows
-  pub right : (id : ℕ) → AreRight id now no_line acts
-  -- what was sent on it since it came is a front of what its own acts spell
-  pub sent : (id : ℕ) → IsFrontOf (tell_on id now no_line acts).sent (tell_on id now no_line acts).spelled
+  -- what is done for a client of ManageSieve is what it allows
+  pub right : (id : ℕ) → AreRight id now (Some no_line) acts
+  -- what was sent to it since it came is a front of what its own acts spell
+  pub sent : (id : ℕ) → IfSome (tell_on id now (Some no_line) acts) (λ l. IsFrontOf l.sent l.spelled)
+  -- what is done for a client of LMTP is a deed that it allows, and what was sent to it since it came is a front of what these spell
+  pub mail : (id : ℕ) → (o : Option MailLine) × TellsOn names host id now None acts o × IfSome o (λ l. IsFrontOf l.sent l.spelled)
 
 -- from these accounts and no connection on, at each front of the acts, and at the end with the accounts that the store shows then and the
 -- daemon's sessions
-pub record Headline {R : Type 0} (shows : R → Accounts → Type 0) (start : Accounts) (now : ℕ) (acts : List (Act Note)) (r : R) (d : Daemon) : Type 0 where
-  pub each_moment : (some rest : List (Act Note)) → some ++ rest ≡ acts → (v : World) × HoldsAfter (world_of start) now some v
+pub record Headline {R : Type 0} (shows : R → Accounts → Type 0) (names : Names) (host : List ℕ) (start : Accounts) (now : ℕ) (acts : List (Act Note)) (r : R) (d : MailDaemon) : Type 0 where
+  pub each_moment : (some rest : List (Act Note)) → some ++ rest ≡ acts → (v : World) × HoldsAfter names host (world_of start) now some v
   pub end : World
-  pub holds : HoldsAfter (world_of start) now acts end
-  pub shown : IsWorld shows r d.clients.sessions end
+  pub holds : HoldsAfter names host (world_of start) now acts end
+  pub shown : IsWorld shows r d.daemon.clients.sessions end
 
 -- a daemon that knows no connection
-pub record IsNew (d : Daemon) : Type 0 where
-  pub sessions : d.clients.sessions.entries ≡ []
-  pub places : d.places.entries ≡ []
+pub record IsNew (d : MailDaemon) : Type 0 where
+  pub sessions : d.daemon.clients.sessions.entries ≡ []
+  pub places : d.daemon.places.entries ≡ []
+  pub posts : d.posts.entries ≡ []
 
 -- of a life, where it is told: the acts that were added
-abbrev pub Serves : {O R : Type 0} → (O → Bool) → (O → List (Act Note)) → (O → R) → (R → Accounts → Type 0) → O → Daemon → Service → O → Daemon → Type 0
+abbrev pub Serves : {O R : Type 0} → (O → Bool) → (O → List (Act Note)) → (O → R) → (R → Accounts → Type 0) → O → MailDaemon → Service → O → MailDaemon → Type 0
 Serves tells seen rest shows o d s p e =
     IsTrue (tells p) → IsNew d → Fresh s → (start : Accounts) → shows (rest o) start
-    → (acts : List (Act Note)) × (seen p ≡ seen o ++ acts) × Headline shows start s.moment acts (rest p) e
+    → (acts : List (Act Note)) × (seen p ≡ seen o ++ acts) × Headline shows d.names d.host start s.moment acts (rest p) e

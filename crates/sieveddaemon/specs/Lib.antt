@@ -1,7 +1,10 @@
 pub mod Acts
 pub mod DaemonRules
+pub mod Deeds
 pub mod Desk
 pub mod Headline
+pub mod MailActs
+pub mod MailRules
 pub mod Places
 pub mod Room
 pub mod Waiting

@@ -1,14 +1,17 @@
 //! The store, as the daemon sees it.
-ghost use Rattle.std.specs.Prelude.{ℕ, IsTrue};
+ghost use Rattle.std.specs.Prelude.{ℕ, IsTrue, IfSome};
+ghost use Rattle.mailposts.specs.Posts.{IsFound};
 ghost use Rattle.mailstore.specs.Account.{Accounts};
 ghost use Rattle.mailengine.specs.Hosts.{IsGivenUp};
 ghost use Rattle.wires.specs.declared.act.Act.TheVariants.{Noted};
 ghost use Rattle.wires.specs.Told.{TellsIf};
-ghost use Rattle.sieveddaemon.specs.declared.note.Note.TheVariants.{Freed, Spoke};
-ghost use Rattle.sieveddaemon.specs.Desk.{Carries, Looks, StillShowsIf};
+ghost use Rattle.sieveddaemon.specs.declared.note.Note.TheVariants.{Answered, Freed, Spoke};
+ghost use Rattle.sieveddaemon.specs.Desk.{Carries, Delivers, Looks, LooksUp, StillShowsIf};
 
 use crate::note::Note;
+use lmtp::Lookup;
 use mailengine::{Answer, Clients, Event};
+use mailposts::Parcel;
 use wires::outside::Outside;
 
 /// Where events are brought to a store that other processes use too. Each call but those that only tell asks for the store
@@ -31,6 +34,25 @@ pub trait Desk: Outside<Note = Note> {
     fn tell_freed(&mut self, id: u32, event: &Event, answer: &Answer)
         ensures kept { IsTrue (Self.tells self.new) → IsTrue (Self.tells self.old) }
         ensures told { TellsIf Self.tells Self.seen self.old (Noted id (Freed event.now answer.now)) self.new }
+        ensures shown { StillShowsIf Self.tells Self.rest shows self.old self.new };
+
+    /// Asks the store whether there is an account of that name; a name that it can't look for now is a fault, or lacks
+    /// memory. Nothing is changed. None where the store isn't to be had now.
+    fn look_up(&mut self, id: u32, clients: &mut Clients, user: &[u8]) -> Option<Lookup>
+        ensures kept { IsTrue (Self.tells self.new) → IsTrue (Self.tells self.old) }
+        ensures found { IfSome result IsFound }
+        ensures asks { LooksUp Self.tells Self.seen Self.rest shows clean id user.now self.old clients.old.sessions result self.new clients.new.sessions };
+
+    /// Brings a message to the store, at the moment that the clock shows now, and answers it once its change is there for
+    /// good. None where the store isn't to be had now.
+    fn deliver(&mut self, id: u32, clients: &mut Clients, parcel: &Parcel) -> Option<Answer>
+        ensures kept { IsTrue (Self.tells self.new) → IsTrue (Self.tells self.old) }
+        ensures delivers { Delivers Self.tells Self.seen Self.rest shows clean id parcel.now self.old clients.old.sessions result self.new clients.new.sessions };
+
+    /// Tells that a client of LMTP was answered without the store. Nothing is done.
+    fn tell_answered(&mut self, id: u32)
+        ensures kept { IsTrue (Self.tells self.new) → IsTrue (Self.tells self.old) }
+        ensures told { TellsIf Self.tells Self.seen self.old (Noted id Answered) self.new }
         ensures shown { StillShowsIf Self.tells Self.rest shows self.old self.new };
 
     /// Tells that to a connection is said what was kept back. Nothing is done.

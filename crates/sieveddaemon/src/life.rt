@@ -1,30 +1,30 @@
 //! A daemon's life.
 ghost use Rattle.std.specs.Prelude.{IsTrue, OnOk, OnErr};
 ghost use Rattle.wires.specs.Life.{AddsIf, LivesIf};
-ghost use Rattle.sieveddaemon.specs.DaemonRules.{daemon_rules};
+ghost use Rattle.sieveddaemon.specs.MailRules.{mail_rules};
 ghost use Rattle.sieveddaemon.specs.Headline.{Serves};
 
-use crate::daemon::Daemon;
 use crate::desk::Desk;
+use crate::mail::MailDaemon;
 use wires::life;
 use wires::outcome::Fault;
 use wires::outside::{Clock, Sockets};
 use wires::service::Service;
 
-/// Serves clients of ManageSieve, for so many acts, neither fewer nor more.
+/// Serves clients of ManageSieve and of LMTP, for so many acts, neither fewer nor more.
 ///
 /// # Errors
 ///
 /// Where a wait failed.
 pub fn serve<O: Sockets + Clock + Desk>(
     outside: &mut O,
-    daemon: &mut Daemon,
+    daemon: &mut MailDaemon,
     service: &mut Service,
     acts: u64,
 ) -> Result<(), Fault>
     ensures kept { IsTrue (O.tells outside.new) → IsTrue (O.tells outside.old) }
     ensures passed { OnOk result (AddsIf O.tells O.seen outside.old acts outside.new) }
-    ensures lives { LivesIf O.tells O.seen O.rest (daemon_rules O.shows) outside.old daemon.old service.old outside.new daemon.new service.new }
+    ensures lives { LivesIf O.tells O.seen O.rest (mail_rules O.shows) outside.old daemon.old service.old outside.new daemon.new service.new }
     ensures headline { Serves O.tells O.seen O.rest O.shows outside.old daemon.old service.old outside.new daemon.new }
     ensures broke { OnErr result (IsTrue (O.broken outside.new)) }
 {

@@ -1,11 +1,17 @@
 //! The daemon as a machine that the loop serves.
-use crate::daemon::Daemon;
+ghost use Rattle.std.specs.Prelude.{◌≡◌};
+ghost use Rattle.sieveddaemon.specs.MailRules as rules;
+
 use crate::desk::Desk;
-use crate::patience::patience_of;
+use crate::look::{is_look_due, look_by};
+use crate::mail::MailDaemon;
+use crate::mail_open::{enter_client, enter_post, hear_by, leave_by, say_last};
+use crate::mail_step::step_post;
+use crate::patience::patience_for;
 use crate::room::longest_guest;
-use crate::session::{enter, hear, leave};
-use crate::step::{lack, step_once};
-use crate::want::{due_by, want_by};
+use crate::step::step_once;
+use crate::want::{due_of, want_of};
+use mailposts::Wanted;
 use octets::Octets;
 use std::alloc::AllocError;
 use wires::machine::{Machine, Want};
@@ -16,62 +22,63 @@ pub const MANAGESIEVE: u32 = 0;
 /// So many clients of ManageSieve may be there at once. A session holds one item and a piece at most: 2 MiB and 12 KiB.
 pub const MAX_CLIENTS: usize = 50;
 
-/// So many milliseconds pass from one look for who waits for the store to the next.
-const LOOK_SPAN: u64 = 20;
+/// The kind of the connections of LMTP.
+pub const LMTP: u32 = 1;
 
-/// After so many milliseconds without an event that asked it the store is given back.
-const MAX_REST: u64 = 10000;
+/// So many clients of LMTP may be there at once; the next waits at the door.
+pub const MAX_SENDERS: usize = 20;
 
-/// What is said to one that was idle.
-const IDLE: &[u8] = b"BYE \"Idle.\"\r\n";
+impl<O: Desk> Machine<O> for MailDaemon {
+    ghost use Rattle.sieveddaemon.specs.MailRules.{mail_rules};
 
-impl<O: Desk> Machine<O> for Daemon {
-    ghost use Rattle.sieveddaemon.specs.DaemonRules.{daemon_rules};
-
-    ghost rules = { daemon_rules O.shows };
+    ghost rules = { mail_rules O.shows };
 
     fn limit(&self, kind: u32) -> usize {
-        if kind == MANAGESIEVE { MAX_CLIENTS } else { 0 }
+        if kind == LMTP {
+            MAX_SENDERS
+        } else if kind == MANAGESIEVE {
+            MAX_CLIENTS
+        } else {
+            0
+        }
     }
 
     fn displaced(&self, kind: u32) -> Option<u32> {
         if kind == MANAGESIEVE {
-            longest_guest(&self.clients, &self.places)
+            longest_guest(&self.daemon.clients, &self.daemon.places)
         } else {
             None
         }
     }
 
     fn wants(&self, id: u32) -> Want {
-        match self.places.get(&id) {
-            Some(place) => match self.clients.session(id) {
-                Some(session) => want_by(&place.waits, session),
-                None => Want::Done,
-            },
-            None => Want::Done,
+        match self.posts.get(&id) {
+            Some(post) => want_for(post.wanted()),
+            None => want_of(&self.daemon, id),
         }
     }
 
     fn deadline(&self, id: u32) -> u64 {
-        match self.places.get(&id) {
-            Some(place) => match self.clients.session(id) {
-                Some(session) => due_by(place, session),
-                None => u64::MAX,
-            },
-            None => u64::MAX,
+        match self.posts.get(&id) {
+            Some(post) => post.due(),
+            None => due_of(&self.daemon, id),
         }
     }
 
     fn has_work(&self, now: u64) -> bool {
-        self.holding.had && self.holding.look <= now
+        is_look_due(&self.daemon, now)
     }
 
     fn patience(&self) -> u32 {
-        patience_of(self)
+        patience_for(self)
     }
 
-    fn open(&mut self, now: u64, _kind: u32, id: u32, out: &mut Octets) -> Result<(), AllocError> {
-        enter(self, now, id, out)
+    fn open(&mut self, now: u64, kind: u32, id: u32, out: &mut Octets) -> Result<(), AllocError> {
+        if kind == LMTP {
+            enter_post(self, now, id, out)
+        } else {
+            enter_client(self, now, id, out)
+        }
     }
 
     fn give(
@@ -81,7 +88,7 @@ impl<O: Desk> Machine<O> for Daemon {
         piece: &[u8],
         _out: &mut Octets,
     ) -> Result<(), AllocError> {
-        hear(self, now, id, piece)
+        hear_by(self, now, id, piece)
     }
 
     fn step(
@@ -91,26 +98,33 @@ impl<O: Desk> Machine<O> for Daemon {
         id: u32,
         out: &mut Octets,
     ) -> Result<(), AllocError> {
-        step_once(self, outside, now, id, out)
+        if self.posts.contains_key(&id) {
+            step_post(self, outside, now, id, out)
+        } else {
+            step_once(&mut self.daemon, outside, now, id, out)
+        }
     }
 
     fn late(&mut self, _now: u64, id: u32, out: &mut Octets) -> Result<(), AllocError> {
-        if out.extend_from_slice(IDLE).is_err() {
-            return lack(self, id);
-        }
-        Ok(())
+        say_last(self, id, out)
     }
 
     fn work(&mut self, outside: &mut O, now: u64) {
-        let rests = self.holding.asked.wrapping_add(MAX_REST) <= now;
-        if outside.look(rests) {
-            self.holding.had = false;
-        } else {
-            self.holding.look = now.wrapping_add(LOOK_SPAN);
-        }
+        look_by(&mut self.daemon, outside, now)
     }
 
     fn close(&mut self, _now: u64, id: u32) {
-        leave(self, id)
+        leave_by(self, id)
+    }
+}
+
+fn want_for(wanted: Wanted) -> Want
+    ensures { result ≡ rules.want_for wanted }
+{
+    match wanted {
+        Wanted::More => Want::More,
+        Wanted::Step => Want::Step,
+        Wanted::Until(moment) => Want::Until(moment),
+        Wanted::Done => Want::Done,
     }
 }

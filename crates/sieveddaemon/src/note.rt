@@ -1,6 +1,7 @@
 //! What the daemon notes.
+use lmtp::Lookup;
 use mailengine::{Answer, Event};
-use octets::List;
+use octets::{List, Octets};
 
 /// What the daemon did when it went on with a connection, or by itself. One that tells its acts makes the value; over the
 /// system none is made.
@@ -23,6 +24,15 @@ pub enum Note {
     },
     /// What was kept back was said.
     Spoke,
+    /// What comes first of a client of LMTP was answered, and no store was asked for it.
+    Answered,
+    /// The store was asked whether there is an account of that name, and this was found.
+    Asked {
+        /// As of [`Note::Did`].
+        others: List<Event>,
+        user: Octets,
+        lookup: Lookup,
+    },
     /// It was looked whether somebody waits for the store, and whether somebody does.
     Looked(bool),
 }

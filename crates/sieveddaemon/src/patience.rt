@@ -1,9 +1,12 @@
 //! How long the daemon may rest where nothing happens.
 ghost use Rattle.std.specs.Prelude.{◌≡◌};
 ghost use Rattle.sieveddaemon.specs.DaemonRules as rules;
+ghost use Rattle.sieveddaemon.specs.MailRules as mail;
 
 use crate::daemon::Daemon;
+use crate::mail::MailDaemon;
 use crate::place::Waits;
+use mailposts::Wanted;
 
 /// Where one waits for the store, in milliseconds.
 const WHILE_AWAY: u32 = 5;
@@ -18,7 +21,27 @@ const WHILE_KEPT: u32 = 100;
 const AT_REST: u32 = 1000;
 
 /// For how many milliseconds it may rest where nothing happens.
-pub fn patience_of(daemon: &Daemon) -> u32
+pub fn patience_for(daemon: &MailDaemon) -> u32
+    ensures { result ≡ mail.patience_for daemon.now }
+{
+    let mut span = patience_of(&daemon.daemon);
+    for (_, post) in daemon.posts.iter() {
+        span = least(span, patience_by(post.wanted()));
+    }
+    span
+}
+
+fn patience_by(wanted: Wanted) -> u32
+    ensures { result ≡ mail.patience_with wanted }
+{
+    match wanted {
+        Wanted::Until(_) => WHILE_AWAY,
+        _ => AT_REST,
+    }
+}
+
+/// The same by what clients of ManageSieve wait for.
+fn patience_of(daemon: &Daemon) -> u32
     ensures { result ≡ rules.patience_of daemon.now }
 {
     let mut span = if daemon.holding.had {

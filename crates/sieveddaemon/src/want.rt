@@ -1,7 +1,10 @@
 //! What the daemon wants of a connection, and by which moment it is late.
 ghost use Rattle.std.specs.Prelude.{◌≡◌};
+ghost use Rattle.sieveddaemon.specs.DaemonRules.{place_at};
 ghost use Rattle.sieveddaemon.specs.Places as places;
+ghost use Rattle.sieveddaemon.specs.Places.{client_at};
 
+use crate::daemon::Daemon;
 use crate::place::{Place, Waits};
 use sessions::Session;
 use wires::machine::Want;
@@ -59,5 +62,31 @@ fn due_of_session(place: &Place, session: &Session) -> u64
         place.since.wrapping_add(MAX_SILENCE)
     } else {
         place.since.wrapping_add(MAX_COMMAND)
+    }
+}
+
+/// What is wanted of a client.
+pub fn want_of(daemon: &Daemon, id: u32) -> Want
+    ensures { result ≡ places.want_of (place_at daemon.now id) (client_at daemon.now.clients.sessions id) }
+{
+    match daemon.places.get(&id) {
+        Some(place) => match daemon.clients.session(id) {
+            Some(session) => want_by(&place.waits, session),
+            None => Want::Done,
+        },
+        None => Want::Done,
+    }
+}
+
+/// The moment by which a client is late.
+pub fn due_of(daemon: &Daemon, id: u32) -> u64
+    ensures { result ≡ places.due_of (place_at daemon.now id) (client_at daemon.now.clients.sessions id) }
+{
+    match daemon.places.get(&id) {
+        Some(place) => match daemon.clients.session(id) {
+            Some(session) => due_by(place, session),
+            None => u64::MAX,
+        },
+        None => u64::MAX,
     }
 }

@@ -121,7 +121,11 @@ pub record IsSession (line : CommandLine) (m : ArgMatches) (a : Session) : Type 
 
 pub record IsDaemon (line : CommandLine) (m : ArgMatches) (a : Daemon) : Type 0 where
   pub path : a.path.now ≡ text_in m (codes "db")
-  pub managesieve : a.managesieve.now ≡ text_in m (codes "managesieve")
+  pub managesieve : option_copied a.managesieve ≡ value_in m (codes "managesieve")
+  pub lmtp : option_copied a.lmtp ≡ value_in m (codes "lmtp")
+  pub names : option_copied a.names ≡ value_in m (codes "names")
+  pub host : option_copied a.host ≡ value_in m (codes "host")
+  pub quiet : IsFlag m (codes "quiet") a.quiet
   pub check : IsFlag m (codes "check") a.check
 
 -- a subcommand with what was given to it

@@ -29,6 +29,10 @@ pub enum Argument {
     Port,
     Sessions,
     Managesieve,
+    Lmtp,
+    Names,
+    Host,
+    Quiet,
     Check,
 }
 
@@ -61,7 +65,9 @@ impl Argument {
 
     fn form(self) -> Form {
         match self {
-            Argument::Wait | Argument::Directories | Argument::Check => Form::Flag,
+            Argument::Wait | Argument::Directories | Argument::Quiet | Argument::Check => {
+                Form::Flag
+            }
             Argument::Db
             | Argument::From
             | Argument::To
@@ -72,7 +78,10 @@ impl Argument {
             | Argument::Separator
             | Argument::Port
             | Argument::Sessions
-            | Argument::Managesieve => Form::Option,
+            | Argument::Managesieve
+            | Argument::Lmtp
+            | Argument::Names
+            | Argument::Host => Form::Option,
             Argument::Name
             | Argument::Address
             | Argument::User
@@ -107,6 +116,10 @@ impl Argument {
             Argument::Port => "port",
             Argument::Sessions => "sessions",
             Argument::Managesieve => "managesieve",
+            Argument::Lmtp => "lmtp",
+            Argument::Names => "names",
+            Argument::Host => "host",
+            Argument::Quiet => "quiet",
             Argument::Check => "check",
         }
     }
@@ -114,7 +127,7 @@ impl Argument {
     /// What the help calls its value.
     fn value_name(self) -> &'static str {
         match self {
-            Argument::Wait | Argument::Directories | Argument::Check => "",
+            Argument::Wait | Argument::Directories | Argument::Quiet | Argument::Check => "",
             Argument::Separator => ".|/",
             Argument::From | Argument::To | Argument::AnyTo => "A",
             Argument::At | Argument::Number | Argument::Sessions => "N",
@@ -122,7 +135,9 @@ impl Argument {
             Argument::Port | Argument::Managesieve => "P",
             Argument::Salt => "HEX32",
             Argument::Db => "FILE",
-            Argument::Name => "NAME",
+            Argument::Name | Argument::Host => "NAME",
+            Argument::Lmtp => "P|PATH|-",
+            Argument::Names => "local|whole",
             Argument::Address => "ADDRESS",
             Argument::User => "USER",
             Argument::Folder => "FOLDER",
@@ -154,6 +169,10 @@ impl Argument {
             Argument::Port => "The port; 0 for any that is free",
             Argument::Sessions => "Ends after N sessions [default: never]",
             Argument::Managesieve => "The port for ManageSieve; 0 for any that is free",
+            Argument::Lmtp => "The port or the path of a socket for LMTP; - for descriptor 0",
+            Argument::Names => "What of an address names its account [default: local]",
+            Argument::Host => "The name that clients of LMTP are greeted with [default: localhost]",
+            Argument::Quiet => "Tells of no delivery that was made",
             Argument::Check => "Says what would go wrong, and serves nobody",
         }
     }
@@ -170,6 +189,11 @@ impl Argument {
                 | Argument::Directories
                 | Argument::Separator
                 | Argument::Sessions
+                | Argument::Managesieve
+                | Argument::Lmtp
+                | Argument::Names
+                | Argument::Host
+                | Argument::Quiet
                 | Argument::Check
         )
     }

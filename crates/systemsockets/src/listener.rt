@@ -4,12 +4,15 @@ use mio::event::Source;
 use mio::net::{TcpListener, UnixListener};
 use mio::{Interest, Registry, Token};
 use std::io;
+use std::io::ErrorKind;
 
 /// Where connections of one kind come in, by TCP or over a socket in the file system.
 #[derive(Drop)]
 pub enum Listener {
     Tcp(TcpListener),
     Unix(UnixListener),
+    /// Nobody comes in: it stands for a kind of connections that isn't served.
+    Nowhere,
 }
 
 impl Listener {
@@ -25,6 +28,7 @@ impl Listener {
                 let (stream, _) = listener.accept()?;
                 Ok(Stream::Unix(stream))
             }
+            Listener::Nowhere => Err(io::Error::from(ErrorKind::WouldBlock)),
         }
     }
 }
@@ -39,6 +43,7 @@ impl Source for Listener {
         match self {
             Listener::Tcp(listener) => listener.register(registry, token, interests),
             Listener::Unix(listener) => listener.register(registry, token, interests),
+            Listener::Nowhere => Ok(()),
         }
     }
 
@@ -51,6 +56,7 @@ impl Source for Listener {
         match self {
             Listener::Tcp(listener) => listener.reregister(registry, token, interests),
             Listener::Unix(listener) => listener.reregister(registry, token, interests),
+            Listener::Nowhere => Ok(()),
         }
     }
 
@@ -58,6 +64,7 @@ impl Source for Listener {
         match self {
             Listener::Tcp(listener) => listener.deregister(registry),
             Listener::Unix(listener) => listener.deregister(registry),
+            Listener::Nowhere => Ok(()),
         }
     }
 }

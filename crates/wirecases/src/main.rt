@@ -14,8 +14,9 @@ use accounts::{Accounts, new_shelf};
 use casefiles::{Tally, try_rows};
 use daemonfakes::desk::DeskFake;
 use dialogue::Dialogues;
-use octets::List;
-use sieveddaemon::daemon::Daemon;
+use lmtp::Names;
+use octets::{List, Octets};
+use sieveddaemon::mail::MailDaemon;
 use std::alloc::{AllocError, Global};
 use std::process::ExitCode;
 use std::{fs, io};
@@ -50,7 +51,13 @@ const ECHOES: [&str; 19] = [
 ];
 
 /// Those of the daemon, in the order in which they are played.
-const DAEMONS: [&str; 2] = ["one-session.daemon", "forty-lives.daemon"];
+const DAEMONS: [&str; 5] = [
+    "one-session.daemon",
+    "forty-lives.daemon",
+    "mail.daemon",
+    "mail-beside-sieve.daemon",
+    "mail-store-away.daemon",
+];
 
 /// The dialogues of LMTP.
 const DIALOGUES: &str = "lmtp.cases";
@@ -199,10 +206,11 @@ fn play_echo(alloc: Global, schedule: &Schedule) -> Result<List<Check>, AllocErr
 
 fn play_daemon(alloc: Global, schedule: &Schedule) -> Result<List<Check>, AllocError> {
     let shelf = new_shelf(alloc)?;
+    let host = Octets::from_slice(alloc, b"localhost")?;
     let mut player = Player {
         alloc,
         outside: DeskFake::new(alloc, shelf),
-        machine: Daemon::new(alloc),
+        machine: MailDaemon::new(alloc, Names::Local, host),
         service: Service::new(alloc),
         owner: Accounts { alloc },
         checks: List::new(alloc),

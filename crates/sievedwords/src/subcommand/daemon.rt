@@ -7,10 +7,19 @@ use crate::row::Row;
 
 pub static DAEMON: Row = Row {
     name: "daemon",
-    about: "Serves many ManageSieve clients at once, on the loopback address",
-    more: "Prints `listening on 127.0.0.1:P` once it listens. Ends by a signal alone.
-Status 0: all is right (--check). 64: wrong words or numbers. 65: no store. 75: can't listen, another daemon, or try again later.",
-    arguments: &[Argument::Db, Argument::Managesieve, Argument::Check],
+    about: "Serves many clients of ManageSieve and of LMTP at once",
+    more: "At least one of --managesieve and --lmtp. Ports are of the loopback address; a PATH of digits alone is a port.
+Prints `listening on 127.0.0.1:P`, `listening on PATH` or `listening on -` for each once all listen. Ends by a signal alone.
+Status 0: all is right (--check). 64: wrong words or numbers, or no socket at PATH. 65: no store. 75: can't listen, another daemon, or try again later.",
+    arguments: &[
+        Argument::Db,
+        Argument::Managesieve,
+        Argument::Lmtp,
+        Argument::Names,
+        Argument::Host,
+        Argument::Quiet,
+        Argument::Check,
+    ],
 };
 
 /// Which store clients are to be served from, and where.
@@ -19,7 +28,15 @@ pub struct Daemon<'a> {
     /// The path of the database's file.
     pub path: &'a str,
     /// The port for ManageSieve, in decimal.
-    pub managesieve: &'a str,
+    pub managesieve: Option<&'a str>,
+    /// The port for LMTP, in decimal, or the path of a socket; `-` for what was left on descriptor 0.
+    pub lmtp: Option<&'a str>,
+    /// What of a recipient's address names its account: `local` or `whole`.
+    pub names: Option<&'a str>,
+    /// The name with which clients of LMTP are greeted.
+    pub host: Option<&'a str>,
+    /// Whether no delivery that was made is told of.
+    pub quiet: bool,
     /// Whether it is only to be said what would go wrong.
     pub check: bool,
 }
@@ -30,7 +47,11 @@ impl<'a> Daemon<'a> {
     {
         Daemon {
             path: given.text(Argument::Db),
-            managesieve: given.text(Argument::Managesieve),
+            managesieve: given.value(Argument::Managesieve),
+            lmtp: given.value(Argument::Lmtp),
+            names: given.value(Argument::Names),
+            host: given.value(Argument::Host),
+            quiet: given.flag(Argument::Quiet),
             check: given.flag(Argument::Check),
         }
     }

@@ -1,0 +1,204 @@
+//! Where the daemon's clients come in.
+use keepers::cause::of_socket;
+use lmtp::Names;
+use mio::net::TcpListener;
+use octets::{Octets, is_printable};
+use sievedrun::fault::Fault;
+use sievedrun::trouble::Trouble;
+use sievedrun::values::port_of;
+use sievedwords::Daemon;
+use std::alloc::{AllocError, Global};
+use std::fs::Files;
+use std::io::ErrorKind;
+use std::net::{Ipv4Addr, Net, SocketAddr};
+use std::os::fd::AsFd;
+use std::{format, io};
+use systemsockets::{Listener, bind_path, inherit};
+
+/// The longest name of a host, in octets (RFC 5321, 4.5.3.1.2).
+const MAX_HOST: usize = 255;
+
+/// Where clients of LMTP come in.
+#[derive(Clone, Copy)]
+pub enum Door<'a> {
+    /// A port of the loopback address.
+    Port(u16),
+    /// A path of the file system.
+    Path(&'a str),
+    /// What another process left on descriptor 0.
+    Inherited,
+}
+
+/// What the words of the daemon ask for.
+#[derive(Clone, Copy)]
+pub struct Asked<'a> {
+    /// The port for clients of ManageSieve, where some are to be served.
+    pub managesieve: Option<u16>,
+    pub lmtp: Option<Door<'a>>,
+    pub names: Names,
+    /// The name with which clients of LMTP are greeted.
+    pub host: &'a str,
+}
+
+/// What the words ask for.
+///
+/// # Errors
+///
+/// [`Fault::BadArgument`] where nothing is to be listened to, and for a number, a word or a name that is none.
+pub fn read_asked(words: Daemon<'_>) -> Result<Asked<'_>, Fault> {
+    if words.managesieve.is_none() && words.lmtp.is_none() {
+        return Err(Fault::BadArgument);
+    }
+    let managesieve = match words.managesieve {
+        Some(text) => Some(port_of(text)?),
+        None => None,
+    };
+    Ok(Asked {
+        managesieve,
+        lmtp: words.lmtp.map(door_of),
+        names: names_of(words.names)?,
+        host: host_of(words.host)?,
+    })
+}
+
+fn door_of(text: &str) -> Door<'_> {
+    if text == "-" {
+        return Door::Inherited;
+    }
+    match port_of(text) {
+        Ok(port) => Door::Port(port),
+        Err(_) => Door::Path(text),
+    }
+}
+
+fn names_of(text: Option<&str>) -> Result<Names, Fault> {
+    match text {
+        None | Some("local") => Ok(Names::Local),
+        Some("whole") => Ok(Names::Whole),
+        Some(_) => Err(Fault::BadArgument),
+    }
+}
+
+fn host_of(text: Option<&str>) -> Result<&str, Fault> {
+    let Some(name) = text else {
+        return Ok("localhost");
+    };
+    let octets = name.as_bytes();
+    let is_word = octets
+        .iter()
+        .all(|octet| is_printable(*octet) && *octet != b' ');
+    if octets.is_empty() || octets.len() > MAX_HOST || !is_word {
+        return Err(Fault::BadArgument);
+    }
+    Ok(name)
+}
+
+/// What listens, in the order of the kinds of connections, and the lines that tell of it.
+#[derive(Drop)]
+pub struct Listening {
+    pub listeners: Vec<Listener>,
+    pub told: Octets,
+}
+
+/// Listens as it is asked.
+///
+/// # Errors
+///
+/// [`Fault::BadArgument`] where a path has something else than a socket; [`Fault::Stream`] where nobody can be listened to, with
+/// the cause.
+pub fn listen<N: Net + Files, D: AsFd>(
+    system: &N,
+    alloc: Global,
+    asked: &Asked<'_>,
+    descriptor: &D,
+) -> Result<Listening, Trouble> {
+    let mut listening = Listening {
+        listeners: Vec::new(alloc),
+        told: Octets::new(alloc),
+    };
+    listen_to_sieve(system, alloc, asked, &mut listening).map_err(trouble_of_socket)?;
+    match listen_to_mail(system, alloc, asked, descriptor, &mut listening) {
+        Ok(()) => Ok(listening),
+        Err(error) => Err(trouble_of_door(asked.lmtp, error)),
+    }
+}
+
+fn listen_to_sieve<N: Net>(
+    system: &N,
+    alloc: Global,
+    asked: &Asked<'_>,
+    listening: &mut Listening,
+) -> io::Result<()> {
+    let listener = match asked.managesieve {
+        Some(port) => bind_port(system, alloc, port, &mut listening.told)?,
+        None => Listener::Nowhere,
+    };
+    listening.listeners.push(listener)?;
+    Ok(())
+}
+
+fn listen_to_mail<N: Net + Files, D: AsFd>(
+    system: &N,
+    alloc: Global,
+    asked: &Asked<'_>,
+    descriptor: &D,
+    listening: &mut Listening,
+) -> io::Result<()> {
+    let Some(door) = asked.lmtp else {
+        return Ok(());
+    };
+    let listener = match door {
+        Door::Port(port) => bind_port(system, alloc, port, &mut listening.told)?,
+        Door::Path(path) => {
+            let listener = bind_path(system, path)?;
+            tell_listening(&mut listening.told, path.as_bytes())?;
+            listener
+        }
+        Door::Inherited => {
+            let listener = inherit(descriptor)?;
+            tell_listening(&mut listening.told, b"-")?;
+            listener
+        }
+    };
+    listening.listeners.push(listener)?;
+    Ok(())
+}
+
+/// Listens on the loopback address.
+fn bind_port<N: Net>(
+    system: &N,
+    alloc: Global,
+    port: u16,
+    told: &mut Octets,
+) -> io::Result<Listener> {
+    let listener = TcpListener::bind(system, SocketAddr::from((Ipv4Addr::LOCALHOST, port)))?;
+    let address = listener.local_addr()?;
+    tell_listening(told, format!(in alloc; "{address}")?.as_bytes())?;
+    Ok(Listener::Tcp(listener))
+}
+
+/// The line that tells where clients are listened to.
+fn tell_listening(told: &mut Octets, place: &[u8]) -> Result<(), AllocError> {
+    told.extend_from_slice(b"listening on ")?;
+    told.extend_from_slice(place)?;
+    told.push(b'\n')
+}
+
+/// Nobody can be listened to, for this cause.
+pub fn trouble_of_socket(error: io::Error) -> Trouble {
+    Trouble {
+        fault: Fault::Stream,
+        cause: of_socket(error.kind()),
+    }
+}
+
+/// The same of clients of LMTP. A path that has something else than a socket is a wrong word.
+fn trouble_of_door(door: Option<Door<'_>>, error: io::Error) -> Trouble {
+    match (door, error.kind()) {
+        (Some(Door::Path(_)), ErrorKind::AlreadyExists) => Trouble {
+            fault: Fault::BadArgument,
+            cause: None,
+        },
+        _ => trouble_of_socket(error),
+    }
+}

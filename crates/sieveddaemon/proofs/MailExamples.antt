@@ -1,0 +1,84 @@
+-- Right cases of the definitions on clients of LMTP, and near misses.
+use Rattle.std.proofs.Common.{◌≡◌, ◌⊎◌, ℕ, List, [], ◌∷◌, ◌++◌, Option, Some, None, IfSome, codes, refl, sym, ◌∙◌, ap, subst, arith, inl, inr}
+use Rattle.std.specs.FinMap.{get}
+use Rattle.lmtp.specs.Replies.{greeting}
+use Rattle.lmtp.specs.declared.name.Names.{Names}
+use Rattle.lmtp.specs.declared.receiver.Lookup.TheVariants.{Unknown, Known}
+use Rattle.lmtp.specs.declared.reply.Reply.TheVariants.{NoSuchUser, LocalFault, BadSender}
+use Rattle.mailposts.specs.Posts.{Deed, Asked, Away}
+use Rattle.mailposts.specs.declared.addressee.Became.TheVariants.{Delivered, Refused}
+use Rattle.mailstore.specs.Account.{Account}
+use Rattle.mailstore.specs.declared.refusal.Refusal.TheVariants.{NoUser, Store, BadEnvelope}
+use Rattle.mailengine.specs.World.{World, Runs}
+use Rattle.mailengine.specs.declared.answer.Answer.{Answer}
+use Rattle.mailengine.specs.declared.answer.Answer.TheVariants as answer
+use Rattle.mailengine.specs.declared.event.Event.TheVariants.{Step, Deliver}
+use Rattle.wires.specs.Life.{IsFrontOf}
+use Rattle.wires.specs.declared.act.Act.{Act}
+use Rattle.wires.specs.declared.act.Act.TheVariants.{Came, Sent}
+use Rattle.sieveddaemon.specs.Acts.{LeadsBy}
+use Rattle.sieveddaemon.specs.Deeds.{IsDeed, IsBecame, one_line, reply_to}
+use Rattle.sieveddaemon.specs.MailActs.{MailLine, new_mail, sent_more, TellsOn}
+use Rattle.sieveddaemon.specs.declared.note.Note.{Note}
+use Rattle.sieveddaemon.specs.declared.note.Note.TheVariants as note
+
+-- ---- what a recipient is told
+
+in_one_line : one_line (codes "file INBOX\nvacation quiet 8\n") ≡ codes "file INBOX, vacation quiet 8"
+in_one_line = refl
+
+put_off_for_a_fault : IsBecame [] (answer.Refused Store) (Refused LocalFault)
+put_off_for_a_fault = refl
+
+of_a_bad_sender : reply_to (codes "a\nb") BadEnvelope ≡ BadSender
+of_a_bad_sender = refl
+
+-- near misses: a delivery that was refused is told as made; one for which the host is to blame bounces
+not_as_made : (report : List ℕ) → IsBecame [] (answer.Refused NoUser) (Delivered report) → ⊥
+not_as_made report is = cc
+
+not_bounced : IsBecame [] (answer.Refused Store) (Refused NoSuchUser) → ⊥
+not_bounced is = let never : Refused NoSuchUser ≡ Refused LocalFault = is in cc
+
+-- ---- what a note tells
+
+away_is : IsDeed note.Away Away
+away_is = refl
+
+-- near misses: the step of a session is no deed for a client of LMTP, nor is an event that asks no store
+not_a_step : (told : Answer) (deed : Deed) → IsDeed (note.Did [] (Step 1) told) deed → ⊥
+not_a_step told deed is = let never : Step 1 ≡ Deliver is.0.user (record { from = is.0.sender; to = is.0.recipient }) is.0.message is.1 = is.3 in cc
+
+not_freed : (told : Answer) (deed : Deed) → IsDeed (note.Freed (Step 1) told) deed → ⊥
+not_freed told deed is = is
+
+-- ---- what was found of an account
+
+-- near misses: there is none, though there is one; there is one, though there is none
+unknown_to_all : (w v : World) (user : List ℕ) (a : Account) → get w.accounts user ≡ Some a → LeadsBy w (note.Asked [] user Unknown) v → ⊥
+unknown_to_all w v user a there led = by led.told led.theirs
+  where
+    by : (told : List Answer) → Runs w [] told v → ⊥
+    by [] run = let never : None ≡ Some a = sym led.found ∙ ap (λ (x : World). get x.accounts user) run ∙ there in cc
+    by (told ∷ more) run = run
+
+-- ---- what is sent
+
+abbrev first_of : List ℕ → ℕ
+first_of [] = 0
+first_of (octet ∷ octets) = octet
+
+abbrev unasked : List (Act Note)
+unasked = Came 1 1 ∷ Sent 1 (53 ∷ []) ∷ []
+
+-- near miss: octets that nothing spells
+not_unspelled : (names : Names) (host : List ℕ) (o : Option MailLine) → TellsOn names host 1 0 None unasked o → IfSome o (λ l. IsFrontOf l.sent l.spelled) → ⊥
+not_unspelled names host o told front = by told.0 told.1 told.2
+  where
+    by : (mid : Option MailLine) → mid ≡ Some (new_mail names host 0) → TellsOn names host 1 0 mid (Sent 1 (53 ∷ []) ∷ []) o → ⊥
+    by None came then = let never : ◌≡◌ {A = Option MailLine} None (Some (new_mail names host 0)) = came in cc
+    by (Some l) came then =
+        let one : l ≡ new_mail names host 0 = cc in
+        let is : o ≡ Some (sent_more (53 ∷ []) (new_mail names host 0)) = then.2 ∙ then.1.2 ∙ ap (λ (k : MailLine). Some k) (then.1.1 ∙ ap (sent_more (53 ∷ [])) one) in
+        let sent : IsFrontOf (53 ∷ []) (greeting host) = subst (λ (x : Option MailLine). IfSome x (λ l. IsFrontOf l.sent l.spelled)) is front in
+        let first : 53 ≡ 50 = ap first_of sent.1 in omega (arith, first)

@@ -1,0 +1,70 @@
+-- What acts tell of one client of LMTP.
+use Rattle.std.specs.Prelude.{◌≡◌, ℕ, ◌==◌, List, [], ◌∷◌, ◌++◌, Bool, true, false, Option, Some, None}
+use Rattle.lmtp.specs.Replies.{greeting, line_of}
+use Rattle.lmtp.specs.declared.name.Names.{Names}
+use Rattle.lmtp.specs.declared.reply.Reply.TheVariants.{Idle}
+use Rattle.mailposts.specs.Posts.{Post, new_post, post_heard, Deed, Goes}
+use Rattle.wires.specs.Talk.{same}
+use Rattle.wires.specs.declared.act.Act.{Act}
+use Rattle.wires.specs.declared.act.Act.TheVariants.{Late, Displaced, Came, Heard, Sent, Noted}
+use Rattle.sieveddaemon.specs.Acts.{moment_after}
+use Rattle.sieveddaemon.specs.DaemonRules.{lmtp}
+use Rattle.sieveddaemon.specs.Deeds.{IsDeed}
+use Rattle.sieveddaemon.specs.declared.note.Note.{Note}
+
+-- how it stands, what its acts spell, and what was sent on it
+pub record MailLine : Type 0 where
+  pub post : Post
+  pub spelled : List ℕ
+  pub sent : List ℕ
+
+abbrev pub new_mail : Names → List ℕ → ℕ → MailLine
+new_mail names host now = record { post = new_post names host now; spelled = greeting host; sent = [] }
+
+-- one that came; a client of ManageSieve has no such line
+abbrev pub mail_came : Names → List ℕ → ℕ → Bool → Option MailLine
+mail_came names host now true = Some (new_mail names host now)
+mail_came names host now false = None
+
+abbrev pub says_more : List ℕ → MailLine → MailLine
+says_more octets l = record l { spelled = l.spelled ++ octets }
+
+abbrev pub sent_more : List ℕ → MailLine → MailLine
+sent_more octets l = record l { sent = l.sent ++ octets }
+
+-- a note is a deed that it allows, and what is said with that is spelled
+pub record IsNoted (now : ℕ) (l : MailLine) (note : Note) (k : MailLine) : Type 0 where
+  pub deed : Deed
+  pub told : IsDeed note deed
+  pub said : List ℕ
+  pub after : Post
+  pub goes : Goes now l.post deed said after
+  pub leaves : k ≡ record { post = after; spelled = l.spelled ++ said; sent = l.sent }
+
+-- where it is an act of the connection
+abbrev pub Its : Bool → Type 0 → Type 0 → Type 0
+Its true is other = is
+Its false is other = other
+
+-- what an act tells of it, at a moment; others' acts nothing
+abbrev pub TellsOf : ℕ → ℕ → MailLine → Act Note → MailLine → Type 0
+TellsOf id now l (Heard n piece) k = Its (same n id) (k ≡ record l { post = post_heard now piece l.post }) (k ≡ l)
+TellsOf id now l (Noted n note) k = Its (same n id) (IsNoted now l note k) (k ≡ l)
+TellsOf id now l (Late n) k = Its (same n id) (k ≡ says_more (line_of Idle) l) (k ≡ l)
+TellsOf id now l (Displaced n) k = Its (same n id) (k ≡ says_more (line_of Idle) l) (k ≡ l)
+TellsOf id now l (Sent n octets) k = Its (same n id) (k ≡ sent_more octets l) (k ≡ l)
+TellsOf id now l act k = k ≡ l
+
+abbrev pub TellsBy : ℕ → ℕ → Option MailLine → Act Note → Option MailLine → Type 0
+TellsBy id now None act p = p ≡ None
+TellsBy id now (Some l) act p = (k : MailLine) × TellsOf id now l act k × (p ≡ Some k)
+
+-- the same, once it came
+abbrev pub Tells : Names → List ℕ → ℕ → ℕ → Option MailLine → Act Note → Option MailLine → Type 0
+Tells names host id now o (Came n kind) p = Its (same n id) (p ≡ mail_came names host now (kind == lmtp)) (p ≡ o)
+Tells names host id now o act p = TellsBy id now o act p
+
+abbrev pub TellsOn : Names → List ℕ → ℕ → ℕ → Option MailLine → List (Act Note) → Option MailLine → Type 0
+TellsOn names host id now o [] p = p ≡ o
+TellsOn names host id now o (act ∷ acts) p =
+    (mid : Option MailLine) × Tells names host id now o act mid × TellsOn names host id (moment_after now act) mid acts p

@@ -1,0 +1,23 @@
+//! An account that is looked for in a store.
+ghost use Rattle.mailposts.specs.Posts.{IsFound};
+ghost use Rattle.sqlite.specs.Held.{state};
+ghost use Rattle.sieveddaemon.specs.Desk.{Finds};
+
+use lmtp::Lookup;
+use mailstore::{Refusal, Store};
+use sqlite::Alter;
+
+/// Whether the store has an account of that name. A name that it can't look for now is a fault, or lacks memory. Nothing changes.
+///
+/// Time is that of one row that is read by its key.
+pub fn find_account<S: Alter>(store: &mut Store<S>, user: &[u8]) -> Lookup
+    ensures found { IsFound result }
+    ensures finds { Finds user.now result (state S.Store store.old) (state S.Store store.new) }
+{
+    match store.account(user) {
+        Ok(Some(_)) => Lookup::Known,
+        Ok(None) => Lookup::Unknown,
+        Err(Refusal::Memory) => Lookup::NoRoom,
+        Err(_) => Lookup::Fault,
+    }
+}

@@ -1,0 +1,38 @@
+//! The daemon with its clients of LMTP.
+ghost use Rattle.std.specs.Prelude.{◌≡◌, []};
+
+use crate::daemon::Daemon;
+use lmtp::Names;
+use mailposts::Post;
+use octets::Octets;
+use std::alloc::Global;
+use std::collections::BTreeMap;
+
+/// The daemon, which serves clients of ManageSieve, and beside them clients of LMTP, by their numbers.
+#[derive(Drop)]
+pub struct MailDaemon {
+    pub daemon: Daemon,
+    pub posts: BTreeMap<u32, Post>,
+    /// What names the account of a recipient.
+    pub names: Names,
+    /// The name with which clients of LMTP are greeted.
+    pub host: Octets,
+}
+
+impl MailDaemon {
+    /// No connections. Takes no memory.
+    pub fn new(alloc: Global, names: Names, host: Octets) -> MailDaemon
+        ensures sessions { result.daemon.clients.sessions.entries ≡ [] }
+        ensures places { result.daemon.places.entries ≡ [] }
+        ensures posts { result.posts.entries ≡ [] }
+        ensures names { result.names ≡ names }
+        ensures host { result.host ≡ host }
+    {
+        MailDaemon {
+            daemon: Daemon::new(alloc),
+            posts: BTreeMap::new(alloc),
+            names,
+            host,
+        }
+    }
+}

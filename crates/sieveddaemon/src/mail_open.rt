@@ -1,0 +1,127 @@
+//! Clients that come, say something, and go.
+ghost use Rattle.std.specs.Prelude.{◌≡◌, [], IsErr, IfSome, OnOk, OnErr};
+ghost use Rattle.sieveddaemon.specs.DaemonRules.{place_at};
+ghost use Rattle.sieveddaemon.specs.MailRules as rules;
+
+use crate::mail::MailDaemon;
+use crate::session::{enter, hear, leave};
+use crate::step::forget;
+use lmtp::Reply;
+use mailposts::Post;
+use octets::Octets;
+use std::alloc::AllocError;
+
+/// What is said to a client of ManageSieve that was idle.
+const IDLE: &[u8] = b"BYE \"Idle.\"\r\n";
+
+/// A client of LMTP comes: it is greeted.
+pub fn enter_post(
+    mail: &mut MailDaemon,
+    now: u64,
+    id: u32,
+    out: &mut Octets,
+) -> Result<(), AllocError>
+    requires { out.old ≡ [] }
+    ensures ok { OnOk result (rules.PostOpens mail.old now id out.new mail.new) }
+    ensures err { OnErr result (rules.LacksBy mail.old id mail.new) }
+{
+    let alloc = mail.daemon.alloc;
+    let Ok(post) = Post::new(alloc, mail.names, mail.host.as_slice(), now, out) else {
+        return lack_post(mail, id);
+    };
+    if mail.posts.insert(id, post).is_err() {
+        return lack_post(mail, id);
+    }
+    forget(&mut mail.daemon, id);
+    Ok(())
+}
+
+/// A client of ManageSieve comes: it is greeted, and its session begins.
+pub fn enter_client(
+    mail: &mut MailDaemon,
+    now: u64,
+    id: u32,
+    out: &mut Octets,
+) -> Result<(), AllocError>
+    requires { out.old ≡ [] }
+    ensures ok { OnOk result (rules.SessionOpens mail.old now id out.new mail.new) }
+    ensures err { OnErr result (rules.LacksBy mail.old id mail.new) }
+{
+    let _ = mail.posts.remove(&id);
+    enter(&mut mail.daemon, now, id, out)
+}
+
+/// Memory is lacking for a connection.
+pub fn lack_post(mail: &mut MailDaemon, id: u32) -> Result<(), AllocError>
+    ensures err { IsErr result }
+    ensures lacks { rules.LacksBy mail.old id mail.new }
+{
+    forget(&mut mail.daemon, id);
+    let _ = mail.posts.remove(&id);
+    Err(AllocError)
+}
+
+/// Octets of one come.
+pub fn hear_by(mail: &mut MailDaemon, now: u64, id: u32, piece: &[u8]) -> Result<(), AllocError>
+    ensures ok { OnOk result (rules.GivesBy mail.old now id piece.now [] mail.new) }
+    ensures err { OnErr result (rules.LacksBy mail.old id mail.new) }
+{
+    if mail.posts.contains_key(&id) {
+        hear_post(mail, now, id, piece)
+    } else {
+        hear(&mut mail.daemon, now, id, piece)
+    }
+}
+
+/// Octets of a client of LMTP come.
+fn hear_post(mail: &mut MailDaemon, now: u64, id: u32, piece: &[u8]) -> Result<(), AllocError>
+    ensures ok { OnOk result (rules.PostGives mail.old now id piece.now [] mail.new) }
+    ensures err { OnErr result (rules.LacksBy mail.old id mail.new) }
+{
+    if mail.daemon.clients.session(id).is_some() {
+        return lack_post(mail, id);
+    }
+    let Some(post) = mail.posts.get_mut(&id) else {
+        return lack_post(mail, id);
+    };
+    if post.hear(now, piece).is_err() {
+        return lack_post(mail, id);
+    }
+    Ok(())
+}
+
+/// What is said last to one that is late or makes room. Where memory was lacking for it before, nothing is said.
+pub fn say_last(mail: &mut MailDaemon, id: u32, out: &mut Octets) -> Result<(), AllocError>
+    requires { out.old ≡ [] }
+    ensures ok { OnOk result (rules.Parts mail.old id out.new mail.new) }
+    ensures err { OnErr result (rules.LacksBy mail.old id mail.new) }
+{
+    let Some(farewell) = farewell_to(mail, id) else {
+        return lack_post(mail, id);
+    };
+    if out.extend_from_slice(farewell).is_err() {
+        return lack_post(mail, id);
+    }
+    Ok(())
+}
+
+/// What is said last, by what is known of the connection; none where nothing is.
+fn farewell_to(mail: &MailDaemon, id: u32) -> Option<&'static [u8]>
+    ensures { IfSome result (λ word. rules.IsFarewell (rules.post_at mail.now id) (place_at mail.now.daemon id) word.now) }
+{
+    match mail.posts.get(&id) {
+        Some(_) => Some(Reply::Idle.line()),
+        None => match mail.daemon.places.get(&id) {
+            Some(_) => Some(IDLE),
+            None => None,
+        },
+    }
+}
+
+/// One is gone.
+pub fn leave_by(mail: &mut MailDaemon, id: u32)
+    ensures { rules.ClosesBy mail.old id mail.new }
+{
+    let _ = mail.posts.remove(&id);
+    leave(&mut mail.daemon, id);
+}

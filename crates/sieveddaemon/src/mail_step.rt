@@ -1,0 +1,155 @@
+//! The daemon goes on with a client of LMTP: one deed.
+ghost use Rattle.std.specs.Prelude.{◌≡◌, [], IsTrue, OnOk, OnErr};
+ghost use Rattle.wires.specs.Rules.{StepsIf, IdlesIf};
+ghost use Rattle.sieveddaemon.specs.Deeds as deeds;
+ghost use Rattle.sieveddaemon.specs.MailRules.{mail_rules, LacksBy};
+ghost use Rattle.sieveddaemon.specs.DaemonRules as rules;
+ghost use Rattle.mailposts.specs.Stands.{Demands, HasSlot};
+ghost use Rattle.mailposts.specs.declared.demand.Demand.TheVariants as demands;
+
+use crate::became::became_of;
+use crate::daemon::{Daemon, Holding};
+use crate::desk::Desk;
+use crate::mail::MailDaemon;
+use crate::mail_open::lack_post;
+use mailposts::{Demand, Parcel, Post, Question, Room};
+use octets::Octets;
+use std::alloc::{AllocError, Global};
+
+/// One step of a client of LMTP.
+pub fn step_post<O: Desk>(
+    mail: &mut MailDaemon,
+    outside: &mut O,
+    now: u64,
+    id: u32,
+    out: &mut Octets,
+) -> Result<(), AllocError>
+    requires { out.old ≡ [] }
+    ensures kept { IsTrue (O.tells outside.new) → IsTrue (O.tells outside.old) }
+    ensures ok { OnOk result (StepsIf O.tells O.seen O.rest (mail_rules O.shows) outside.old mail.old now id out.new outside.new mail.new) }
+    ensures err { OnErr result (IdlesIf O.tells O.seen O.rest outside.old outside.new) }
+    ensures lacks { OnErr result (LacksBy mail.old id mail.new) }
+{
+    let alloc = mail.daemon.alloc;
+    let Some(post) = mail.posts.get_mut(&id) else {
+        return lack_post(mail, id);
+    };
+    match do_next(alloc, &mut mail.daemon, post, outside, now, id, out) {
+        Ok(()) => Ok(()),
+        Err(AllocError) => lack_post(mail, id),
+    }
+}
+
+/// What is to be done next is done.
+fn do_next<O: Desk>(
+    alloc: Global,
+    daemon: &mut Daemon,
+    post: &mut Post,
+    outside: &mut O,
+    now: u64,
+    id: u32,
+    out: &mut Octets,
+) -> Result<(), AllocError>
+    requires { out.old ≡ [] }
+    ensures kept { IsTrue (O.tells outside.new) → IsTrue (O.tells outside.old) }
+    ensures ok { OnOk result (deeds.DoesOneIf O.tells O.seen O.rest O.shows outside.old daemon.old post.old now id out.new outside.new daemon.new post.new) }
+    ensures err { OnErr result (IdlesIf O.tells O.seen O.rest outside.old outside.new) }
+    ensures lacks { OnErr result (daemon.new ≡ daemon.old) }
+{
+    match post.demand(now)? {
+        Demand::Nothing => Err(AllocError),
+        Demand::Line => {
+            post.answer(now, out)?;
+            outside.tell_answered(id);
+            Ok(())
+        }
+        Demand::PutOff => {
+            let line = post.put_off(now)?;
+            *out = line;
+            outside.tell_answered(id);
+            Ok(())
+        }
+        Demand::Reply(became) => {
+            let line = post.reply(now, became)?;
+            *out = line;
+            outside.tell_answered(id);
+            Ok(())
+        }
+        Demand::Account(question) => {
+            let room = Room::new(alloc)?;
+            *out = ask(alloc, daemon, post, outside, now, id, question, room);
+            Ok(())
+        }
+        Demand::Delivery(parcel) => {
+            let room = Room::new(alloc)?;
+            *out = bring(alloc, daemon, post, outside, now, id, parcel, room);
+            Ok(())
+        }
+    }
+}
+
+/// The store is asked for an account. What is said.
+fn ask<O: Desk>(
+    alloc: Global,
+    daemon: &mut Daemon,
+    post: &mut Post,
+    outside: &mut O,
+    now: u64,
+    id: u32,
+    question: Question,
+    room: Room,
+) -> Octets
+    requires asked { Demands now post.old (demands.Account question) }
+    requires slot { HasSlot post.old }
+    ensures kept { IsTrue (O.tells outside.new) → IsTrue (O.tells outside.old) }
+    ensures does { deeds.DoesOneIf O.tells O.seen O.rest O.shows outside.old daemon.old post.old now id result outside.new daemon.new post.new }
+{
+    match outside.look_up(id, &mut daemon.clients, question.user.as_slice()) {
+        Some(lookup) => {
+            daemon.holding = asked_at(now);
+            post.found(now, question, lookup, room)
+        }
+        None => {
+            post.await_store(now);
+            Octets::new(alloc)
+        }
+    }
+}
+
+/// A message is brought to the store. What is said.
+fn bring<O: Desk>(
+    alloc: Global,
+    daemon: &mut Daemon,
+    post: &mut Post,
+    outside: &mut O,
+    now: u64,
+    id: u32,
+    parcel: Parcel,
+    room: Room,
+) -> Octets
+    requires { Demands now post.old (demands.Delivery parcel) }
+    ensures kept { IsTrue (O.tells outside.new) → IsTrue (O.tells outside.old) }
+    ensures does { deeds.DoesOneIf O.tells O.seen O.rest O.shows outside.old daemon.old post.old now id result outside.new daemon.new post.new }
+{
+    match outside.deliver(id, &mut daemon.clients, &parcel) {
+        Some(answer) => {
+            daemon.holding = asked_at(now);
+            let became = became_of(alloc, parcel.sender.as_slice(), answer);
+            post.brought(now, &parcel, became, room)
+        }
+        None => {
+            post.await_store(now);
+            Octets::new(alloc)
+        }
+    }
+}
+
+fn asked_at(now: u64) -> Holding
+    ensures { result ≡ rules.asked_at now }
+{
+    Holding {
+        had: true,
+        look: now,
+        asked: now,
+    }
+}
