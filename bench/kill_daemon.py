@@ -1,0 +1,162 @@
+#!/usr/bin/env python3
+"""Kills `sieved daemon` at random moments under load, and looks for what it had acknowledged.
+
+  bench/kill_daemon.py [SIEVED [COUNT]]      500 times where no COUNT is named
+
+Four clients of LMTP deliver messages to two users, two clients of ManageSieve put scripts; then the daemon is killed by SIGKILL and
+started again on the same store. After each kill every message that was answered 250 stands in its user's folder, every script that
+was answered OK is there as it was put last (or as the one on its way), and a message stands there twice only where it was sent
+again. It prints how many kills came while an answer was awaited (to the dot of a text, to a script), and what was found.
+"""
+import os, random, re, shutil, socket, sqlite3, sys, tempfile, threading, time
+
+HERE = os.path.dirname(os.path.abspath(__file__))
+sys.path.insert(0, f"{HERE}/../tests")
+import managesieve
+from beside_dovecot import free_port, wait_for
+
+SENDERS, UPLOADERS, USERS = 4, 2, ["alice", "bob"]
+
+
+class Load:
+    """What the clients sent, and what they were answered."""
+
+    def __init__(self):
+        self.lock = threading.Lock()
+        self.sent, self.answered = {}, {}
+        self.awaited = 0
+        self.puts = {at: [] for at in range(UPLOADERS)}
+        self.stored = {at: -1 for at in range(UPLOADERS)}
+
+
+class Sender(threading.Thread):
+    def __init__(self, load, port, at):
+        super().__init__(daemon=True)
+        self.load, self.port, self.at = load, port, at
+
+    def run(self):
+        try:
+            sock = socket.create_connection(("127.0.0.1", self.port), timeout=20)
+            lines = sock.makefile("rb")
+            self.reply(lines)
+            sock.sendall(b"LHLO localhost\r\n")
+            self.reply(lines)
+            while True:
+                self.deliver(sock, lines)
+        except (OSError, EOFError):
+            pass
+
+    def deliver(self, sock, lines):
+        token = f"{random.getrandbits(64):016x}"
+        users = random.sample(USERS, random.randint(1, len(USERS)))
+        for user in users:
+            with self.load.lock:
+                self.load.sent[token, user] = self.load.sent.get((token, user), 0) + 1
+        sock.sendall(b"MAIL FROM:<x@example.net>\r\n" + b"".join(b"RCPT TO:<%s@example.org>\r\n" % user.encode() for user in users) + b"DATA\r\n")
+        for code in [b"250"] * (1 + len(users)) + [b"354"]:
+            self.expect(lines, code)
+        size = random.choice([0, 100, 10_000, 200_000])
+        sock.sendall(b"Message-ID: <%s@example.net>\r\n\r\n" % token.encode() + b"x" * size)
+        self.load.awaited += 1
+        sock.sendall(b"\r\n.\r\n")
+        for user in users:
+            self.expect(lines, b"250")
+            with self.load.lock:
+                self.load.answered[token, user] = True
+        self.load.awaited -= 1
+
+    def reply(self, lines):
+        while True:
+            line = lines.readline()
+            if not line.endswith(b"\r\n"):
+                raise EOFError
+            if line[3:4] != b"-":
+                return line
+
+    def expect(self, lines, code):
+        line = self.reply(lines)
+        if not line.startswith(code):
+            print(f"unexpected: {line}", flush=True)
+            raise EOFError
+
+
+class Uploader(threading.Thread):
+    def __init__(self, load, port, at):
+        super().__init__(daemon=True)
+        self.load, self.port, self.at = load, port, at
+
+    def run(self):
+        try:
+            client = managesieve.connect(self.port)
+            client.log_in(USERS[self.at])
+            while True:
+                number = len(self.load.puts[self.at])
+                self.load.puts[self.at].append(number)
+                self.load.awaited += 1
+                if not client.ask(b'PUTSCRIPT "kept"', b"# %d\r\nkeep;\r\n" % number)[-1].startswith(b"OK"):
+                    return print("a script wasn't taken", flush=True)
+                self.load.stored[self.at] = number
+                self.load.awaited -= 1
+        except (OSError, managesieve.Gone):
+            pass
+
+
+def rows(file):
+    """The messages of each user by token, and each user's script, of a copy of the store as the kill left it."""
+    with tempfile.TemporaryDirectory() as room:
+        for end in "", "-wal":
+            if os.path.exists(file + end):
+                shutil.copyfile(file + end, f"{room}/mail.db{end}")
+        store = sqlite3.connect(f"{room}/mail.db")
+        found = {}
+        for owner, head in store.execute("SELECT copy.owner, substr(message.bytes, 1, 400) FROM copy JOIN message ON message.owner = copy.owner AND message.id = copy.id"):
+            token = re.search(rb"Message-ID: <([0-9a-f]{16})@", head)
+            key = token[1].decode(), owner.decode()
+            found[key] = found.get(key, 0) + 1
+        scripts = {owner.decode(): text for owner, text in store.execute("SELECT owner, text FROM script")}
+        store.close()
+        return found, scripts
+
+
+def check(file, load):
+    found, scripts = rows(file)
+    for key in load.answered:
+        if not found.get(key):
+            sys.exit(f"a message that was answered 250 is gone: {key}")
+    for key, count in found.items():
+        if count > load.sent.get(key, 0):
+            sys.exit(f"a message is there {count} times: {key}")
+    for at in range(UPLOADERS):
+        text = scripts.get(USERS[at], b"# -1")
+        number = int(re.match(rb"# (-?\d+)", text)[1])
+        if not load.stored[at] <= number < max(len(load.puts[at]), 1):
+            sys.exit(f"the script of {USERS[at]} is {number}, and {load.stored[at]} was answered OK")
+
+
+def main(words):
+    program = words[0] if words else managesieve.SIEVED
+    count = int(words[1]) if words[1:] else 500
+    store = managesieve.Store(USERS, sieved=os.path.abspath(program))
+    load, waiting = Load(), 0
+    import subprocess
+    for _ in range(count):
+        lmtp, sieve = free_port(), free_port()
+        words = store.words("daemon", "--managesieve", str(sieve), "--lmtp", str(lmtp), "--quiet")
+        process = subprocess.Popen(words, stdin=subprocess.DEVNULL, stdout=subprocess.DEVNULL, stderr=subprocess.DEVNULL)
+        wait_for(lmtp), wait_for(sieve)
+        load.awaited = 0
+        clients = [Sender(load, lmtp, at) for at in range(SENDERS)] + [Uploader(load, sieve, at) for at in range(UPLOADERS)]
+        for client in clients:
+            client.start()
+        time.sleep(random.uniform(0.02, 0.3))
+        waiting += load.awaited > 0
+        process.kill()
+        process.wait()
+        for client in clients:
+            client.join()
+        check(store.file, load)
+    print(f"{count} kills, {waiting} of them while an answer was awaited: each of {len(load.answered):,} messages that were answered 250 is there, and each of {sum(load.stored.values()):,} scripts", flush=True)
+
+
+if __name__ == "__main__":
+    main(sys.argv[1:])

@@ -1,0 +1,154 @@
+#!/usr/bin/env python3
+"""Tries the documents: every command of README as it stands, the limits of their lines, their links, and the completion for bash.
+
+  tests/documents.py [--sieved SIEVED] [TRIAL ..]
+"""
+import os, re, shutil, subprocess, tempfile
+import trials
+
+TOP = os.path.dirname(os.path.dirname(os.path.abspath(__file__)))
+SIEVED = f"{TOP}/crates/sieved/out/sieved"
+# A row of a table and indented code are left out; in these files a cell has no more octets than a line may have.
+WIDE = {"docs/DEFINITIONS.md": 160, "docs/DECISIONS.md": 160, "docs/CONTRIBUTING.md": 160}
+NARROW_CELLS = ["README.md", "docs/OPERATING.md"]
+LINE, README_LINES = 130, 130
+
+
+def pages():
+    return [name for name in sorted(os.listdir(TOP)) if name.endswith(".md")] + [f"docs/{name}" for name in sorted(os.listdir(f"{TOP}/docs")) if name.endswith(".md")]
+
+
+def lines_of(page):
+    with open(f"{TOP}/{page}", encoding="utf-8") as file:
+        return file.read().split("\n")
+
+
+def is_code(line):
+    return line.startswith("    ")
+
+
+def commands():
+    """The commands of README's look, each with what it is to print: a `$` begins one, which goes on while the shell wants more."""
+    found, text = [], []
+    for line in lines_of("README.md"):
+        if not is_code(line) and line:
+            text = []
+        elif line.startswith("    $ ") and not wants_more(text):
+            text = [line[6:]]
+            found.append((text, []))
+        elif wants_more(text):
+            text.append(line[4:])
+        elif text and is_code(line):
+            found[-1][1].append(line[4:])
+    return [("\n".join(text), "\n".join(said).rstrip("\n")) for text, said in found]
+
+
+def wants_more(text):
+    if not text:
+        return False
+    checked = subprocess.run(["bash", "-n"], input="\n".join(text) + "\n", capture_output=True, text=True)
+    return bool(checked.stderr)
+
+
+def readme():
+    trials.need("bash", "openssl", "base64")
+    with tempfile.TemporaryDirectory() as room:
+        os.mkdir(f"{room}/bin")
+        os.symlink(SIEVED, f"{room}/bin/sieved")
+        how = {"cwd": room, "env": {**os.environ, "PATH": f"{room}/bin:{os.environ['PATH']}"}, "stdin": subprocess.DEVNULL}
+        run = commands()
+        for text, wanted in run:
+            done = subprocess.run(["bash", "-c", text], stdout=subprocess.PIPE, stderr=subprocess.STDOUT, text=True, timeout=60, **how)
+            if done.stdout.rstrip("\n") != wanted:
+                raise Exception(f"{text}\nwanted: {wanted}\nfound: {done.stdout}")
+    if len(run) < 8:
+        raise Exception(f"{len(run)} commands are no look at it")
+    return f"{len(run)} commands"
+
+
+def lines():
+    count, wrong = 0, []
+    for page in pages():
+        for number, line in enumerate(lines_of(page), 1):
+            count += 1
+            if is_code(line):
+                continue
+            row = line.lstrip().startswith("|")
+            parts = line.split("|") if row and page in NARROW_CELLS else [] if row else [line]
+            wrong += [f"{page}:{number}" for part in parts if len(part.encode()) > WIDE.get(page, LINE)]
+    if len(lines_of("README.md")) - 1 > README_LINES:
+        wrong.append("README.md is too long")
+    if wrong:
+        raise Exception(f"too long: {' '.join(wrong)}")
+    return f"{count} lines"
+
+
+def anchor(heading):
+    """The name that the forge gives a heading."""
+    text = re.sub(r"\[([^\]]*)\]\([^)]*\)", r"\1", heading.strip().lower())
+    return re.sub(r"[^\w\- ]", "", text).replace(" ", "-")
+
+
+def links():
+    count, wrong = 0, []
+    for page in pages():
+        text = "\n".join(line for line in lines_of(page) if not is_code(line))
+        for target in re.findall(r"\]\(([^)\s]+)\)", text):
+            if re.match(r"[a-z]+://", target):
+                continue
+            count += 1
+            path, _, name = target.partition("#")
+            full = os.path.normpath(f"{TOP}/{os.path.dirname(page)}/{path}") if path else f"{TOP}/{page}"
+            if not os.path.exists(full):
+                wrong.append(f"{page}: {target}")
+            elif name and name not in [anchor(line.lstrip("#")) for line in lines_of(os.path.relpath(full, TOP)) if line.startswith("#")]:
+                wrong.append(f"{page}: {target}")
+    if wrong:
+        raise Exception(f"leads nowhere: {', '.join(wrong)}")
+    return f"{count} links"
+
+
+def version():
+    with open(f"{TOP}/crates/sievedwords/src/program.rt") as file:
+        (found,) = re.findall(r'\.version\("([0-9.]+)"\)', file.read())
+    said = subprocess.run([SIEVED, "--version"], capture_output=True, text=True).stdout.split()
+    page = [line for line in lines_of("docs/sieved.1") if line.startswith(".Os")]
+    newest = [line.split() for line in lines_of("CHANGELOG.md") if re.match(r"## [0-9]", line)][0]
+    if said[-1:] != [found] or page != [f".Os sieved {found}"] or newest[1] != found:
+        raise Exception(f"{found}, {said}, {page}, {newest}")
+    return found
+
+
+def completed(words):
+    """What is offered behind these words, the last of which is begun."""
+    script = 'source "$1"; shift; COMP_WORDS=("$@"); COMP_CWORD=$(($# - 1)); _sieved; printf "%s\\n" "${COMPREPLY[@]}"'
+    done = subprocess.run(["bash", "-c", script, "-", f"{TOP}/docs/completion/sieved", SIEVED, *words], capture_output=True, text=True, cwd="/")
+    return set(done.stdout.split())
+
+
+def completion():
+    trials.need("bash")
+    help_of = lambda *words: subprocess.run([SIEVED, *words, "--help"], capture_output=True, text=True).stdout
+    listed = set(re.findall(r"^  +([a-z][a-z-]*) ", help_of().split("Commands:")[1].split("\n\n")[0], re.MULTILINE))
+    offered = completed([""]) - {"--help", "--version"}
+    if offered != listed or "deliver" not in listed:
+        raise Exception(f"words: {sorted(offered ^ listed)}")
+    if completed(["del"]) != {"deliver"}:
+        raise Exception(f"del: {completed(['del'])}")
+    for word in sorted(listed):
+        options = set(re.findall(r"--[a-z][a-z0-9-]*", help_of(word)))
+        if completed([word, "--"]) != options or "--help" not in options:
+            raise Exception(f"{word}: {sorted(completed([word, '--']) ^ options)}")
+    return f"{len(listed)} words"
+
+
+TRIALS = {"readme": readme, "lines": lines, "links": links, "version": version, "completion": completion}
+
+
+def program(path):
+    global SIEVED
+    SIEVED = path
+
+
+if __name__ == "__main__":
+    trials.main(TRIALS, program)

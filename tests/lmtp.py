@@ -1,0 +1,332 @@
+#!/usr/bin/env python3
+"""Tries `sieved daemon --lmtp`: the dialogues of the cases, recipients, scripts, sockets, a store that is away, and killed.
+
+  tests/lmtp.py [--quick] [--sieved SIEVED] [TRIAL ..]     SIEVED: the program, crates/sieved/out/sieved where none is named
+
+Prints a line for each trial, a last one that counts them, and ends with 1 where one failed. `tests/run` runs it, with --quick, which
+does a tenth of what is done many times. It needs python3 alone.
+"""
+import fcntl, os, re, socket, stat, subprocess, sys, threading, time
+import trials
+from managesieve import HERE, SIEVED, Store, connect, end
+
+CASES = f"{HERE}/../crates/wirecases/data/lmtp.cases"
+PROGRAM = [SIEVED]
+PART = re.compile(r"%\{([^*]*)\*(\d+)\}|%([0-9A-F]{2})")
+# Rows in which the cases' host lacks something, or says of a recipient what a store doesn't, or has names that no account has.
+LEFT = re.compile(r"@drop|@room|(busy|broken|full|gone|from|bad|loop|crowded|late|faulty|lines)@x|a\*1022|J%C3%B6rg@x>%0D%0A\t250 2.1.5")
+STATES = {
+    "greeted": [],
+    "ready": [b"LHLO c\r\n"],
+    "opened": [b"LHLO c\r\n", b"MAIL FROM:<s@x>\r\n"],
+    "taken": [b"LHLO c\r\n", b"MAIL FROM:<s@x>\r\n", b"RCPT TO:<r@x>\r\n"],
+    "sending": [b"LHLO c\r\n", b"MAIL FROM:<s@x>\r\n", b"RCPT TO:<r@x>\r\n", b"DATA\r\n"],
+}
+
+
+class Peer:
+    """A client of LMTP."""
+
+    def __init__(self, where, greeted=True):
+        family = socket.AF_UNIX if isinstance(where, str) else socket.AF_INET
+        self.sock = socket.socket(family, socket.SOCK_STREAM)
+        self.sock.settimeout(90)
+        self.sock.connect(where if family == socket.AF_UNIX else ("127.0.0.1", where))
+        if family == socket.AF_INET:
+            self.sock.setsockopt(socket.IPPROTO_TCP, socket.TCP_NODELAY, 1)
+        self.lines = self.sock.makefile("rb")
+        if greeted:
+            self.reply()
+
+    def reply(self):
+        """A reply's last line; the others are before it."""
+        while True:
+            line = self.lines.readline()
+            if line[3:4] != b"-":
+                return line
+
+    def say(self, octets, replies=1):
+        self.sock.sendall(octets)
+        return [self.reply() for _ in range(replies)]
+
+    def open(self, *recipients, sender=b"s@x"):
+        """The replies to the recipients, in a transaction of its own."""
+        self.say(b"RSET\r\n")
+        self.say(b"MAIL FROM:<%s>\r\n" % sender)
+        return [self.say(b"RCPT TO:<%s>\r\n" % recipient)[0] for recipient in recipients]
+
+    def deliver(self, text, *recipients, sender=b"s@x"):
+        taken = [reply for reply in self.open(*recipients, sender=sender) if reply.startswith(b"250")]
+        self.say(b"DATA\r\n")
+        return self.say(text + b".\r\n", len(taken))
+
+    def close(self):
+        self.lines.close()
+        self.sock.close()
+
+
+def new_store(*users):
+    return Store(users, PROGRAM[0])
+
+
+def daemon(store, *words):
+    """The daemon's process, and where it listens, a port or a path for each listener."""
+    server = subprocess.Popen(store.words("daemon", *words), stdin=subprocess.DEVNULL, stdout=subprocess.PIPE, stderr=subprocess.PIPE)
+    places = []
+    for word in words:
+        if word in ("--managesieve", "--lmtp"):
+            told = server.stdout.readline().decode()
+            if not told.startswith("listening on "):
+                raise Exception(f"daemon: {server.wait()}: {server.stderr.read().decode()}")
+            place = told[13:].rstrip("\n")
+            places.append(int(place.rsplit(":", 1)[1]) if ":" in place else place)
+    return server, *places
+
+
+def greet(peer):
+    return peer.say(b"LHLO c\r\n")
+
+
+def inbox(store, user):
+    """The messages of a user's INBOX."""
+    counts = dict(line.rsplit(" ", 1) for line in store.run("folders", "--wait", user).decode().splitlines())
+    return [store.run("show", "--wait", user, "INBOX", str(at + 1)) for at in range(int(counts.get("INBOX", 0)))]
+
+
+def once(text):
+    return re.sub(r"%([0-9A-F]{2})", lambda found: chr(int(found[1], 16)), text)
+
+
+def octets_of(text):
+    """The octets that stand in a column of a case; `%#` within a repeated part is its number, from 1."""
+    if text == "-":
+        return b""
+    def spell(found):
+        if found[2]:
+            return "".join(once(found[1].replace("%#", str(at + 1))) for at in range(int(found[2])))
+        return chr(int(found[3], 16))
+    return PART.sub(spell, text).encode("latin-1")
+
+
+def rows():
+    with open(CASES, encoding="utf-8") as file:
+        lines = [line.rstrip("\n") for line in file if line.strip() and not line.startswith("#")]
+    return [line.split("\t") for line in lines if not LEFT.search(line)]
+
+
+def play(port, state, pieces, length):
+    """What a client is answered, behind what brought it there: so many octets, and what comes when it goes."""
+    peer = Peer(port)
+    for line in STATES[state]:
+        peer.say(line)
+    for piece in pieces:
+        peer.sock.sendall(piece)
+        time.sleep(0.002)
+    got = peer.lines.read(length)
+    peer.sock.shutdown(socket.SHUT_WR)
+    got += peer.lines.read()
+    peer.close()
+    return got
+
+
+def dialogues():
+    """Each dialogue of the cases that a store can have: what is answered, and what is delivered."""
+    found = rows()
+    thousand = [row for row in found if "*100" in "\t".join(row[1:])]
+    found = [row for row in found if row not in thousand and row[0] in STATES]
+    store = new_store("r", "postmaster")
+    server, port = daemon(store, "--lmtp", "0", "--host", "host.example")
+    delivered = 0
+    for row in found:
+        state, pieces, wanted = row[0], [octets_of(piece) for piece in row[1:-1]], octets_of(row[-1])
+        wanted = re.sub(rb"(greeted|ready|opened|sending|over)$", b"", wanted)
+        texts = re.findall(rb"\{(\S+) (\S+) ([^}]*)\}", wanted)
+        replies = re.sub(rb"\{[^}]*\}", b"", wanted)
+        before = len(inbox(store, "r"))
+        got = play(port, state, pieces, len(replies))
+        assert got == replies, (row, got[-300:])
+        now = inbox(store, "r")
+        once = list(dict.fromkeys(texts))
+        assert len(now) == before + len(once), (row, len(now), before)
+        for (sender, recipient, text), message in zip(once, now[before:]):
+            head = b"Return-Path: <%s>\r\nDelivered-To: %s\r\n" % (sender, recipient)
+            assert message.startswith(head), (row, message[:200])
+            assert text == b"long" or message == head + text, (row, message[:200])
+            delivered += 1
+    end(server)
+    assert len(found) > 80, len(found)
+    return f"{len(found)} dialogues of the cases, answered as they say; {delivered} deliveries, octet by octet"
+
+
+def names():
+    """Under which names an account is looked for."""
+    store = new_store("alice", "Bob", "postmaster", "carol@example.net")
+    server, port = daemon(store, "--lmtp", "0")
+    peer = Peer(port)
+    greet(peer)
+    told = {name: peer.open(name)[0][:3] for name in (b"alice@x", b"ALICE@x", b"alice+lists@x", b"Alice+Lists@x", b"Bob@x", b"bob@x", b"carol@example.net", b"Postmaster", b'"alice"@x')}
+    end(server)
+    assert told == {b"alice@x": b"250", b"ALICE@x": b"250", b"alice+lists@x": b"250", b"Alice+Lists@x": b"250", b"Bob@x": b"250", b"bob@x": b"550",
+                    b"carol@example.net": b"550", b"Postmaster": b"250", b'"alice"@x': b"250"}, told
+    server, port = daemon(store, "--lmtp", "0", "--names", "whole")
+    peer = Peer(port)
+    greet(peer)
+    told = {name: peer.open(name)[0][:3] for name in (b"alice@x", b"carol@example.net", b"CAROL+x@Example.net")}
+    end(server)
+    assert told == {b"alice@x": b"550", b"carol@example.net": b"250", b"CAROL+x@Example.net": b"250"}, told
+    return "nine addresses by local part, three whole ones"
+
+
+def scripts():
+    """A script that comes by ManageSieve beside deliveries, and what the replies tell."""
+    store = new_store("alice", "bob")
+    server, sieve, port = daemon(store, "--managesieve", "0", "--lmtp", "0")
+    client = connect(sieve)
+    client.log_in("alice")
+    peer = Peer(port)
+    greet(peer)
+    text = b"From: bob@example.net\r\nTo: alice@example.org\r\nSubject: [list] Lunch\r\n\r\nHi\r\n"
+    assert peer.deliver(text, b"alice@x") == [b"250 2.1.5 file INBOX\r\n"]
+    assert client.put(b"main", b'require ["fileinto", "vacation"];\r\nvacation "Away";\r\nif header :contains "subject" "[list]" { fileinto "lists"; keep; }\r\n').startswith(b"OK")
+    assert client.ask(b'SETACTIVE "main"')[-1].startswith(b"OK")
+    told = peer.deliver(text, b"alice@example.org", b"nobody@x", b"bob@x", sender=b"bob@example.net")
+    assert told == [b"250 2.1.5 file lists, file INBOX, vacation sent\r\n", b"250 2.1.5 file INBOX\r\n"], told
+    told = peer.deliver(text, b"alice@example.org", sender=b"bob@example.net")
+    assert told[0].startswith(b"250 2.1.5 file lists, file INBOX, vacation quiet"), told
+    end(server)
+    assert len(inbox(store, "alice")) == 3 and len(inbox(store, "bob")) == 1
+    return "a script that is put and set works for the next message; replies tell what was done, one a recipient"
+
+
+def circles():
+    """A message that was delivered to the recipient before, and Return-Path lines that it came with."""
+    store = new_store("alice")
+    server, port = daemon(store, "--lmtp", "0")
+    peer = Peer(port)
+    greet(peer)
+    assert peer.deliver(b"Delivered-To: ALICE@x\r\n\r\nHi\r\n", b"alice@x")[0].startswith(b"554 5.4.6")
+    assert peer.deliver(b"Delivered-To: carol@x\r\n\r\nHi\r\n", b"alice@x")[0].startswith(b"250")
+    assert peer.deliver(b"Return-Path: <evil@x>\r\nReturn-Path: <a@b>\r\nSubject: x\r\nReturn-Path: <in@x>\r\n\r\nHi\r\n", b"alice@x", sender=b"")[0].startswith(b"250")
+    end(server)
+    first, second = inbox(store, "alice")
+    assert second == b"Return-Path: <>\r\nDelivered-To: alice@x\r\nSubject: x\r\nReturn-Path: <in@x>\r\n\r\nHi\r\n", second
+    return "554 for what had its Delivered-To; Return-Path lines in front are replaced"
+
+
+def thousand():
+    """A thousand recipients, each served by a step of its own, and another client meanwhile."""
+    users = [f"r{at + 1}" for at in range(trials.some(1_000))]
+    store = new_store(*users)
+    server, port = daemon(store, "--lmtp", "0")
+    peer, other = Peer(port), Peer(port)
+    greet(peer), greet(other)
+    assert all(reply.startswith(b"250") for reply in peer.open(*[f"{user}@x".encode() for user in users]))
+    peer.say(b"DATA\r\n")
+    peer.sock.sendall(b"Subject: x\r\n\r\n" + b"x" * 10_000 + b"\r\n.\r\n")
+    slowest = 0.0
+    for _ in range(20):
+        began = time.perf_counter()
+        other.say(b"NOOP\r\n")
+        slowest = max(slowest, time.perf_counter() - began)
+    assert [peer.reply() for _ in users] == [b"250 2.1.5 file INBOX\r\n"] * len(users)
+    end(server)
+    assert all(len(inbox(store, user)) == 1 for user in users[::100])
+    return f"{len(users)} recipients, a reply each; another client's NOOP took {slowest * 1000:.0f} ms at most"
+
+
+def broken_off():
+    """Connections that end in a text: nothing is filed."""
+    store = new_store("alice")
+    server, port = daemon(store, "--lmtp", "0")
+    for tail in (b"", b"Subject: x\r\n\r\nHi\r\n", b"Hi\r\n.", b"Hi\r\n.\r"):
+        peer = Peer(port)
+        greet(peer)
+        peer.open(b"alice@x")
+        peer.say(b"DATA\r\n")
+        peer.sock.sendall(tail)
+        peer.close()
+    peer = Peer(port)
+    greet(peer)
+    assert peer.deliver(b"Hi\r\n", b"alice@x")[0].startswith(b"250")
+    end(server)
+    assert len(inbox(store, "alice")) == 1
+    return "four texts that were cut off left nothing"
+
+
+def away():
+    """While another process has the store a recipient waits, and is put off behind 60 seconds."""
+    store = new_store("alice")
+    server, port = daemon(store, "--lmtp", "0")
+    peer = Peer(port)
+    greet(peer)
+    with open(f"{store.file}.wait", "a") as wait, open(f"{store.file}.lock", "a") as lock:
+        fcntl.flock(wait, fcntl.LOCK_EX)
+        fcntl.flock(lock, fcntl.LOCK_EX)
+        peer.say(b"MAIL FROM:<s@x>\r\n")
+        peer.sock.sendall(b"RCPT TO:<alice@x>\r\n")
+        began = time.time()
+        threading.Timer(1.5, lambda: (fcntl.flock(lock, fcntl.LOCK_UN), fcntl.flock(wait, fcntl.LOCK_UN))).start()
+        assert peer.reply().startswith(b"250")
+        waited = time.time() - began
+        fcntl.flock(wait, fcntl.LOCK_EX)
+        fcntl.flock(lock, fcntl.LOCK_EX)
+        began = time.time()
+        told = peer.say(b"RCPT TO:<alice@x>\r\n")[0]
+        put_off = time.time() - began
+    end(server)
+    assert told.startswith(b"451 4.3.2") and 55 < put_off < 70, (told, put_off)
+    return f"had again after {waited:.1f} s; put off behind {put_off:.0f} s"
+
+
+def sockets():
+    """A path, a descriptor, and what stands in the way."""
+    store = new_store("alice")
+    room = store.folder.name
+    path = f"{room}/lmtp"
+    server, place = daemon(store, "--lmtp", path)
+    assert place == path and stat.S_IMODE(os.stat(path).st_mode) == 0o660, oct(os.stat(path).st_mode)
+    peer = Peer(path)
+    greet(peer)
+    assert peer.deliver(b"Hi\r\n", b"alice@x")[0].startswith(b"250")
+    end(server)
+    # The socket that a killed one left is taken away.
+    server, place = daemon(store, "--lmtp", path)
+    assert Peer(path).sock
+    end(server)
+    os.remove(path)
+    with open(path, "w") as file:
+        file.write("precious")
+    done = subprocess.run(store.words("daemon", "--lmtp", path), capture_output=True, timeout=20)
+    assert done.returncode == 64 and open(path).read() == "precious", done
+    listener = socket.socket(socket.AF_UNIX)
+    listener.bind(f"{room}/given")
+    listener.listen()
+    server = subprocess.Popen(store.words("daemon", "--lmtp", "-"), stdin=listener, stdout=subprocess.PIPE)
+    assert server.stdout.readline() == b"listening on -\n"
+    peer = Peer(f"{room}/given")
+    greet(peer)
+    assert peer.deliver(b"Hi\r\n", b"alice@x")[0].startswith(b"250")
+    end(server)
+    assert len(inbox(store, "alice")) == 2
+    done = subprocess.run(store.words("daemon"), capture_output=True, timeout=20)
+    assert done.returncode == 64, done
+    return "a path of mode 0660, one that is stale, a file in the way (64), a descriptor; no listener: 64"
+
+
+def killed():
+    """Killed under load: each message that was answered 250 is there (`bench/kill_daemon.py`)."""
+    done = subprocess.run([sys.executable, f"{HERE}/../bench/kill_daemon.py", PROGRAM[0], str(trials.some(200))], capture_output=True, text=True, timeout=250)
+    assert done.returncode == 0, done.stdout + done.stderr
+    return done.stdout.strip()
+
+
+TRIALS = {"dialogues": dialogues, "names": names, "scripts": scripts, "circles": circles, "thousand": thousand, "broken_off": broken_off, "away": away,
+          "sockets": sockets, "killed": killed}
+
+
+def program(path):
+    PROGRAM[0] = path
+
+
+if __name__ == "__main__":
+    trials.main(TRIALS, program)
