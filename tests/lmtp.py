@@ -87,10 +87,15 @@ def greet(peer):
     return peer.say(b"LHLO c\r\n")
 
 
-def inbox(store, user):
-    """The messages of a user's INBOX."""
+def count_of(store, user):
+    """How many messages a user's INBOX has."""
     counts = dict(line.rsplit(" ", 1) for line in store.run("folders", "--wait", user).decode().splitlines())
-    return [store.run("show", "--wait", user, "INBOX", str(at + 1)) for at in range(int(counts.get("INBOX", 0)))]
+    return int(counts.get("INBOX", 0))
+
+
+def inbox(store, user, start=0):
+    """The messages of a user's INBOX, but for so many first ones."""
+    return [store.run("show", "--wait", user, "INBOX", str(at + 1)) for at in range(start, count_of(store, user))]
 
 
 def once(text):
@@ -134,6 +139,7 @@ def dialogues():
     found = rows()
     thousand = [row for row in found if "*100" in "\t".join(row[1:])]
     found = [row for row in found if row not in thousand and row[0] in STATES]
+    found.sort(key=lambda row: "*1973660" in "\t".join(row))
     store = new_store("r", "postmaster")
     server, port = daemon(store, "--lmtp", "0", "--host", "host.example")
     delivered = 0
@@ -142,13 +148,13 @@ def dialogues():
         wanted = re.sub(rb"(greeted|ready|opened|sending|over)$", b"", wanted)
         texts = re.findall(rb"\{(\S+) (\S+) ([^}]*)\}", wanted)
         replies = re.sub(rb"\{[^}]*\}", b"", wanted)
-        before = len(inbox(store, "r"))
+        before = count_of(store, "r")
         got = play(port, state, pieces, len(replies))
         assert got == replies, (row, got[-300:])
-        now = inbox(store, "r")
+        now = inbox(store, "r", before)
         once = list(dict.fromkeys(texts))
-        assert len(now) == before + len(once), (row, len(now), before)
-        for (sender, recipient, text), message in zip(once, now[before:]):
+        assert len(now) == len(once), (row, len(now), before)
+        for (sender, recipient, text), message in zip(once, now):
             head = b"Return-Path: <%s>\r\nDelivered-To: %s\r\n" % (sender, recipient)
             assert message.startswith(head), (row, message[:200])
             assert text == b"long" or message == head + text, (row, message[:200])
