@@ -1,8 +1,8 @@
 //! The word on what leaves a folder: its messages go into a sink, and then out of the store.
-ghost use Rattle.std.specs.Prelude.{◌≡◌, ◌⊎◌, ℕ, List, false, IfErr, IfOk, OnOk, IsTrue, option_copied};
+ghost use Rattle.std.specs.Prelude.{◌≡◌, ◌≢◌, ◌⊎◌, ℕ, List, false, IfErr, IfOk, OnOk, IsTrue, option_copied};
 ghost use Rattle.sqlite.specs.Held.{state};
 ghost use Rattle.sievedrun.specs.Draining.{IsMost, MovesFirst, MovesAll, Drains, MovesTables, HasDrained, HasRefused, IsUnkept};
-ghost use Rattle.sievedrun.specs.Faults.{no_user, IsFailure, IsSudden};
+ghost use Rattle.sievedrun.specs.Faults.{memory, no_user, store_failed, IsFailure, IsSudden};
 ghost use Rattle.sievedrun.specs.Serving.{HasDenied, HasGiven};
 ghost use Rattle.sievedrun.specs.Values.{HasNoNumber};
 
@@ -106,7 +106,9 @@ fn move_first<S: Alter, T: MailSink>(
 
 /// Why the folder of a user who was there a moment ago can't be read.
 fn failure_of(refusal: Refusal) -> Fault
-    ensures { IsSudden ⊥ result }
+    ensures sudden { IsSudden ⊥ result }
+    ensures memory { refusal ≡ Refusal.Memory → result ≡ memory }
+    ensures other { refusal ≢ Refusal.Memory → result ≡ store_failed }
 {
     match refusal {
         Refusal::Memory => Fault::Refused(Refusal::Memory),
@@ -116,7 +118,9 @@ fn failure_of(refusal: Refusal) -> Fault
 
 /// Why a message isn't kept by a sink that is open.
 fn sink_failure(error: SinkError) -> Fault
-    ensures { IsFailure result }
+    ensures failure { IsFailure result }
+    ensures memory { error ≡ SinkError.Memory → result ≡ memory }
+    ensures other { error ≢ SinkError.Memory → result ≡ Fault.Stream }
 {
     match error {
         SinkError::Memory => Fault::Refused(Refusal::Memory),

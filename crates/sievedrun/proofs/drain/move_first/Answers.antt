@@ -43,11 +43,11 @@ returns-clause-moves g c =
     c.in-Err-take_mail.is
 
 pub returns-in-Err-clause-fault : goal.returns-in-Err-clause-fault
-returns-in-Err-clause-fault g c = sudden_wider (IsUnkept (HasRefused g.T.MailSink.refuses)) c.failure_of.result c.failure_of.ensures
+returns-in-Err-clause-fault g c = sudden_wider (IsUnkept (HasRefused g.T.MailSink.refuses)) c.failure_of.result c.failure_of.ensures.sudden
 
 pub returns-in-Err-keep-clause-fault : goal.returns-in-Err-keep-clause-fault
 returns-in-Err-keep-clause-fault g c =
-    failure_sudden (IsUnkept (HasRefused g.T.MailSink.refuses)) c.sink_failure.result c.sink_failure.ensures (c.in-Err-keep.error, (c.args.sink.now, c.in-Err-keep.ensures.denied))
+    failure_sudden (IsUnkept (HasRefused g.T.MailSink.refuses)) c.sink_failure.result c.sink_failure.ensures.failure (c.in-Err-keep.error, (c.args.sink.now, c.in-Err-keep.ensures.denied))
 
 pub returns-clause-fault : goal.returns-clause-fault
 returns-clause-fault g c = sudden_refusal (IsUnkept (HasRefused g.T.MailSink.refuses)) c.in-Err-take_mail.refusal c.in-Err-take_mail.ensures.named
