@@ -14,7 +14,7 @@ use Rattle.keepers.specs.declared.keeper.Unavailable.TheVariants.{Busy}
 use Rattle.sessions.specs.Refusing.{WasRefused}
 use Rattle.sievedwords.specs.declared.location.StoreLocation.{StoreLocation}
 use Rattle.sievedrun.specs.Framing.{IsFramed}
-use Rattle.sievedrun.specs.Serving.{Round, HasGiven, IsDenied, Hears, Steps, GivesUp, Leads, came_in, said_in}
+use Rattle.sievedrun.specs.Serving.{Round, HasGiven, Hinders, IsDenied, Hears, Steps, GivesUp, Leads, Unstopped, came_in, said_in}
 
 five-digits : (k d : ℕ) → k < 1 → is_digit (get_or (codes "5") k d) ≡ true
 five-digits zero d k<1 = refl
@@ -59,7 +59,7 @@ abbrev noop_rounds : List Round
 noop_rounds =
     hears (codes "NO") (after (codes "NO")) ∷ hears (codes "OP" ++ crlf) (after (codes "NOOP" ++ crlf)) ∷ record { came = []; said = codes "OK \"Done.\"" ++ crlf; accounts = no_accounts; client = new_client } ∷ []
 
-noop : Leads ⊥ ⊥ no_accounts new_client noop_rounds no_accounts new_client
+noop : Leads Unstopped ⊥ no_accounts new_client noop_rounds no_accounts new_client
 unfolding machine_rows
 noop = (
   inl (record { live = refl; waits = refl; short = lit≤ tt; silent = refl; joins = refl; same = refl }),
@@ -85,11 +85,11 @@ noop_said : said_in noop_rounds ≡ codes "OK \"Done.\"" ++ crlf
 noop_said = refl
 
 -- where a keeper denied its store it may be given up; where none did, only after its step was refused; but nothing more is heard while it waits, and nothing is answered that isn't whole
-noop_given_up : GivesUp (Unit {0}) no_accounts (after (codes "NOOP" ++ crlf)) (record { came = []; said = codes "NO (TRYLATER) \"Try later.\"" ++ crlf; accounts = no_accounts; client = new_client })
+noop_given_up : GivesUp (Hinders (Unit {0})) no_accounts (after (codes "NOOP" ++ crlf)) (record { came = []; said = codes "NO (TRYLATER) \"Try later.\"" ++ crlf; accounts = no_accounts; client = new_client })
 unfolding machine_rows
 noop_given_up = record { ready = refl; none = refl; cause = inl tt; told = refl; drops = refl; same = refl }
 
-noop_without_cause : (r : Round) → GivesUp ⊥ no_accounts (after (codes "NOOP" ++ crlf)) r → WasRefused (after (codes "NOOP" ++ crlf))
+noop_without_cause : (r : Round) → GivesUp (Hinders ⊥) no_accounts (after (codes "NOOP" ++ crlf)) r → WasRefused (after (codes "NOOP" ++ crlf))
 noop_without_cause r g = elim g.cause [
   | inl none ↦ absurd none
   | inr was ↦ was

@@ -2,6 +2,7 @@
 use Rattle.std.proofs.Common.{◌≡◌, ◌≢◌, ◌⊎◌, ℕ, ◌≤◌, Bool, true, false, List, [], ◌∷◌, ◌++◌, length, Option, Some, None, Result, Ok, Err, IfErr, OnErr, OnOk, IfSome, IsTrue, is_some, refl, sym, ap, ◌∙◌, subst, inl, inr, append_assoc, append-nil}
 use Rattle.std.proofs.Math.Seq.{take-append_seam}
 use Rattle.std.proofs.lemmas.Grind.{flat_map-append}
+use Rattle.std.specs.Option.{option_copied}
 use Rattle.std.specs.Io.KnownBytes.{Appends, Consumes}
 use Rattle.sqlite.specs.Effect.{Database}
 use Rattle.sqlite.specs.State.{State, HasCleanDisk}
@@ -23,9 +24,9 @@ use Rattle.keepers.specs.declared.keeper.Unavailable.{Unavailable}
 use Rattle.keepers.specs.declared.keeper.Unavailable.TheVariants.{Busy, Refused}
 use Rattle.sievedrun.specs.declared.trouble.Trouble.{Trouble}
 use Rattle.sievedrun.specs.declared.trouble.FirstTrouble.{FirstTrouble}
-use Rattle.sievedrun.specs.Serving.{Round, IsDenied, IsDeniedBy, IsNoted, KeepsFirst, Hinders, IsRound, Leads, came_in, said_in, largest_piece, BeginsWith, Passes, Answered, Writes, Interrupted, WritesFirst, StepsOn, Served, BreaksOff, AreSeen, PresentsSeen, database_seen}
-use Rattle.sievedrun.specs.Faults.{IsPrinted}
-use Rattle.sievedrun.specs.Streams.{AppendsFront}
+use Rattle.sievedrun.specs.Serving.{Round, IsDenied, IsDeniedBy, IsNoted, KeepsFirst, Hinders, IsRound, Leads, came_in, said_in, largest_piece, BeginsWith, Passes, Answered, Writes, Interrupted, WritesFirst, StepsOn, Served, BreaksOff, Converses, Serves, Stops, Unstopped, IsTold, TellsOne, AreSeen, PresentsSeen, database_seen}
+use Rattle.sievedrun.specs.Faults.{IsPrinted, cause_line, line_of}
+use Rattle.sievedrun.specs.Streams.{AppendsFront, IsWritten}
 use Rattle.sievedrun.proofs.StreamLemmas.{front_on, nothing_read, nothing_written, read_on, written_on}
 
 -- ---- a step over a store that presents what was seen, open and over a disk that keeps what is written
@@ -90,21 +91,125 @@ pub reads_out : {X E : Type 0} (r : Result X E) (ToEnd Closed On : Type 0) → O
 reads_out (Ok x) ToEnd Closed On read = elim read [ inl all ↦ inl all | inr on ↦ inr on.1 ]
 reads_out (Err e) ToEnd Closed On read = tt
 
--- where that is so of a keeper that refused
-module _ (Denied Given : Type 0) where
+-- ---- what is told of a trouble
+
+-- so far: nothing, where none was noted; or it was told
+abbrev pub ToldSoFar : Option (List ℕ) → Option (List ℕ) → FirstTrouble → Type 0
+ToldSoFar old new first = ((first.is_told ≡ false) × (first.trouble ≡ None) × (new ≡ old)) ⊎ (IsTrue first.is_told × IsTrue (is_some first.trouble) × IsTold old new)
+
+pub told_one : (old new : Option (List ℕ)) (first : FirstTrouble) → ToldSoFar old new first → TellsOne old new
+told_one old new first so = elim so [ inl none ↦ inl none.2 | inr told ↦ inr told.2 ]
+
+-- one that was noted stays so
+pub noted_still : (a b : FirstTrouble) → KeepsFirst a b → IsTrue (is_some a.trouble) → IsTrue (is_some b.trouble)
+noted_still a b kept = some_still a.trouble kept.1
+  where
+    some_still : (o : Option Trouble) → IfSome o (λ first. b.trouble ≡ Some first) → IsTrue (is_some o) → IsTrue (is_some b.trouble)
+    some_still None is some = absurd (let h = some in cc)
+    some_still (Some first) is some = subst (λ o. IsTrue (is_some o)) (sym is) some
+
+-- one was noted or not, and then told where it wasn't yet
+module _ (old before after : Option (List ℕ)) (a b c : FirstTrouble) (kept : KeepsFirst a b) (once : IsTrue b.is_told → after ≡ before) (none : b.trouble ≡ None → after ≡ before)
+    (tells : b.is_told ≡ false → IfSome b.trouble (λ trouble. IsWritten before after (line_of trouble.fault ++ cause_line (option_copied trouble.cause))))
+    (same : c.trouble ≡ b.trouble) (told : IfSome b.trouble (λ trouble. IsTrue c.is_told)) (untold : b.trouble ≡ None → c.is_told ≡ b.is_told) where
+  told_first : a.is_told ≡ false → before ≡ old → (o : Option Trouble) → b.trouble ≡ o → ToldSoFar old after c
+  told_first not is None none_there = inl (untold none_there ∙ kept.0 ∙ not, same ∙ none_there, none none_there ∙ is)
+  told_first not is (Some trouble) there =
+      let written : IsWritten before after (line_of trouble.fault ++ cause_line (option_copied trouble.cause)) =
+      subst (λ (o : Option Trouble). IfSome o (λ t. IsWritten before after (line_of t.fault ++ cause_line (option_copied t.cause)))) there (tells (kept.0 ∙ not)) in
+      inr (
+        subst (λ (o : Option Trouble). IfSome o (λ t. IsTrue c.is_told)) there told,
+        subst (λ (o : Option Trouble). IsTrue (is_some o)) (sym (same ∙ there)) refl,
+        (trouble, subst (λ o. IsWritten o after (line_of trouble.fault ++ cause_line (option_copied trouble.cause))) is written),
+      )
+
+  some_told : (o : Option Trouble) → b.trouble ≡ o → IsTrue (is_some o) → IsTrue c.is_told
+  some_told None there some = absurd (let h = some in cc)
+  some_told (Some trouble) there some = subst (λ (o : Option Trouble). IfSome o (λ t. IsTrue c.is_told)) there told
+
+  pub told_on : ToldSoFar old before a → ToldSoFar old after c
+  told_on so = elim so [
+    | inl first ↦ told_first first.0 first.2 b.trouble refl
+    | inr was ↦
+        let some = noted_still a b kept was.1 in
+        inr (some_told b.trouble refl some, subst (λ (o : Option Trouble). IsTrue (is_some o)) (sym same) some, subst (λ o. IsTold old o) (sym (once (kept.0 ∙ was.0))) was.2)
+  ]
+
+  pub told_now : ToldSoFar old before a → IsTrue (is_some b.trouble) → IsTold old after
+  told_now so some = elim (told_on so) [
+    | inl none ↦ absurd (let h : is_some c.trouble ≡ false = ap is_some none.1 in let k : is_some c.trouble ≡ true = ap is_some same ∙ some in cc)
+    | inr now ↦ now.2
+  ]
+
+  pub told_still : ToldSoFar old before a → IsTold old before → IsTold old after
+  told_still so was = elim so [
+    | inl first ↦ elim (told_first first.0 first.2 b.trouble refl) [
+      | inl none ↦ subst (λ o. IsTold old o) (sym (none.2 ∙ sym first.2)) was
+      | inr now ↦ now.2
+    ]
+    | inr then ↦ subst (λ o. IsTold old o) (sym (once (kept.0 ∙ then.0))) was
+  ]
+
+-- ---- what keeps a command from its answer
+
+pub stops_as : {K : Type 0} (refuses : K → List ℕ → Unavailable → Type 0) (waits : K → Bool) (location : StoreLocation) (Told Now : Type 0) → (Told → Now) → (c : Client) → Stops refuses waits location Told c → Stops refuses waits location Now c
+stops_as refuses waits location Told Now so c stops = (stops.0, elim stops.1 [ inl told ↦ inl (so told) | inr busy ↦ inr busy ])
+
+pub never_stops : (Stopped : Client → Type 0) (c : Client) → Unstopped c → Stopped c
+never_stops Stopped c never = absurd never
+
+-- where one such cause is another
+module _ (First Stopped : Client → Type 0) (Given : Type 0) (so : (c : Client) → First c → Stopped c) where
+  round_as : (accounts : Accounts) (c : Client) (r : Round) → IsRound First Given accounts c r → IsRound Stopped Given accounts c r
+  round_as accounts c r round = elim round [
+    | inl heard ↦ inl heard
+    | inr other ↦ elim other [
+      | inl stepped ↦ inr (inl stepped)
+      | inr gives ↦ inr (inr (record { ready = gives.ready; none = gives.none; cause = so c gives.cause; told = gives.told; drops = gives.drops; same = gives.same }))
+    ]
+  ]
+
+  leads_as : (accounts : Accounts) (c : Client) (rounds : List Round) (later : Accounts) (d : Client) → Leads First Given accounts c rounds later d → Leads Stopped Given accounts c rounds later d
+  leads_as accounts c [] later d leads = leads
+  leads_as accounts c (r ∷ rounds) later d leads = (round_as accounts c r leads.0, leads_as r.accounts r.client rounds later d leads.1)
+
+  passes_as : (accounts : Accounts) (c : Client) (rounds : List Round) (d : Client) (Shown : Accounts → Type 0) → Passes First Given accounts c rounds d Shown → Passes Stopped Given accounts c rounds d Shown
+  passes_as accounts c rounds d Shown p = record { later = p.later; leads = leads_as accounts c rounds p.later d p.leads; shown = p.shown }
+
+  pub answered_as : (accounts : Accounts) (c : Client) (waited waits : List ℕ) (d : Client) (Shown : Accounts → Type 0) → Answered First Given accounts c waited waits d Shown → Answered Stopped Given accounts c waited waits d Shown
+  answered_as accounts c waited waits d Shown a = record { rounds = a.rounds; passes = passes_as accounts c a.rounds d Shown a.passes; none = a.none; joins = a.joins }
+
+  pub writes_as : (accounts : Accounts) (c : Client) (out out2 : Option (List ℕ)) (d : Client) (new : Database) → Writes First Given accounts c out out2 d new → Writes Stopped Given accounts c out out2 d new
+  writes_as accounts c out out2 d new a = record { rounds = a.rounds; passes = passes_as accounts c a.rounds d (Offers new) a.passes; none = a.none; written = a.written }
+
+  pub interrupted_as : (accounts : Accounts) (c : Client) (out out2 : Option (List ℕ)) (new : Database) → Interrupted First Given accounts c out out2 new → Interrupted Stopped Given accounts c out out2 new
+  interrupted_as accounts c out out2 new a = record { rounds = a.rounds; client = a.client; passes = passes_as accounts c a.rounds a.client (Offers new) a.passes; none = a.none; written = a.written }
+
+  pub served_as : (accounts : Accounts) (in_old in_new out out2 : Option (List ℕ)) (c : Client) (new : Database) → Served First Given accounts in_old in_new out out2 c new → Served Stopped Given accounts in_old in_new out out2 c new
+  served_as accounts in_old in_new out out2 c new s = record { rounds = s.rounds; passes = passes_as accounts new_client s.rounds c (Offers new) s.passes; read = s.read; written = s.written; answered = s.answered }
+
+  converses_as : (accounts : Accounts) (in_old in_new out out2 : Option (List ℕ)) (new : Database) (r : Result (Unit {0}) Fault) → Converses First Given accounts in_old in_new out out2 new r → Converses Stopped Given accounts in_old in_new out out2 new r
+  converses_as accounts in_old in_new out out2 new (Ok done) e = record { client = e.client; served = served_as accounts in_old in_new out out2 e.client new e.served; over = e.over }
+  converses_as accounts in_old in_new out out2 new (Err fault) b = record { rounds = b.rounds; client = b.client; passes = passes_as accounts new_client b.rounds b.client (Offers new) b.passes; read = b.read; written = b.written }
+
+  pub serves_as : (in_old in_new out out2 : Option (List ℕ)) (old new : Database) (r : Result (Unit {0}) Fault) → Serves First Given in_old in_new out out2 old new r → Serves Stopped Given in_old in_new out out2 old new r
+  serves_as in_old in_new out out2 old new r s = record { talks = λ accounts shown. converses_as accounts in_old in_new out out2 new r (s.talks accounts shown); none = s.none }
+
+-- where what is given up has such a cause, and a store was given so
+module _ (Stopped : Client → Type 0) (Given : Type 0) where
   -- ---- rounds
 
-  pub leads_on : (accounts : Accounts) (c : Client) (rounds more : List Round) (mid : Accounts) (m : Client) (later : Accounts) (d : Client) → Leads Denied Given accounts c rounds mid m → Leads Denied Given mid m more later d → Leads Denied Given accounts c (rounds ++ more) later d
-  leads_on accounts c [] more mid m later d here next = subst (λ a. Leads Denied Given a c more later d) here.0 (subst (λ x. Leads Denied Given mid x more later d) here.1 next)
+  pub leads_on : (accounts : Accounts) (c : Client) (rounds more : List Round) (mid : Accounts) (m : Client) (later : Accounts) (d : Client) → Leads Stopped Given accounts c rounds mid m → Leads Stopped Given mid m more later d → Leads Stopped Given accounts c (rounds ++ more) later d
+  leads_on accounts c [] more mid m later d here next = subst (λ a. Leads Stopped Given a c more later d) here.0 (subst (λ x. Leads Stopped Given mid x more later d) here.1 next)
   leads_on accounts c (r ∷ rounds) more mid m later d here next = (here.0, leads_on r.accounts r.client rounds more mid m later d here.1 next)
 
-  pub passes_on : (accounts : Accounts) (c m d : Client) (rounds more : List Round) (Mid Shown : Accounts → Type 0) (p : Passes Denied Given accounts c rounds m Mid) → Passes Denied Given p.later m more d Shown → Passes Denied Given accounts c (rounds ++ more) d Shown
+  pub passes_on : (accounts : Accounts) (c m d : Client) (rounds more : List Round) (Mid Shown : Accounts → Type 0) (p : Passes Stopped Given accounts c rounds m Mid) → Passes Stopped Given p.later m more d Shown → Passes Stopped Given accounts c (rounds ++ more) d Shown
   passes_on accounts c m d rounds more Mid Shown p q = record { later = q.later; leads = leads_on accounts c rounds more p.later m q.later d p.leads q.leads; shown = q.shown }
 
-  pub passes_none : (accounts : Accounts) (c : Client) (Shown : Accounts → Type 0) → Shown accounts → Passes Denied Given accounts c [] c Shown
+  pub passes_none : (accounts : Accounts) (c : Client) (Shown : Accounts → Type 0) → Shown accounts → Passes Stopped Given accounts c [] c Shown
   passes_none accounts c Shown shown = record { later = accounts; leads = (refl, refl); shown = shown }
 
-  pub passes_one : (accounts : Accounts) (c : Client) (r : Round) (Shown : Accounts → Type 0) → IsRound Denied Given accounts c r → Shown r.accounts → Passes Denied Given accounts c (r ∷ []) r.client Shown
+  pub passes_one : (accounts : Accounts) (c : Client) (r : Round) (Shown : Accounts → Type 0) → IsRound Stopped Given accounts c r → Shown r.accounts → Passes Stopped Given accounts c (r ∷ []) r.client Shown
   passes_one accounts c r Shown round shown = record { later = r.accounts; leads = (round, (refl, refl)); shown = shown }
 
   -- ---- what is written
@@ -122,11 +227,11 @@ module _ (Denied Given : Type 0) where
 
   -- ---- what was answered, and waits
 
-  pub answered_none : (accounts : Accounts) (c : Client) (waits : List ℕ) (Shown : Accounts → Type 0) → Shown accounts → Answered Denied Given accounts c waits waits c Shown
+  pub answered_none : (accounts : Accounts) (c : Client) (waits : List ℕ) (Shown : Accounts → Type 0) → Shown accounts → Answered Stopped Given accounts c waits waits c Shown
   answered_none accounts c waits Shown shown = record { rounds = []; passes = passes_none accounts c Shown shown; none = refl; joins = sym (append-nil waits) }
 
-  pub answered_on : (accounts : Accounts) (c m d : Client) (waits waits2 waits3 : List ℕ) (Mid Shown : Accounts → Type 0) → Answered Denied Given accounts c waits waits2 m Mid
-      → ((a : Accounts) → Mid a → Answered Denied Given a m waits2 waits3 d Shown) → Answered Denied Given accounts c waits waits3 d Shown
+  pub answered_on : (accounts : Accounts) (c m d : Client) (waits waits2 waits3 : List ℕ) (Mid Shown : Accounts → Type 0) → Answered Stopped Given accounts c waits waits2 m Mid
+      → ((a : Accounts) → Mid a → Answered Stopped Given a m waits2 waits3 d Shown) → Answered Stopped Given accounts c waits waits3 d Shown
   answered_on accounts c m d waits waits2 waits3 Mid Shown first then =
       let second = then first.passes.later first.passes.shown in
       record {
@@ -137,7 +242,7 @@ module _ (Denied Given : Type 0) where
       }
 
   -- a step answers what comes first
-  pub first_stepped : (accounts : Accounts) (c d : Client) (waits waits2 : List ℕ) (Shown : Accounts → Type 0) → is_ready c ≡ true → StepsOn Given accounts c waits waits2 d Shown true → Answered Denied Given accounts c waits waits2 d Shown
+  pub first_stepped : (accounts : Accounts) (c d : Client) (waits waits2 : List ℕ) (Shown : Accounts → Type 0) → is_ready c ≡ true → StepsOn Given accounts c waits waits2 d Shown true → Answered Stopped Given accounts c waits waits2 d Shown
   first_stepped accounts c d waits waits2 Shown ready step =
       let r : Round = record { came = []; said = step.1; accounts = step.2; client = d } in
       record {
@@ -148,14 +253,14 @@ module _ (Denied Given : Type 0) where
       }
 
   -- or nothing changed
-  pub step_answers : (accounts : Accounts) (c d : Client) (waits waits2 : List ℕ) (Shown : Accounts → Type 0) (made : Bool) → is_ready c ≡ true → StepsOn Given accounts c waits waits2 d Shown made → Answered Denied Given accounts c waits waits2 d Shown
+  pub step_answers : (accounts : Accounts) (c d : Client) (waits waits2 : List ℕ) (Shown : Accounts → Type 0) (made : Bool) → is_ready c ≡ true → StepsOn Given accounts c waits waits2 d Shown made → Answered Stopped Given accounts c waits waits2 d Shown
   step_answers accounts c d waits waits2 Shown true ready step = first_stepped accounts c d waits waits2 Shown ready step
   step_answers accounts c d waits waits2 Shown false ready (same, silent, shown) =
-      subst (λ x. Answered Denied Given accounts c waits waits2 x Shown) (sym same) (subst (λ w. Answered Denied Given accounts c waits w c Shown) (sym silent) (answered_none accounts c waits Shown shown))
+      subst (λ x. Answered Stopped Given accounts c waits waits2 x Shown) (sym same) (subst (λ w. Answered Stopped Given accounts c waits w c Shown) (sym silent) (answered_none accounts c waits Shown shown))
 
   -- what was seen is given back
   pub answered_back : {X : Type 0} (sees : X → Database) (held new : Database) (store : Option X) → new ≡ database_seen sees held store → (accounts : Accounts) (c d : Client) (waits waits2 : List ℕ)
-      → Answered Denied Given accounts c waits waits2 d (AreSeen Given sees held store) → Answered Denied Given accounts c waits waits2 d (Offers new)
+      → Answered Stopped Given accounts c waits waits2 d (AreSeen Given sees held store) → Answered Stopped Given accounts c waits waits2 d (Offers new)
   answered_back sees held new store is accounts c d waits waits2 a = record {
     rounds = a.rounds;
     passes = record { later = a.passes.later; leads = a.passes.leads; shown = offers_seen Given sees held new store is a.passes.later a.passes.shown };
@@ -165,11 +270,11 @@ module _ (Denied Given : Type 0) where
 
   -- ---- what was answered and written
 
-  pub writes_none : (accounts : Accounts) (c : Client) (out : Option (List ℕ)) (new : Database) → Offers new accounts → Writes Denied Given accounts c out out c new
+  pub writes_none : (accounts : Accounts) (c : Client) (out : Option (List ℕ)) (new : Database) → Offers new accounts → Writes Stopped Given accounts c out out c new
   writes_none accounts c out new shown = record { rounds = []; passes = passes_none accounts c (Offers new) shown; none = refl; written = nothing_written out }
 
-  pub writes_on : (accounts : Accounts) (c m d : Client) (out out2 out3 : Option (List ℕ)) (mid new : Database) → Writes Denied Given accounts c out out2 m mid
-      → ((a : Accounts) → Offers mid a → Writes Denied Given a m out2 out3 d new) → Writes Denied Given accounts c out out3 d new
+  pub writes_on : (accounts : Accounts) (c m d : Client) (out out2 out3 : Option (List ℕ)) (mid new : Database) → Writes Stopped Given accounts c out out2 m mid
+      → ((a : Accounts) → Offers mid a → Writes Stopped Given a m out2 out3 d new) → Writes Stopped Given accounts c out out3 d new
   writes_on accounts c m d out out2 out3 mid new first then =
       let second = then first.passes.later first.passes.shown in
       record {
@@ -179,8 +284,8 @@ module _ (Denied Given : Type 0) where
         written = subst (Appends out out3) (sym (said_on first.rounds second.rounds)) (written_on out out2 out3 (said_in first.rounds) (said_in second.rounds) first.written second.written);
       }
 
-  pub interrupted_on : (accounts : Accounts) (c m : Client) (out out2 out3 : Option (List ℕ)) (mid new : Database) → Writes Denied Given accounts c out out2 m mid
-      → ((a : Accounts) → Offers mid a → Interrupted Denied Given a m out2 out3 new) → Interrupted Denied Given accounts c out out3 new
+  pub interrupted_on : (accounts : Accounts) (c m : Client) (out out2 out3 : Option (List ℕ)) (mid new : Database) → Writes Stopped Given accounts c out out2 m mid
+      → ((a : Accounts) → Offers mid a → Interrupted Stopped Given a m out2 out3 new) → Interrupted Stopped Given accounts c out out3 new
   interrupted_on accounts c m out out2 out3 mid new first then =
       let second = then first.passes.later first.passes.shown in
       record {
@@ -192,7 +297,7 @@ module _ (Denied Given : Type 0) where
       }
 
   -- what was written counts as interrupted, where no more is
-  pub interrupted_so : (accounts : Accounts) (c d : Client) (out out2 : Option (List ℕ)) (new : Database) → Writes Denied Given accounts c out out2 d new → Interrupted Denied Given accounts c out out2 new
+  pub interrupted_so : (accounts : Accounts) (c d : Client) (out out2 : Option (List ℕ)) (new : Database) → Writes Stopped Given accounts c out out2 d new → Interrupted Stopped Given accounts c out out2 new
   interrupted_so accounts c d out out2 new a = record {
     rounds = a.rounds;
     client = d;
@@ -204,14 +309,14 @@ module _ (Denied Given : Type 0) where
   -- ---- what comes first
 
   -- the answers are written, or that fails
-  pub first_written : (accounts : Accounts) (c d : Client) (out out2 : Option (List ℕ)) (waits : List ℕ) (new : Database) → Answered Denied Given accounts c [] waits d (Offers new)
-      → (r : Result (Unit {0}) Fault) → IsPrinted r out out2 waits → WritesFirst Denied Given accounts c out out2 d new r
+  pub first_written : (accounts : Accounts) (c d : Client) (out out2 : Option (List ℕ)) (waits : List ℕ) (new : Database) → Answered Stopped Given accounts c [] waits d (Offers new)
+      → (r : Result (Unit {0}) Fault) → IsPrinted r out out2 waits → WritesFirst Stopped Given accounts c out out2 d new r
   first_written accounts c d out out2 waits new a (Ok done) printed = record { rounds = a.rounds; passes = a.passes; none = a.none; written = subst (Appends out out2) a.joins printed.0 }
   first_written accounts c d out out2 waits new a (Err fault) printed = record { rounds = a.rounds; client = d; passes = a.passes; none = a.none; written = subst (AppendsFront out out2) a.joins printed.1.0 }
 
   -- it is given up, or that can't be written
-  pub first_given_up : (accounts : Accounts) (c d : Client) (out out2 : Option (List ℕ)) (text : List ℕ) (new : Database) → is_ready c ≡ true → Hinders Denied c → Offers new accounts → text ≡ text_given_up c → d ≡ client_given_up c
-      → (r : Result (Unit {0}) Fault) → IsPrinted r out out2 text → WritesFirst Denied Given accounts c out out2 d new r
+  pub first_given_up : (accounts : Accounts) (c d : Client) (out out2 : Option (List ℕ)) (text : List ℕ) (new : Database) → is_ready c ≡ true → Stopped c → Offers new accounts → text ≡ text_given_up c → d ≡ client_given_up c
+      → (r : Result (Unit {0}) Fault) → IsPrinted r out out2 text → WritesFirst Stopped Given accounts c out out2 d new r
   first_given_up accounts c d out out2 text new ready cause shown told drops (Ok done) printed =
       let r : Round = record { came = []; said = text; accounts = accounts; client = d } in
       record {
@@ -231,8 +336,8 @@ module _ (Denied Given : Type 0) where
       }
 
   -- what comes first is answered, or breaks off, after what was answered
-  pub first_on : (accounts : Accounts) (c m d : Client) (out out2 out3 : Option (List ℕ)) (mid new : Database) → Writes Denied Given accounts c out out2 m mid
-      → (r : Result (Unit {0}) Fault) → ((a : Accounts) → Offers mid a → WritesFirst Denied Given a m out2 out3 d new r) → WritesFirst Denied Given accounts c out out3 d new r
+  pub first_on : (accounts : Accounts) (c m d : Client) (out out2 out3 : Option (List ℕ)) (mid new : Database) → Writes Stopped Given accounts c out out2 m mid
+      → (r : Result (Unit {0}) Fault) → ((a : Accounts) → Offers mid a → WritesFirst Stopped Given a m out2 out3 d new r) → WritesFirst Stopped Given accounts c out out3 d new r
   first_on accounts c m d out out2 out3 mid new first (Ok done) then = writes_on accounts c m d out out2 out3 mid new first then
   first_on accounts c m d out out2 out3 mid new first (Err fault) then = interrupted_on accounts c m out out2 out3 mid new first then
 
@@ -250,18 +355,18 @@ module _ (Denied Given : Type 0) where
 
   -- the greeting is written
   pub served_first : (accounts : Accounts) (input out out2 : Option (List ℕ)) (c : Client) (greeting : List ℕ) (new : Database) → Offers new accounts → c ≡ new_client → greeting ≡ spelled (capabilities None) → Appends out out2 greeting
-      → Served Denied Given accounts input input out out2 c new
+      → Served Stopped Given accounts input input out out2 c new
   unfolding rows
   served_first accounts input out out2 c greeting new shown is told written = record {
     rounds = [];
-    passes = subst (λ x. Passes Denied Given accounts new_client [] x (Offers new)) (sym is) (passes_none accounts new_client (Offers new) shown);
+    passes = subst (λ x. Passes Stopped Given accounts new_client [] x (Offers new)) (sym is) (passes_none accounts new_client (Offers new) shown);
     read = nothing_read input;
     written = subst (Appends out out2) (told ∙ sym (append-nil (spelled (capabilities None)))) written;
     answered = subst (λ x. is_ready x ≡ false) (sym is) refl;
   }
 
   -- a front of it is written, or none
-  pub broken_first : (accounts : Accounts) (input out out2 : Option (List ℕ)) (greeting : List ℕ) (new : Database) → Offers new accounts → greeting ≡ spelled (capabilities None) → AppendsFront out out2 greeting → BreaksOff Denied Given accounts input out out2 new
+  pub broken_first : (accounts : Accounts) (input out out2 : Option (List ℕ)) (greeting : List ℕ) (new : Database) → Offers new accounts → greeting ≡ spelled (capabilities None) → AppendsFront out out2 greeting → BreaksOff Stopped Given accounts input out out2 new
   broken_first accounts input out out2 greeting new shown told front = record {
     rounds = [];
     client = new_client;
@@ -271,7 +376,7 @@ module _ (Denied Given : Type 0) where
   }
 
   -- nothing more comes of a session that was served so far
-  pub broken_served : (accounts : Accounts) (in_old in_new out out2 : Option (List ℕ)) (c : Client) (new : Database) → Served Denied Given accounts in_old in_new out out2 c new → BreaksOff Denied Given accounts in_old out out2 new
+  pub broken_served : (accounts : Accounts) (in_old in_new out out2 : Option (List ℕ)) (c : Client) (new : Database) → Served Stopped Given accounts in_old in_new out out2 c new → BreaksOff Stopped Given accounts in_old out out2 new
   broken_served accounts in_old in_new out out2 c new s = record {
     rounds = s.rounds;
     client = c;
@@ -281,7 +386,7 @@ module _ (Denied Given : Type 0) where
   }
 
   -- the end of the input was read
-  pub served_at_end : (accounts : Accounts) (in_old in_mid in_new out out2 : Option (List ℕ)) (c : Client) (new : Database) → Served Denied Given accounts in_old in_mid out out2 c new → Consumes in_mid in_new [] → Served Denied Given accounts in_old in_new out out2 c new
+  pub served_at_end : (accounts : Accounts) (in_old in_mid in_new out out2 : Option (List ℕ)) (c : Client) (new : Database) → Served Stopped Given accounts in_old in_mid out out2 c new → Consumes in_mid in_new [] → Served Stopped Given accounts in_old in_new out out2 c new
   served_at_end accounts in_old in_mid in_new out out2 c new s nothing = record {
     rounds = s.rounds;
     passes = s.passes;
@@ -291,12 +396,12 @@ module _ (Denied Given : Type 0) where
   }
 
   -- a piece came, and all that is whole was answered
-  module _ (accounts : Accounts) (in_old in_mid in_new out out2 out3 : Option (List ℕ)) (piece : List ℕ) (c m d : Client) (mid new : Database) (s : Served Denied Given accounts in_old in_mid out out2 c mid)
+  module _ (accounts : Accounts) (in_old in_mid in_new out out2 out3 : Option (List ℕ)) (piece : List ℕ) (c m d : Client) (mid new : Database) (s : Served Stopped Given accounts in_old in_mid out out2 c mid)
       (took : Consumes in_mid in_new piece) (live : c.closed ≡ false) (short : length piece ≤ largest_piece) (joins : m ≡ client_given piece c) where
     abbrev heard : Round
     heard = record { came = piece; said = []; accounts = s.passes.later; client = m }
 
-    came : Passes Denied Given accounts new_client (s.rounds ++ heard ∷ []) m (Offers mid)
+    came : Passes Stopped Given accounts new_client (s.rounds ++ heard ∷ []) m (Offers mid)
     came = passes_on accounts new_client c m s.rounds (heard ∷ []) (Offers mid) (Offers mid) s.passes (passes_one s.passes.later c heard (Offers mid) (inl (record { live = live; waits = s.answered; short = short; silent = refl; joins = joins; same = refl })) s.passes.shown)
 
     came_with : (more : List Round) → came_in more ≡ [] → came_in s.rounds ++ piece ≡ came_in ((s.rounds ++ heard ∷ []) ++ more)
@@ -311,7 +416,7 @@ module _ (Denied Given : Type 0) where
         let inner = flat_map-append (λ (r : Round). r.said) s.rounds (heard ∷ []) in
         append_assoc (spelled (capabilities None)) (said_in s.rounds) (said_in more) ∙ ap (λ l. spelled (capabilities None) ++ l) (sym (outer ∙ ap (λ l. l ++ said_in more) (inner ∙ append-nil (said_in s.rounds))))
 
-    pub served_on : ((a : Accounts) → Offers mid a → Writes Denied Given a m out2 out3 d new × (is_ready d ≡ false)) → Served Denied Given accounts in_old in_new out out3 d new
+    pub served_on : ((a : Accounts) → Offers mid a → Writes Stopped Given a m out2 out3 d new × (is_ready d ≡ false)) → Served Stopped Given accounts in_old in_new out out3 d new
     served_on then =
         let (more, idle) = then came.later came.shown in
         record {
@@ -322,7 +427,7 @@ module _ (Denied Given : Type 0) where
           answered = idle;
         }
 
-    pub broken_on : ((a : Accounts) → Offers mid a → Interrupted Denied Given a m out2 out3 new) → BreaksOff Denied Given accounts in_old out out3 new
+    pub broken_on : ((a : Accounts) → Offers mid a → Interrupted Stopped Given a m out2 out3 new) → BreaksOff Stopped Given accounts in_old out out3 new
     broken_on then =
         let more = then came.later came.shown in
         record {

@@ -1,5 +1,6 @@
 -- One session over a reader, a writer and a keeper: in rounds, and what they leave.
 use Rattle.std.specs.Prelude.{◌≡◌, ◌⊎◌, ℕ, ◌≤◌, Bool, true, false, List, [], ◌∷◌, ◌++◌, length, Option, Some, None, Result, Ok, Err, IfSome, IsTrue, is_some}
+use Rattle.std.specs.Option.{option_copied}
 use Rattle.std.specs.List.{flat_map}
 use Rattle.std.specs.Io.KnownBytes.{Appends, Consumes, IsAtEnd}
 use Rattle.sqlite.specs.Effect.{Database}
@@ -17,9 +18,10 @@ use Rattle.keepers.specs.declared.keeper.Unavailable.{Unavailable}
 use Rattle.keepers.specs.declared.keeper.Unavailable.TheVariants.{Busy}
 use Rattle.sievedwords.specs.declared.location.StoreLocation.{StoreLocation}
 use Rattle.sievedrun.specs.declared.fault.Fault.{Fault}
-use Rattle.sievedrun.specs.Faults.{denial_fault}
-use Rattle.sievedrun.specs.Streams.{AppendsFront, InTurn}
+use Rattle.sievedrun.specs.Faults.{cause_line, denial_fault, line_of}
+use Rattle.sievedrun.specs.Streams.{AppendsFront, InTurn, IsWritten}
 use Rattle.sievedrun.specs.declared.trouble.FirstTrouble.{FirstTrouble}
+use Rattle.sievedrun.specs.declared.trouble.Trouble.{Trouble}
 
 -- a piece of the client's octets has at most that many
 abbrev pub largest_piece : ℕ
@@ -93,22 +95,43 @@ KeepsFirst old new = (new.is_told ≡ old.is_told) × IfSome old.trouble (λ fir
 abbrev pub IsNoted : (Unavailable → Type 0) → FirstTrouble → Type 0
 IsNoted Denied noted = IsTrue (is_some noted.trouble) ⊎ Denied Busy
 
--- what comes first can't be answered now, and was given up
-pub record GivesUp (Denied : Type 0) (accounts : Accounts) (c : Client) (r : Round) : Type 0 where
+-- so much was told of a trouble: its lines were written, or writing broke off in them
+abbrev pub IsTold : Option (List ℕ) → Option (List ℕ) → Type 0
+IsTold old new = (trouble : Trouble) × IsWritten old new (line_of trouble.fault ++ cause_line (option_copied trouble.cause))
+
+-- at most one trouble was told
+abbrev pub TellsOne : Option (List ℕ) → Option (List ℕ) → Type 0
+TellsOne old new = (new ≡ old) ⊎ IsTold old new
+
+-- then why the session broke off was told
+abbrev pub TellsEnding : Result (Unit {0}) Fault → Option (List ℕ) → Option (List ℕ) → Type 0
+TellsEnding (Ok done) old new = new ≡ old
+TellsEnding (Err fault) old new = IsWritten old new (line_of fault)
+
+-- why what comes first can't be answered, and there is this of it: it is noted, or told. Of another process that had the store there is none
+abbrev pub Stops : {K : Type 0} → (K → List ℕ → Unavailable → Type 0) → (K → Bool) → StoreLocation → Type 0 → Client → Type 0
+Stops refuses waits location Told c = Hinders (IsDenied refuses waits location) c × (Told ⊎ IsDeniedBy refuses waits location Busy)
+
+-- nothing was given up
+abbrev pub Unstopped : Client → Type 0
+Unstopped c = ⊥
+
+-- what comes first can't be answered now, for such a cause, and was given up
+pub record GivesUp (Stopped : Client → Type 0) (accounts : Accounts) (c : Client) (r : Round) : Type 0 where
   pub ready : is_ready c ≡ true
   pub none : r.came ≡ []
-  pub cause : Hinders Denied c
+  pub cause : Stopped c
   pub told : r.said ≡ text_given_up c
   pub drops : r.client ≡ client_given_up c
   pub same : r.accounts ≡ accounts
 
-abbrev pub IsRound : Type 0 → Type 0 → Accounts → Client → Round → Type 0
-IsRound Denied Given accounts c r = Hears accounts c r ⊎ (Steps Given accounts c r ⊎ GivesUp Denied accounts c r)
+abbrev pub IsRound : (Client → Type 0) → Type 0 → Accounts → Client → Round → Type 0
+IsRound Stopped Given accounts c r = Hears accounts c r ⊎ (Steps Given accounts c r ⊎ GivesUp Stopped accounts c r)
 
 -- rounds in turn lead from accounts and a client to these
-abbrev pub Leads : Type 0 → Type 0 → Accounts → Client → List Round → Accounts → Client → Type 0
-Leads Denied Given accounts c [] later d = (later ≡ accounts) × (d ≡ c)
-Leads Denied Given accounts c (r ∷ rounds) later d = IsRound Denied Given accounts c r × Leads Denied Given r.accounts r.client rounds later d
+abbrev pub Leads : (Client → Type 0) → Type 0 → Accounts → Client → List Round → Accounts → Client → Type 0
+Leads Stopped Given accounts c [] later d = (later ≡ accounts) × (d ≡ c)
+Leads Stopped Given accounts c (r ∷ rounds) later d = IsRound Stopped Given accounts c r × Leads Stopped Given r.accounts r.client rounds later d
 
 -- all that came in the rounds, and all that was said
 abbrev pub came_in : List Round → List ℕ
@@ -123,42 +146,42 @@ BeginsWith None text = Unit {0}
 BeginsWith (Some left) text = (rest : List ℕ) × (left ≡ text ++ rest)
 
 -- rounds lead from accounts and a client to these, and the accounts are shown so
-pub record Passes (Denied Given : Type 0) (accounts : Accounts) (c : Client) (rounds : List Round) (d : Client) (Shown : Accounts → Type 0) : Type 0 where
+pub record Passes (Stopped : Client → Type 0) (Given : Type 0) (accounts : Accounts) (c : Client) (rounds : List Round) (d : Client) (Shown : Accounts → Type 0) : Type 0 where
   pub later : Accounts
-  pub leads : Leads Denied Given accounts c rounds later d
+  pub leads : Leads Stopped Given accounts c rounds later d
   pub shown : Shown later
 
 -- rounds in which nothing came led here: what waits to be written grew by what was said
-pub record Answered (Denied Given : Type 0) (accounts : Accounts) (c : Client) (waited waits : List ℕ) (d : Client) (Shown : Accounts → Type 0) : Type 0 where
+pub record Answered (Stopped : Client → Type 0) (Given : Type 0) (accounts : Accounts) (c : Client) (waited waits : List ℕ) (d : Client) (Shown : Accounts → Type 0) : Type 0 where
   pub rounds : List Round
-  pub passes : Passes Denied Given accounts c rounds d Shown
+  pub passes : Passes Stopped Given accounts c rounds d Shown
   pub none : came_in rounds ≡ []
   pub joins : waits ≡ waited ++ said_in rounds
 
 -- rounds in which nothing came led here, the tables offer the accounts, and what was said is written
-pub record Writes (Denied Given : Type 0) (accounts : Accounts) (c : Client) (out_old out_new : Option (List ℕ)) (d : Client) (new : Database) : Type 0 where
+pub record Writes (Stopped : Client → Type 0) (Given : Type 0) (accounts : Accounts) (c : Client) (out_old out_new : Option (List ℕ)) (d : Client) (new : Database) : Type 0 where
   pub rounds : List Round
-  pub passes : Passes Denied Given accounts c rounds d (Offers new)
+  pub passes : Passes Stopped Given accounts c rounds d (Offers new)
   pub none : came_in rounds ≡ []
   pub written : Appends out_old out_new (said_in rounds)
 
 -- the same, where a write failed: a front is written
-pub record Interrupted (Denied Given : Type 0) (accounts : Accounts) (c : Client) (out_old out_new : Option (List ℕ)) (new : Database) : Type 0 where
+pub record Interrupted (Stopped : Client → Type 0) (Given : Type 0) (accounts : Accounts) (c : Client) (out_old out_new : Option (List ℕ)) (new : Database) : Type 0 where
   pub rounds : List Round
   pub client : Client
-  pub passes : Passes Denied Given accounts c rounds client (Offers new)
+  pub passes : Passes Stopped Given accounts c rounds client (Offers new)
   pub none : came_in rounds ≡ []
   pub written : AppendsFront out_old out_new (said_in rounds)
 
 -- what comes first was answered and written, or a write failed
-abbrev pub WritesFirst : Type 0 → Type 0 → Accounts → Client → Option (List ℕ) → Option (List ℕ) → Client → Database → Result (Unit {0}) Fault → Type 0
-WritesFirst Denied Given accounts c out_old out_new d new (Ok done) = Writes Denied Given accounts c out_old out_new d new
-WritesFirst Denied Given accounts c out_old out_new d new (Err fault) = Interrupted Denied Given accounts c out_old out_new new
+abbrev pub WritesFirst : (Client → Type 0) → Type 0 → Accounts → Client → Option (List ℕ) → Option (List ℕ) → Client → Database → Result (Unit {0}) Fault → Type 0
+WritesFirst Stopped Given accounts c out_old out_new d new (Ok done) = Writes Stopped Given accounts c out_old out_new d new
+WritesFirst Stopped Given accounts c out_old out_new d new (Err fault) = Interrupted Stopped Given accounts c out_old out_new new
 
 -- all that is whole was answered and written, or a write failed
-abbrev pub WritesAll : Type 0 → Type 0 → Accounts → Client → Option (List ℕ) → Option (List ℕ) → Client → Database → Result (Unit {0}) Fault → Type 0
-WritesAll Denied Given accounts c out_old out_new d new (Ok done) = Writes Denied Given accounts c out_old out_new d new × (is_ready d ≡ false)
-WritesAll Denied Given accounts c out_old out_new d new (Err fault) = Interrupted Denied Given accounts c out_old out_new new
+abbrev pub WritesAll : (Client → Type 0) → Type 0 → Accounts → Client → Option (List ℕ) → Option (List ℕ) → Client → Database → Result (Unit {0}) Fault → Type 0
+WritesAll Stopped Given accounts c out_old out_new d new (Ok done) = Writes Stopped Given accounts c out_old out_new d new × (is_ready d ≡ false)
+WritesAll Stopped Given accounts c out_old out_new d new (Err fault) = Interrupted Stopped Given accounts c out_old out_new new
 
 -- what is seen: what an open store sees, or else what is held
 abbrev pub database_seen : {X : Type 0} → (X → Database) → Database → Option X → Database
@@ -181,39 +204,40 @@ StepsOn Given accounts c waited waits d Shown true =
 StepsOn Given accounts c waited waits d Shown false = (d ≡ c) × (waits ≡ waited) × Shown accounts
 
 -- a session led here from the greeting on: all that came was read and all that was said is written, and nothing that came is left to be answered
-pub record Served (Denied Given : Type 0) (accounts : Accounts) (in_old in_new out_old out_new : Option (List ℕ)) (c : Client) (new : Database) : Type 0 where
+pub record Served (Stopped : Client → Type 0) (Given : Type 0) (accounts : Accounts) (in_old in_new out_old out_new : Option (List ℕ)) (c : Client) (new : Database) : Type 0 where
   pub rounds : List Round
-  pub passes : Passes Denied Given accounts new_client rounds c (Offers new)
+  pub passes : Passes Stopped Given accounts new_client rounds c (Offers new)
   pub read : Consumes in_old in_new (came_in rounds)
   pub written : Appends out_old out_new (spelled (capabilities None) ++ said_in rounds)
   pub answered : is_ready c ≡ false
 
 -- the session ended: it is closed, or the input is at its end
-pub record Ends (Denied Given : Type 0) (accounts : Accounts) (in_old in_new out_old out_new : Option (List ℕ)) (new : Database) : Type 0 where
+pub record Ends (Stopped : Client → Type 0) (Given : Type 0) (accounts : Accounts) (in_old in_new out_old out_new : Option (List ℕ)) (new : Database) : Type 0 where
   pub client : Client
-  pub served : Served Denied Given accounts in_old in_new out_old out_new client new
+  pub served : Served Stopped Given accounts in_old in_new out_old out_new client new
   pub over : (client.closed ≡ true) ⊎ IsAtEnd in_new
 
 -- the session broke off, for want of memory, or by a read or a write that failed: a front of what was said is written
-pub record BreaksOff (Denied Given : Type 0) (accounts : Accounts) (in_old out_old out_new : Option (List ℕ)) (new : Database) : Type 0 where
+pub record BreaksOff (Stopped : Client → Type 0) (Given : Type 0) (accounts : Accounts) (in_old out_old out_new : Option (List ℕ)) (new : Database) : Type 0 where
   pub rounds : List Round
   pub client : Client
-  pub passes : Passes Denied Given accounts new_client rounds client (Offers new)
+  pub passes : Passes Stopped Given accounts new_client rounds client (Offers new)
   pub read : BeginsWith in_old (came_in rounds)
   pub written : AppendsFront out_old out_new (spelled (capabilities None) ++ said_in rounds)
 
 -- one whole session over accounts
-abbrev pub Converses : Type 0 → Type 0 → Accounts → Option (List ℕ) → Option (List ℕ) → Option (List ℕ) → Option (List ℕ) → Database → Result (Unit {0}) Fault → Type 0
-Converses Denied Given accounts in_old in_new out_old out_new new (Ok done) = Ends Denied Given accounts in_old in_new out_old out_new new
-Converses Denied Given accounts in_old in_new out_old out_new new (Err fault) = BreaksOff Denied Given accounts in_old out_old out_new new
+abbrev pub Converses : (Client → Type 0) → Type 0 → Accounts → Option (List ℕ) → Option (List ℕ) → Option (List ℕ) → Option (List ℕ) → Database → Result (Unit {0}) Fault → Type 0
+Converses Stopped Given accounts in_old in_new out_old out_new new (Ok done) = Ends Stopped Given accounts in_old in_new out_old out_new new
+Converses Stopped Given accounts in_old in_new out_old out_new new (Err fault) = BreaksOff Stopped Given accounts in_old out_old out_new new
 
 -- the same of tables: accounts that they offered were served; a database without tables stays so
-pub record Serves (Denied Given : Type 0) (in_old in_new out_old out_new : Option (List ℕ)) (old new : Database) (result : Result (Unit {0}) Fault) : Type 0 where
-  pub talks : (accounts : Accounts) → Offers old accounts → Converses Denied Given accounts in_old in_new out_old out_new new result
+pub record Serves (Stopped : Client → Type 0) (Given : Type 0) (in_old in_new out_old out_new : Option (List ℕ)) (old new : Database) (result : Result (Unit {0}) Fault) : Type 0 where
+  pub talks : (accounts : Accounts) → Offers old accounts → Converses Stopped Given accounts in_old in_new out_old out_new new result
   pub none : old.schema ≡ no_schema → new.schema ≡ no_schema
 
 -- the same of a reader, a writer and a keeper, by what is still to be read of the one, what was written to the other, and the tables of the third, which
--- says by `refuses` that it refused the lock or the store at the path, by `gives` that it gave the store out there, and by `waits` whether it waited
-abbrev pub ServesBy : {A B C : Type 0} → (A → Option (List ℕ)) → A → A → (B → Option (List ℕ)) → B → B → (C → List ℕ → Unavailable → Type 0) → (C → List ℕ → Type 0) → (C → Bool) → StoreLocation → (C → Database) → C → C → Result (Unit {0}) Fault → Type 0
-ServesBy remaining in_old in_new contents out_old out_new refuses gives waits location holds old new result =
-    Serves (IsDenied refuses waits location) (HasGiven gives waits location) (remaining in_old) (remaining in_new) (contents out_old) (contents out_new) (holds old) (holds new) result
+-- says by `refuses` that it refused the lock or the store at the path, by `gives` that it gave the store out there, and by `waits` whether it waited. Of what
+-- was given up there is this
+abbrev pub ServesBy : {A B C : Type 0} → (A → Option (List ℕ)) → A → A → (B → Option (List ℕ)) → B → B → (C → List ℕ → Unavailable → Type 0) → (C → List ℕ → Type 0) → (C → Bool) → StoreLocation → (C → Database) → C → C → Type 0 → Result (Unit {0}) Fault → Type 0
+ServesBy remaining in_old in_new contents out_old out_new refuses gives waits location holds old new Told result =
+    Serves (Stops refuses waits location Told) (HasGiven gives waits location) (remaining in_old) (remaining in_new) (contents out_old) (contents out_new) (holds old) (holds new) result

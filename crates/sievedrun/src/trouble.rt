@@ -89,6 +89,7 @@ impl FirstTrouble {
             (line_of trouble.fault ++ cause_line (option_copied trouble.cause))) }
         ensures same { self.new.trouble ≡ self.old.trouble }
         ensures told { IfSome self.old.trouble (λ trouble. IsTrue self.new.is_told) }
+        ensures untold { self.old.trouble ≡ None → self.new.is_told ≡ self.old.is_told }
     {
         if self.is_told {
             return;

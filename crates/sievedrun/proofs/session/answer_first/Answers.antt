@@ -4,13 +4,13 @@ use Rattle.sqlite.specs.Held.{state}
 use Rattle.sessions.specs.Clients.{Client}
 use Rattle.sessions.specs.declared.progress.Stepped.{Stepped}
 use Rattle.sessions.specs.Steps.{StepsFree}
-use Rattle.sievedrun.specs.Serving.{AreSeen, HasGiven, IsDenied, StepsOn}
+use Rattle.sievedrun.specs.Serving.{AreSeen, HasGiven, StepsOn, Unstopped}
 use Rattle.sievedrun.proofs.ServingLemmas.{free_stepped}
 use Rattle.sievedrun.proofs.session.answer_first.Goals as goal
 
 pub returns-in-Ok-Made-clause-steps : goal.returns-in-Ok-Made-clause-steps
 returns-in-Ok-Made-clause-steps g c tells accounts shown =
-    free_stepped (IsDenied g.K.Keeper.refuses g.K.Keeper.will_wait c.args.location) (HasGiven g.K.Keeper.gives g.K.Keeper.will_wait c.args.location) c.args.session.now.client c.step_free.new.self.client _ c.args.answers.now c.step_free.new.out (AreSeen (HasGiven g.K.Keeper.gives g.K.Keeper.will_wait c.args.location) (λ s. (state g.K.S.Store s).now) (g.K.Keeper.holds c.args.keeper.now) c.args.store.now)
+    free_stepped Unstopped (HasGiven g.K.Keeper.gives g.K.Keeper.will_wait c.args.location) c.args.session.now.client c.step_free.new.self.client _ c.args.answers.now c.step_free.new.out (AreSeen (HasGiven g.K.Keeper.gives g.K.Keeper.will_wait c.args.location) (λ s. (state g.K.S.Store s).now) (g.K.Keeper.holds c.args.keeper.now) c.args.store.now)
     (subst (λ (s : Stepped). StepsFree c.args.session.now.client c.step_free.new.self.client s c.args.answers.now c.step_free.new.out) c.in-Ok-Made.field-0-is c.in-Ok-Made.ensures.step) accounts shown
 
 pub returns-in-Ok-Asks-clause-steps : goal.returns-in-Ok-Asks-clause-steps

@@ -4,23 +4,23 @@ use Rattle.sqlite.specs.Effect.{Database}
 use Rattle.sqlite.specs.Held.{state}
 use Rattle.keepers.specs.declared.keeper.Unavailable.{Unavailable}
 use Rattle.mailstore.specs.Shows.{Offers}
-use Rattle.sievedrun.specs.Serving.{HasGiven, IsDenied, IsDeniedBy}
+use Rattle.sievedrun.specs.Serving.{HasGiven, IsDeniedBy, Unstopped}
 use Rattle.sievedrun.proofs.ServingLemmas.{answered_back, answered_none, noted_or_busy}
 use Rattle.sievedrun.proofs.session.answer_under_lock.Goals as goal
 
 pub returns-in-Err-clause-answers : goal.returns-in-Err-clause-answers
 returns-in-Err-clause-answers g c tells accounts shown =
-    answered_none (IsDenied g.K.Keeper.refuses g.K.Keeper.will_wait c.args.location) (HasGiven g.K.Keeper.gives g.K.Keeper.will_wait c.args.location) accounts c.args.session.now.client c.args.answers.now (Offers (g.K.Keeper.holds c.lock.new.self)) (subst (λ (db : Database). Offers db accounts) (sym (c.lock.ensures.same tells ∙ c.wait_for_lock.ensures.same tells)) shown)
+    answered_none Unstopped (HasGiven g.K.Keeper.gives g.K.Keeper.will_wait c.args.location) accounts c.args.session.now.client c.args.answers.now (Offers (g.K.Keeper.holds c.lock.new.self)) (subst (λ (db : Database). Offers db accounts) (sym (c.lock.ensures.same tells ∙ c.wait_for_lock.ensures.same tells)) shown)
 
 pub returns-in-Ok-clause-answers : goal.returns-in-Ok-clause-answers
 returns-in-Ok-clause-answers g c tells accounts shown =
-    answered_back (IsDenied g.K.Keeper.refuses g.K.Keeper.will_wait c.args.location) (HasGiven g.K.Keeper.gives g.K.Keeper.will_wait c.args.location) (λ s. (state g.K.S.Store s).now) (g.K.Keeper.holds c.answer_ready-answered.new.keeper) (g.K.Keeper.holds c.give_back-unclosed.new.keeper) c.answer_ready-answered.new.store (c.give_back-unclosed.ensures.held tells)
+    answered_back Unstopped (HasGiven g.K.Keeper.gives g.K.Keeper.will_wait c.args.location) (λ s. (state g.K.S.Store s).now) (g.K.Keeper.holds c.answer_ready-answered.new.keeper) (g.K.Keeper.holds c.give_back-unclosed.new.keeper) c.answer_ready-answered.new.store (c.give_back-unclosed.ensures.held tells)
     accounts c.args.session.now.client c.answer_ready-answered.new.session.client c.args.answers.now c.answer_ready-answered.new.answers
     (c.answer_ready-answered.ensures.answers tells accounts (subst (λ (db : Database). Offers db accounts) (sym (c.lock.ensures.same tells ∙ c.wait_for_lock.ensures.same tells)) shown))
 
 pub returns-in-Err-answered-clause-answers : goal.returns-in-Err-answered-clause-answers
 returns-in-Err-answered-clause-answers g c tells accounts shown =
-    answered_back (IsDenied g.K.Keeper.refuses g.K.Keeper.will_wait c.args.location) (HasGiven g.K.Keeper.gives g.K.Keeper.will_wait c.args.location) (λ s. (state g.K.S.Store s).now) (g.K.Keeper.holds c.answer_ready-answered.new.keeper) (g.K.Keeper.holds c.give_back-unclosed.new.keeper) c.answer_ready-answered.new.store (c.give_back-unclosed.ensures.held tells)
+    answered_back Unstopped (HasGiven g.K.Keeper.gives g.K.Keeper.will_wait c.args.location) (λ s. (state g.K.S.Store s).now) (g.K.Keeper.holds c.answer_ready-answered.new.keeper) (g.K.Keeper.holds c.give_back-unclosed.new.keeper) c.answer_ready-answered.new.store (c.give_back-unclosed.ensures.held tells)
     accounts c.args.session.now.client c.answer_ready-answered.new.session.client c.args.answers.now c.answer_ready-answered.new.answers
     (c.answer_ready-answered.ensures.answers tells accounts (subst (λ (db : Database). Offers db accounts) (sym (c.lock.ensures.same tells ∙ c.wait_for_lock.ensures.same tells)) shown))
 

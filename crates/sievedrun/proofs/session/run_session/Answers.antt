@@ -1,7 +1,17 @@
--- No fault has the status of a session that ended.
-use Rattle.std.proofs.Common.{arith}
+-- A session that ended has status 0, which is that of no fault; of one that broke off it is told why, after its trouble.
+use Rattle.std.proofs.Common.{Ok, Err, refl, subst, arith}
+use Rattle.sievedrun.specs.Faults.{IsCutShort}
+use Rattle.sievedrun.specs.Serving.{IsTold, ServesBy}
 use Rattle.sievedrun.proofs.StatusLemmas.{status_some}
 use Rattle.sievedrun.proofs.session.run_session.Goals as goal
 
 pub returns-in-Err-clause-reads : goal.returns-in-Err-clause-reads
 returns-in-Err-clause-reads g c is = absurd (omega (arith, status_some c.in-Err.fault, c.refuse.ensures.status, is))
+
+pub returns-in-Ok-clause-serves : goal.returns-in-Ok-clause-serves
+returns-in-Ok-clause-serves g c tells idle =
+    (Ok tt, g.E.Write.contents c.serve_client.new.errors, refl, tt, c.in-Ok.ensures.told, refl, c.in-Ok.ensures.serves tells idle)
+
+pub returns-in-Err-clause-serves : goal.returns-in-Err-clause-serves
+returns-in-Err-clause-serves g c tells idle =
+    (Err c.in-Err.fault, g.E.Write.contents c.serve_client.new.errors, c.refuse.ensures.status, c.in-Err.ensures.fault, c.in-Err.ensures.told, c.refuse.ensures.line, c.in-Err.ensures.serves tells idle)
