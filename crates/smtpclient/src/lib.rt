@@ -2,8 +2,10 @@
 #![tactic(auto)]
 
 pub mod laws;
+pub mod mailbox;
 pub mod reply;
 pub mod sent;
 
+pub use mailbox::is_mailbox;
 pub use reply::{Heard, ReplyLine, first_reply, read_reply_line};
 pub use sent::{Place, Sent};
