@@ -1,4 +1,5 @@
 pub mod Examples
+pub mod ExtensionLemmas
 pub mod MailboxLemmas
 pub mod ReplyLemmas
 pub mod RunLemmas

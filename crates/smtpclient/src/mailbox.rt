@@ -335,7 +335,8 @@ pub(crate) fn cut_at(text: &[u8], mark: u8) -> Option<Cut<'_>>
     }
 }
 
-fn length_before(text: &[u8], mark: u8) -> usize
+// How many octets stand before the first such one.
+pub(crate) fn length_before(text: &[u8], mark: u8) -> usize
     ensures value { result ≡ prefix_len (λ octet. not (octet == mark)) text.now }
     ensures within { result ≤ length text.now }
 {
