@@ -1,5 +1,6 @@
 pub mod Examples
 pub mod ExtensionLemmas
+pub mod LetterLemmas
 pub mod MailboxLemmas
 pub mod ReplyLemmas
 pub mod RunLemmas
