@@ -1,3 +1,4 @@
+pub mod DialogueLemmas
 pub mod Examples
 pub mod ExtensionLemmas
 pub mod LetterLemmas
