@@ -9,7 +9,6 @@ use Rattle.smtpclient.specs.declared.dialogue.Ending.{Ending}
 use Rattle.smtpclient.specs.declared.dialogue.Ending.TheVariants.{Sent, Refused, Delayed, OutOfPlace, Lost, Undeclared, Unaddressed}
 use Rattle.smtpclient.specs.declared.dialogue.Turn.{Turn}
 use Rattle.smtpclient.specs.declared.dialogue.Turn.TheVariants.{Goes, Ends}
-
 use Rattle.mailsenders.specs.declared.dialogue.Spelled.{Spelled}
 
 -- a front of octets was written
@@ -52,7 +51,7 @@ Steps offered mail stage before after (Ends ending) = Says offered mail stage be
 -- a letter that goes: its addresses are mailboxes, what it needs is offered, and this is its dialogue
 pub record GoesOut (offered : Extensions) (may_eight_bit : Bool) (mail : Mail) (before after : Talk) (ending : Ending) : Type 0 where
   pub addressed : IsAddressed mail
-  pub offered : IsOffered offered may_eight_bit mail
+  pub needs : IsOffered offered may_eight_bit mail
   pub says : Says offered mail Sender before after ending
 
 -- what is done with a letter: it goes, or nothing is written, for a cause

@@ -6,7 +6,9 @@ ghost use Rattle.smtpclient.specs.Sent.{sent_from, start};
 ghost use Rattle.mailsenders.specs.Talks as s;
 
 use crate::server::{Lost, Server};
-use smtpclient::{DATA, Ending, Extensions, Letter, Sent, Stage, Turn, mail_line, next_turn, rcpt_line};
+use smtpclient::{
+    DATA, Ending, Extensions, Letter, Sent, Stage, Turn, mail_line, next_turn, rcpt_line,
+};
 use std::alloc::{AllocError, Global};
 
 /// Hands a letter to a server: one whose addresses are no mailboxes, or that needs what isn't offered, isn't written.
@@ -56,7 +58,7 @@ pub(crate) struct Spelled<'a> {
 
 // The letter's dialogue from a stage on.
 fn speak<S: Server>(server: &mut S, letter: Spelled<'_>, stage: Stage) -> Ending
-    requires { s.IsSpelled letter.entry }
+    requires { s.IsSpelled letter }
     ensures { s.Says letter.entry.offered (mail_of letter.entry.letter) stage (s.talk (S.written server.old) (S.answered server.old))
         (s.talk (S.written server.new) (S.answered server.new)) result }
 {
@@ -68,7 +70,7 @@ fn speak<S: Server>(server: &mut S, letter: Spelled<'_>, stage: Stage) -> Ending
 
 // One stage: it is written, and what is answered is heard.
 fn step<S: Server>(server: &mut S, letter: Spelled<'_>, stage: Stage) -> Turn
-    requires { s.IsSpelled letter.entry }
+    requires { s.IsSpelled letter }
     ensures { s.Steps letter.entry.offered (mail_of letter.entry.letter) stage (s.talk (S.written server.old) (S.answered server.old))
         (s.talk (S.written server.new) (S.answered server.new)) result }
 {
@@ -81,12 +83,8 @@ fn step<S: Server>(server: &mut S, letter: Spelled<'_>, stage: Stage) -> Turn
     }
 }
 
-fn write_stage<S: Server>(
-    server: &mut S,
-    letter: Spelled<'_>,
-    stage: Stage,
-) -> Result<(), Lost>
-    requires { s.IsSpelled letter.entry }
+fn write_stage<S: Server>(server: &mut S, letter: Spelled<'_>, stage: Stage) -> Result<(), Lost>
+    requires { s.IsSpelled letter }
     ensures ok { OnOk result (S.written server.new ≡ S.written server.old ++ spelled letter.entry.offered (mail_of letter.entry.letter) stage) }
     ensures err { OnErr result (s.WritesFront (spelled letter.entry.offered (mail_of letter.entry.letter) stage) (S.written server.old) (S.written server.new)) }
     ensures answered { S.answered server.new ≡ S.answered server.old }
@@ -107,7 +105,9 @@ fn write_text<S: Server>(server: &mut S, text: &[u8]) -> Result<(), Lost>
 {
     let mut sent = Sent::new(text);
     while let Some(part) = sent.next() {
-        server.write(part)?;
+        if server.write(part).is_err() {
+            return Err(Lost);
+        }
     }
     Ok(())
 }
