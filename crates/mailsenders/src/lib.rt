@@ -2,7 +2,15 @@
 #![tactic(auto)]
 
 pub mod dialogue;
+pub mod journal;
+pub mod queue;
+pub mod row;
+pub mod run;
 pub mod server;
 
 pub use dialogue::send_letter;
+pub use journal::{Journal, Unwritten};
+pub use queue::{Queue, Row, Unavailable};
+pub use row::{Stop, send_row};
+pub use run::{Tally, send_queue};
 pub use server::{Lost, Server};
