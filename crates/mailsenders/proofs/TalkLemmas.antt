@@ -10,29 +10,42 @@ use Rattle.smtpclient.specs.declared.dialogue.Ending.{Ending}
 use Rattle.smtpclient.specs.declared.dialogue.Ending.TheVariants as ending
 use Rattle.smtpclient.specs.declared.dialogue.Turn.{Turn}
 use Rattle.smtpclient.specs.declared.dialogue.Turn.TheVariants.{Goes, Ends}
-use Rattle.mailsenders.specs.Talks.{Talk, Says, GoesOn, Steps, Treats, WritesFront}
-
--- how many stages are left
-abbrev pub left : Stage → ℕ
-left Sender = 3
-left Recipient = 2
-left Data = 1
-left Text = 0
+use Rattle.mailsenders.specs.Talks.{Talk, Says, GoesOn, Steps, Treats, WritesFront, talk, wrote, stages_behind, IsLater}
 
 -- a front of octets is written, and these are left
-pub record Writing (all before now rest : List ℕ) : Type 0 where
+pub record Writing (all : List ℕ) (before now : Talk) (rest : List ℕ) : Type 0 where
   pub done : List ℕ
-  pub written : now ≡ before ++ done
+  pub written : now.written ≡ before.written ++ done
+  pub answered : now.answered ≡ before.answered
   pub whole : all ≡ done ++ rest
 
-pub broken : (all before now after part sent rest : List ℕ) → Writing all before now sent → sent ≡ part ++ rest → WritesFront part now after → WritesFront all before after
-broken all before now after part sent rest writing same (front, back, cut, written) = (
-  writing.done ++ front,
-  back ++ rest,
-  writing.whole
-      ∙ (ap (λ t. writing.done ++ t) (same ∙ (ap (λ t. t ++ rest) cut ∙ append_assoc front back rest)) ∙ sym (append_assoc writing.done front (back ++ rest))),
-  written ∙ (ap (λ t. t ++ front) writing.written ∙ append_assoc before writing.done front),
-)
+pub broken : (all : List ℕ) (before now after : Talk) (part sent rest : List ℕ) → Writing all before now sent → sent ≡ part ++ rest → WritesFront part now after → WritesFront all before after
+broken all before now after part sent rest writing same breaks = record {
+  front = writing.done ++ breaks.front;
+  rest = breaks.rest ++ rest;
+  cut =
+      writing.whole
+      ∙ (ap (λ t. writing.done ++ t) (same ∙ (ap (λ t. t ++ rest) breaks.cut ∙ append_assoc breaks.front breaks.rest rest))
+      ∙ sym (append_assoc writing.done breaks.front (breaks.rest ++ rest)));
+  written = breaks.written ∙ (ap (λ t. t ++ breaks.front) writing.written ∙ append_assoc before.written writing.done breaks.front);
+  answered = breaks.answered ∙ writing.answered;
+}
+
+pub begins : (all : List ℕ) (before : Talk) (sent : List ℕ) → sent ≡ all → Writing all before before sent
+begins all before sent same = record { done = []; written = sym (append-nil before.written); answered = refl; whole = sym same }
+
+pub part_more : (all : List ℕ) (before now : Talk) (part sent rest : List ℕ) → Writing all before now sent → sent ≡ part ++ rest → Writing all before (wrote now part) rest
+part_more all before now part sent rest writing same = record {
+  done = writing.done ++ part;
+  written = ap (λ t. t ++ part) writing.written ∙ append_assoc before.written writing.done part;
+  answered = writing.answered;
+  whole = writing.whole ∙ (ap (λ t. writing.done ++ t) same ∙ sym (append_assoc writing.done part rest));
+}
+
+pub all_written : (all : List ℕ) (before now : Talk) (rest : List ℕ) → Writing all before now rest → rest ≡ [] → now ≡ wrote before all
+all_written all before now rest writing none =
+    let same : all ≡ writing.done = writing.whole ∙ (ap (λ t. writing.done ++ t) none ∙ append-nil writing.done) in
+    ap (λ w. talk w now.answered) (writing.written ∙ ap (λ d. before.written ++ d) (sym same)) ∙ ap (λ a. talk (before.written ++ all) a) writing.answered
 
 -- ---- stages
 
@@ -45,11 +58,15 @@ text_by : (onward : Stage) (code : ℕ) (is_taken : Bool) → (code == 250) ≡ 
 text_by onward code true test same = let no : Ends ending.Sent ≡ Goes onward = rw test at same in absurd (cc no)
 text_by onward code false test same = let no : Ends (ending_of code) ≡ Goes onward = rw test at same in absurd (cc no)
 
-pub less : (stage onward : Stage) (code : ℕ) → turn_of stage code ≡ Goes onward → left onward < left stage
-less Sender onward code same = let is = less_by (class_of code == 2) Recipient onward code same in subst (λ s. left s < 3) is (omega arith)
-less Recipient onward code same = let is = less_by (class_of code == 2) Data onward code same in subst (λ s. left s < 2) is (omega arith)
-less Data onward code same = let is = less_by (class_of code == 3) Text onward code same in subst (λ s. left s < 1) is (omega arith)
+less : (stage onward : Stage) (code : ℕ) → turn_of stage code ≡ Goes onward → stages_behind onward < stages_behind stage
+less Sender onward code same = let is = less_by (class_of code == 2) Recipient onward code same in subst (λ s. stages_behind s < 3) is (omega arith)
+less Recipient onward code same = let is = less_by (class_of code == 2) Data onward code same in subst (λ s. stages_behind s < 2) is (omega arith)
+less Data onward code same = let is = less_by (class_of code == 3) Text onward code same in subst (λ s. stages_behind s < 1) is (omega arith)
 less Text onward code same = absurd (text_by onward code (code == 250) refl same)
+
+pub later : (stage : Stage) (code : ℕ) (turn : Turn) → turn ≡ turn_of stage code → IsLater stage turn
+later stage code (Goes onward) same = less stage onward code (sym same)
+later stage code (Ends end) same = tt
 
 -- a stage, and what follows it
 pub says_more : (offered : Extensions) (mail : Mail) (stage onward : Stage) (before mid after : Talk) (end : Ending) → GoesOn offered mail stage before mid onward → Says offered mail onward mid after end
@@ -79,18 +96,17 @@ step_by offered mail stage before after code (Goes onward) written answered same
 step_by offered mail stage before after code (Ends end) written answered same = ends_here offered mail stage before after code end written answered (sym same)
 
 -- the connection is lost
-pub lost : (offered : Extensions) (mail : Mail) (stage : Stage) (before after : Talk) → WritesFront (spelled offered mail stage) before.written after.written → after.answered ≡ before.answered
-    → Says offered mail stage before after ending.Lost
-lost offered mail stage before after (front, rest, cut, written) answered = record {
-  lines = front;
+pub lost : (offered : Extensions) (mail : Mail) (stage : Stage) (before after : Talk) → WritesFront (spelled offered mail stage) before after → Says offered mail stage before after ending.Lost
+lost offered mail stage before after breaks = record {
+  lines = breaks.front;
   codes = [];
-  written = written;
-  answered = answered ∙ sym (append-nil before.answered);
-  speaks = ((rest, cut), refl);
+  written = breaks.written;
+  answered = breaks.answered ∙ sym (append-nil before.answered);
+  speaks = ((breaks.rest, breaks.cut), refl);
 }
 
-pub whole_front : (octets before after : List ℕ) → after ≡ before ++ octets → WritesFront octets before after
-whole_front octets before after written = (octets, [], sym (append-nil octets), written)
+pub whole_front : (octets : List ℕ) (before : Talk) → WritesFront octets before (wrote before octets)
+whole_front octets before = record { front = octets; rest = []; cut = sym (append-nil octets); written = refl; answered = refl }
 
 -- ---- how a dialogue ends
 

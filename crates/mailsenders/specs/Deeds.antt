@@ -1,5 +1,5 @@
 -- What a run does with rows.
-use Rattle.std.specs.Prelude.{◌≡◌, ℕ, Bool, true, false, List, [], ◌∷◌, Result, Ok, Err}
+use Rattle.std.specs.Prelude.{◌≡◌, Bool, true, false, List, [], ◌∷◌, Result, Ok, Err}
 use Rattle.std.specs.List.{All}
 use Rattle.smtpclient.specs.Letters.{Mail, LeavesPath}
 use Rattle.smtpclient.specs.declared.extension.Extensions.{Extensions}
@@ -55,12 +55,13 @@ Leads may_eight_bit (deed ∷ earlier) before after = (mid : State) × Leads may
 abbrev pub HasLeft : Deed → Type 0
 HasLeft deed = deed.ending ≡ Sent → deed.is_taken ≡ true
 
--- deeds lead from rows that are shown to rows that are shown; where the run ended well each row that was sent has left
-pub record Reaches (may_eight_bit : Bool) (Shows : Rows → Type 0) (before : State) (talk : Talk) (is_whole : Bool) : Type 0 where
+-- deeds lead to rows that are shown, and to what was said; where the run ended well each row that was sent has left
+pub record Reaches (may_eight_bit : Bool) (Shows : Rows → Type 0) (Said : Talk → Type 0) (before : State) (is_whole : Bool) : Type 0 where
   pub deeds : List Deed
-  pub after : Rows
-  pub shows : Shows after
-  pub leads : Leads may_eight_bit deeds before (state after talk)
+  pub after : State
+  pub shows : Shows after.rows
+  pub said : Said after.talk
+  pub leads : Leads may_eight_bit deeds before after
   pub left : is_whole ≡ true → All HasLeft deeds
 
 -- ---- one row

@@ -1,19 +1,15 @@
 -- What is written for a letter and answered, over a connection that is open.
-use Rattle.std.specs.Prelude.{◌≡◌, ℕ, Bool, List, [], ◌∷◌, ◌++◌}
+use Rattle.std.specs.Prelude.{◌≡◌, ◌<◌, ℕ, Bool, List, [], ◌∷◌, ◌++◌}
 use Rattle.smtpclient.specs.Letters.{Mail, mail_of, mail_line, rcpt_line, IsAddressed, IsOffered}
 use Rattle.smtpclient.specs.Dialogues.{Speaks, spelled, turn_of}
 use Rattle.smtpclient.specs.declared.extension.Extensions.{Extensions}
 use Rattle.smtpclient.specs.declared.dialogue.Stage.{Stage}
-use Rattle.smtpclient.specs.declared.dialogue.Stage.TheVariants.{Sender}
+use Rattle.smtpclient.specs.declared.dialogue.Stage.TheVariants.{Sender, Recipient, Data, Text}
 use Rattle.smtpclient.specs.declared.dialogue.Ending.{Ending}
 use Rattle.smtpclient.specs.declared.dialogue.Ending.TheVariants.{Sent, Refused, Delayed, OutOfPlace, Lost, Undeclared, Unaddressed}
 use Rattle.smtpclient.specs.declared.dialogue.Turn.{Turn}
 use Rattle.smtpclient.specs.declared.dialogue.Turn.TheVariants.{Goes, Ends}
 use Rattle.mailsenders.specs.declared.dialogue.Spelled.{Spelled}
-
--- a front of octets was written
-abbrev pub WritesFront : List ℕ → List ℕ → List ℕ → Type 0
-WritesFront octets before after = (front rest : List ℕ) × (octets ≡ front ++ rest) × (after ≡ before ++ front)
 
 -- what was written and answered so far
 pub record Talk : Type 0 where
@@ -22,6 +18,21 @@ pub record Talk : Type 0 where
 
 abbrev pub talk : List ℕ → List ℕ → Talk
 talk written answered = record { written = written; answered = answered }
+
+-- with octets that were written more, and with one reply more
+abbrev pub wrote : Talk → List ℕ → Talk
+wrote t octets = talk (t.written ++ octets) t.answered
+
+abbrev pub heard : Talk → ℕ → Talk
+heard t code = talk t.written (t.answered ++ code ∷ [])
+
+-- a front of octets was written
+pub record WritesFront (octets : List ℕ) (before after : Talk) : Type 0 where
+  pub front : List ℕ
+  pub rest : List ℕ
+  pub cut : octets ≡ front ++ rest
+  pub written : after.written ≡ before.written ++ front
+  pub answered : after.answered ≡ before.answered
 
 -- a letter's lines are its own
 pub record IsSpelled (letter : Spelled) : Type 0 where
@@ -42,6 +53,18 @@ pub record GoesOn (offered : Extensions) (mail : Mail) (stage : Stage) (before a
   pub written : after.written ≡ before.written ++ spelled offered mail stage
   pub answered : after.answered ≡ before.answered ++ code ∷ []
   pub turns : turn_of stage code ≡ Goes onward
+
+-- how many stages follow one
+abbrev pub stages_behind : Stage → ℕ
+stages_behind Sender = 3
+stages_behind Recipient = 2
+stages_behind Data = 1
+stages_behind Text = 0
+
+-- a stage that follows is a later one
+abbrev pub IsLater : Stage → Turn → Type 0
+IsLater stage (Goes onward) = stages_behind onward < stages_behind stage
+IsLater stage (Ends ending) = Unit {0}
 
 -- one stage
 abbrev pub Steps : Extensions → Mail → Stage → Talk → Talk → Turn → Type 0

@@ -1,9 +1,10 @@
 //! A letter's dialogue with a server.
-ghost use Rattle.std.specs.Prelude.{◌≡◌, ◌++◌, IfOk, OnOk, OnErr};
+ghost use Rattle.std.specs.Prelude.{IfOk, OnOk, OnErr};
 ghost use Rattle.smtpclient.specs.Dialogues.{spelled};
 ghost use Rattle.smtpclient.specs.Letters.{mail_of};
 ghost use Rattle.smtpclient.specs.Sent.{sent_from, start};
 ghost use Rattle.mailsenders.specs.Talks as s;
+ghost use Rattle.mailsenders.specs.Talks.{Talk};
 
 use crate::server::{Lost, Server};
 use smtpclient::{
@@ -22,10 +23,9 @@ pub fn send_letter<S: Server>(
     may_eight_bit: bool,
     letter: Letter<'_>,
 ) -> Result<Ending, AllocError>
-    ensures treats { IfOk result (s.Treats offered may_eight_bit (mail_of letter.entry) (s.talk (S.written server.old) (S.answered server.old))
-        (s.talk (S.written server.new) (S.answered server.new))) }
-    ensures written { OnErr result (S.written server.new ≡ S.written server.old) }
-    ensures answered { OnErr result (S.answered server.new ≡ S.answered server.old) }
+    ensures treats { IfOk result (λ ending. (t : Talk) → S.said server.old t → (u : Talk) × S.said server.new u
+        × s.Treats offered may_eight_bit (mail_of letter.entry) t u ending) }
+    ensures kept { OnErr result ((t : Talk) → S.said server.old t → S.said server.new t) }
 {
     if !letter.is_addressed() {
         return Ok(Ending::Unaddressed);
@@ -59,8 +59,8 @@ pub(crate) struct Spelled<'a> {
 // The letter's dialogue from a stage on.
 fn speak<S: Server>(server: &mut S, letter: Spelled<'_>, stage: Stage) -> Ending
     requires { s.IsSpelled letter }
-    ensures { s.Says letter.entry.offered (mail_of letter.entry.letter) stage (s.talk (S.written server.old) (S.answered server.old))
-        (s.talk (S.written server.new) (S.answered server.new)) result }
+    ensures { (t : Talk) → S.said server.old t → (u : Talk) × S.said server.new u
+        × s.Says letter.entry.offered (mail_of letter.entry.letter) stage t u result }
 {
     match step(server, letter, stage) {
         Turn::Goes(onward) => speak(server, letter, onward),
@@ -71,8 +71,9 @@ fn speak<S: Server>(server: &mut S, letter: Spelled<'_>, stage: Stage) -> Ending
 // One stage: it is written, and what is answered is heard.
 fn step<S: Server>(server: &mut S, letter: Spelled<'_>, stage: Stage) -> Turn
     requires { s.IsSpelled letter }
-    ensures { s.Steps letter.entry.offered (mail_of letter.entry.letter) stage (s.talk (S.written server.old) (S.answered server.old))
-        (s.talk (S.written server.new) (S.answered server.new)) result }
+    ensures later { s.IsLater stage result }
+    ensures steps { (t : Talk) → S.said server.old t → (u : Talk) × S.said server.new u
+        × s.Steps letter.entry.offered (mail_of letter.entry.letter) stage t u result }
 {
     if write_stage(server, letter, stage).is_err() {
         return Turn::Ends(Ending::Lost);
@@ -85,9 +86,9 @@ fn step<S: Server>(server: &mut S, letter: Spelled<'_>, stage: Stage) -> Turn
 
 fn write_stage<S: Server>(server: &mut S, letter: Spelled<'_>, stage: Stage) -> Result<(), Lost>
     requires { s.IsSpelled letter }
-    ensures ok { OnOk result (S.written server.new ≡ S.written server.old ++ spelled letter.entry.offered (mail_of letter.entry.letter) stage) }
-    ensures err { OnErr result (s.WritesFront (spelled letter.entry.offered (mail_of letter.entry.letter) stage) (S.written server.old) (S.written server.new)) }
-    ensures answered { S.answered server.new ≡ S.answered server.old }
+    ensures ok { OnOk result ((t : Talk) → S.said server.old t → S.said server.new (s.wrote t (spelled letter.entry.offered (mail_of letter.entry.letter) stage))) }
+    ensures err { OnErr result ((t : Talk) → S.said server.old t → (u : Talk) × S.said server.new u
+        × s.WritesFront (spelled letter.entry.offered (mail_of letter.entry.letter) stage) t u) }
 {
     match stage {
         Stage::Sender => server.write(letter.mail),
@@ -99,9 +100,8 @@ fn write_stage<S: Server>(server: &mut S, letter: Spelled<'_>, stage: Stage) -> 
 
 // The text in its parts, and the dot behind it.
 fn write_text<S: Server>(server: &mut S, text: &[u8]) -> Result<(), Lost>
-    ensures ok { OnOk result (S.written server.new ≡ S.written server.old ++ sent_from start text.now) }
-    ensures err { OnErr result (s.WritesFront (sent_from start text.now) (S.written server.old) (S.written server.new)) }
-    ensures answered { S.answered server.new ≡ S.answered server.old }
+    ensures ok { OnOk result ((t : Talk) → S.said server.old t → S.said server.new (s.wrote t (sent_from start text.now))) }
+    ensures err { OnErr result ((t : Talk) → S.said server.old t → (u : Talk) × S.said server.new u × s.WritesFront (sent_from start text.now) t u) }
 {
     let mut sent = Sent::new(text);
     while let Some(part) = sent.next() {

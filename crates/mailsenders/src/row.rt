@@ -1,13 +1,12 @@
 //! One row: its letter is sent, and then it leaves the queue.
-ghost use Rattle.std.specs.Prelude.{◌≡◌, OnOk, OnErr, IfErr};
+ghost use Rattle.std.specs.Prelude.{OnOk, OnErr};
 ghost use Rattle.smtpclient.specs.Letters.{mail_of};
-ghost use Rattle.mailsenders.specs.Talks.{talk};
 ghost use Rattle.mailsenders.specs.Rows.{Rows, TakesOut};
 ghost use Rattle.mailsenders.specs.Deeds as s;
 
 use crate::dialogue::send_letter;
 use crate::journal::Journal;
-use crate::queue::{Queue, Row};
+use crate::queue::{Queue, Row, Unavailable};
 use crate::server::Server;
 use smtpclient::{Ending, Extensions, Letter, without_path};
 use std::alloc::Global;
@@ -43,19 +42,20 @@ pub fn send_row<Q: Queue, S: Server, J: Journal>(
     may_eight_bit: bool,
     row: &Row,
 ) -> Result<Ending, Stop>
-    ensures { (rows : Rows) → Q.shows queue.old rows → (after : Rows) × Q.shows queue.new after
-        × s.EndsRow offered may_eight_bit row.now (s.state rows (talk (S.written server.old) (S.answered server.old)))
-        (s.state after (talk (S.written server.new) (S.answered server.new))) result }
+    ensures { (before : s.State) → Q.shows queue.old before.rows → S.said server.old before.talk → (after : s.State)
+        × Q.shows queue.new after.rows × S.said server.new after.talk × s.EndsRow offered may_eight_bit row.now before after result }
 {
     let letter = letter_of(row);
     let Ok(ending) = send_letter(alloc, server, offered, may_eight_bit, letter) else {
         return Err(Stop::Memory);
     };
-    if ending != Ending::Sent {
-        return Ok(ending);
+    match ending {
+        Ending::Sent => match take_out(queue, journal, row) {
+            Ok(()) => Ok(ending),
+            Err(_) => Err(Stop::Kept),
+        },
+        _ => Ok(ending),
     }
-    take_out(queue, journal, row)?;
-    Ok(ending)
 }
 
 // The row's letter.
@@ -70,10 +70,13 @@ pub(crate) fn letter_of(row: &Row) -> Letter<'_>
 }
 
 // Takes the row out, at one of some tries.
-fn take_out<Q: Queue, J: Journal>(queue: &mut Q, journal: &mut J, row: &Row) -> Result<(), Stop>
+fn take_out<Q: Queue, J: Journal>(
+    queue: &mut Q,
+    journal: &mut J,
+    row: &Row,
+) -> Result<(), Unavailable>
     ensures taken { OnOk result ((rows : Rows) → Q.shows queue.old rows → (after : Rows) × TakesOut row.now.user row.now.id rows after × Q.shows queue.new after) }
     ensures kept { OnErr result ((rows : Rows) → Q.shows queue.old rows → Q.shows queue.new rows) }
-    ensures error { IfErr result (λ stop. stop ≡ Stop.Kept) }
 {
     for _ in 0..TRIES {
         if queue.take_out(row.user.as_slice(), row.id).is_ok() {
@@ -81,5 +84,5 @@ fn take_out<Q: Queue, J: Journal>(queue: &mut Q, journal: &mut J, row: &Row) -> 
         }
         journal.pause();
     }
-    Err(Stop::Kept)
+    queue.take_out(row.user.as_slice(), row.id)
 }

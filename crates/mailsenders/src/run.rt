@@ -1,6 +1,6 @@
 //! A run over all rows.
 ghost use Rattle.std.specs.Prelude.{◌≡◌, is_ok, true, IfOk, IfSome};
-ghost use Rattle.mailsenders.specs.Talks.{talk};
+ghost use Rattle.mailsenders.specs.Talks.{Talk};
 ghost use Rattle.mailsenders.specs.Rows.{Rows, IsThere};
 ghost use Rattle.mailsenders.specs.Deeds as s;
 
@@ -67,8 +67,8 @@ pub fn send_queue<Q: Queue, S: Server, J: Journal>(
     may_eight_bit: bool,
     most: u64,
 ) -> Result<Tally, Stop>
-    ensures { (rows : Rows) → Q.shows queue.old rows → s.Reaches may_eight_bit (Q.shows queue.new)
-        (s.state rows (talk (S.written server.old) (S.answered server.old))) (talk (S.written server.new) (S.answered server.new)) (is_ok result) }
+    ensures { (before : s.State) → Q.shows queue.old before.rows → S.said server.old before.talk
+        → s.Reaches may_eight_bit (Q.shows queue.new) (S.said server.new) before (is_ok result) }
 {
     let mut link = Link {
         offered: None,
@@ -120,8 +120,8 @@ fn try_row<Q: Queue, S: Server, J: Journal>(
     row: &Row,
 ) -> Result<Option<Ending>, Stop>
     ensures may { link.new.may_eight_bit ≡ link.old.may_eight_bit }
-    ensures reaches { (rows : Rows) → Q.shows queue.old rows → IsThere row.now rows → s.Reaches link.old.may_eight_bit (Q.shows queue.new)
-        (s.state rows (talk (S.written server.old) (S.answered server.old))) (talk (S.written server.new) (S.answered server.new)) (is_ok result) }
+    ensures reaches { (before : s.State) → Q.shows queue.old before.rows → S.said server.old before.talk → IsThere row.now before.rows
+        → s.Reaches link.old.may_eight_bit (Q.shows queue.new) (S.said server.new) before (is_ok result) }
 {
     if !journal.is_due(row.user.as_slice(), row.id) {
         return Ok(None);
@@ -142,8 +142,8 @@ fn visit<Q: Queue, S: Server, J: Journal>(
     row: &Row,
 ) -> Result<Ending, Stop>
     ensures may { link.new.may_eight_bit ≡ link.old.may_eight_bit }
-    ensures reaches { (rows : Rows) → Q.shows queue.old rows → IsThere row.now rows → s.Reaches link.old.may_eight_bit (Q.shows queue.new)
-        (s.state rows (talk (S.written server.old) (S.answered server.old))) (talk (S.written server.new) (S.answered server.new)) (is_ok result) }
+    ensures reaches { (before : s.State) → Q.shows queue.old before.rows → S.said server.old before.talk → IsThere row.now before.rows
+        → s.Reaches link.old.may_eight_bit (Q.shows queue.new) (S.said server.new) before (is_ok result) }
 {
     let handed = hand_over(alloc, queue, server, journal, link, row);
     noted(journal, row, handed)
@@ -159,8 +159,8 @@ fn hand_over<Q: Queue, S: Server, J: Journal>(
     row: &Row,
 ) -> Result<Ending, Stop>
     ensures may { link.new.may_eight_bit ≡ link.old.may_eight_bit }
-    ensures reaches { (rows : Rows) → Q.shows queue.old rows → IsThere row.now rows → s.Reaches link.old.may_eight_bit (Q.shows queue.new)
-        (s.state rows (talk (S.written server.old) (S.answered server.old))) (talk (S.written server.new) (S.answered server.new)) (is_ok result) }
+    ensures reaches { (before : s.State) → Q.shows queue.old before.rows → S.said server.old before.talk → IsThere row.now before.rows
+        → s.Reaches link.old.may_eight_bit (Q.shows queue.new) (S.said server.new) before (is_ok result) }
 {
     let Some(offered) = offered_for(server, link, row) else {
         return Err(Stop::Unreachable);
@@ -197,8 +197,7 @@ fn noted<J: Journal>(
 // What the server offers, over the connection that there is or a new one; none where it can't be had. A row that is never sent needs none.
 fn offered_for<S: Server>(server: &mut S, link: &mut Link, row: &Row) -> Option<Extensions>
     ensures may { link.new.may_eight_bit ≡ link.old.may_eight_bit }
-    ensures written { S.written server.new ≡ S.written server.old }
-    ensures answered { S.answered server.new ≡ S.answered server.old }
+    ensures kept { (t : Talk) → S.said server.old t → S.said server.new t }
 {
     if let Some(offered) = link.offered {
         return Some(offered);
@@ -216,8 +215,7 @@ fn offered_for<S: Server>(server: &mut S, link: &mut Link, row: &Row) -> Option<
 // The connection behind a letter: a letter that was refused is forgotten by RSET, and a connection that was lost is ended.
 fn settle<S: Server>(server: &mut S, link: &mut Link, ending: Ending)
     ensures may { link.new.may_eight_bit ≡ link.old.may_eight_bit }
-    ensures written { S.written server.new ≡ S.written server.old }
-    ensures answered { S.answered server.new ≡ S.answered server.old }
+    ensures kept { (t : Talk) → S.said server.old t → S.said server.new t }
 {
     let goes_on = match ending {
         Ending::Sent | Ending::Undeclared | Ending::Unaddressed => true,
