@@ -48,6 +48,13 @@ impl<P: Peer + Drop> Client<P> {
         }
     }
 
+    /// The connection.
+    pub fn peer(&self) -> &P
+        ensures { result.now ≡ self.now.peer }
+    {
+        &self.peer
+    }
+
     // Octets of no letter.
     fn say(&mut self, octets: &[u8]) -> Result<(), Lost>
         ensures { (t : Talk) → s.Passes (P.passed self.old.peer) self.old.unread t → s.Passes (P.passed self.new.peer) self.new.unread t }
@@ -178,7 +185,10 @@ impl<P: Peer + Drop> Server for Client<P> {
     fn write(&mut self, octets: &[u8]) -> Result<(), Lost> {
         match self.peer.send(octets, Patience::Piece) {
             Ok(()) => Ok(()),
-            Err(lost) => Err(lost),
+            Err(lost) => {
+                self.leave();
+                Err(lost)
+            }
         }
     }
 
@@ -188,17 +198,25 @@ impl<P: Peer + Drop> Server for Client<P> {
                 self.unread.drop_front(reply.count);
                 Ok(reply.code)
             }
-            Err(lost) => Err(lost),
+            Err(lost) => {
+                self.leave();
+                Err(lost)
+            }
         }
     }
 
     fn reset(&mut self) -> Result<(), Lost> {
         if self.say(RSET).is_err() {
+            self.leave();
             return Err(Lost);
         }
         match self.agrees(Patience::Command) {
             Ok(true) => Ok(()),
-            _ => Err(Lost),
+            Ok(false) => Err(Lost),
+            Err(lost) => {
+                self.leave();
+                Err(lost)
+            }
         }
     }
 
