@@ -61,6 +61,12 @@ fn add(out: &mut Octets, asked: Subcommand<'_>) -> Result<(), AllocError> {
         Subcommand::Done(asked) => add_at(out, "done", asked.location, &[asked.user, asked.id]),
         Subcommand::Notices(asked) => add_at(out, "notices", asked.location, &[asked.user]),
         Subcommand::Drain(asked) => add_drain(out, asked),
+        Subcommand::Send(asked) => {
+            let host = asked.host.unwrap_or("no host");
+            let most = asked.most.unwrap_or("all");
+            let send_8bit = if asked.send_8bit { "8bit" } else { "" };
+            add_texts(out, &["send", asked.path, asked.smtp, host, most, send_8bit])
+        }
         Subcommand::Serve(asked) => add_at(
             out,
             "serve",

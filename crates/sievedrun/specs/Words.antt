@@ -250,6 +250,7 @@ module _ (Denied : StoreLocation → Fault → Type 0) (Sunk : SinkError → Typ
   Does (word.Queue a) result old new = Idle × DoesQueue (Denied a.location) out_old out_new a.user.now (option_copied a.id) result old new
   Does (word.Notices a) result old new = Idle × DoesRead ⊥ (Denied a.location) a.user.now ListsNotices LacksNothing out_old out_new result old new
   Does (word.Try a) result old new = Idle × DoesNothing out_old out_new result old new
+  Does (word.Send a) result old new = Idle × DoesNothing out_old out_new result old new
   Does (word.Serve a) result old new = Idle × DoesNothing out_old out_new result old new
   Does (word.Session a) result old new = Idle × DoesNothing out_old out_new result old new
   Does (word.Daemon a) result old new = Idle × DoesNothing out_old out_new result old new
@@ -266,6 +267,7 @@ Reaches Given At (word.Done a) = Given a.location
 Reaches Given At (word.Notices a) = Given a.location
 Reaches Given At (word.Drain a) = Given a.location × At a.maildir.now
 Reaches Given At (word.Try a) = Unit {0}
+Reaches Given At (word.Send a) = Unit {0}
 Reaches Given At (word.Serve a) = Unit {0}
 Reaches Given At (word.Session a) = Unit {0}
 Reaches Given At (word.Daemon a) = Unit {0}

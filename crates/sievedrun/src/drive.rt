@@ -118,6 +118,7 @@ fn act<R: Read, W: Write, K: Keeper, T: MailSink>(
         Subcommand::Notices(asked) => run_notices(alloc, asked, output, keeper),
         Subcommand::Drain(asked) => run_drain(asked, output, keeper, sink),
         Subcommand::Try(_)
+        | Subcommand::Send(_)
         | Subcommand::Serve(_)
         | Subcommand::Session(_)
         | Subcommand::Daemon(_) => Err(Fault::BadArgument),

@@ -25,6 +25,7 @@ use Rattle.sievedwords.specs.declared.subcommand.drain.Drain.{Drain}
 use Rattle.sievedwords.specs.declared.subcommand.serve.Serve.{Serve}
 use Rattle.sievedwords.specs.declared.subcommand.session.Session.{Session}
 use Rattle.sievedwords.specs.declared.subcommand.daemon.Daemon.{Daemon}
+use Rattle.sievedwords.specs.declared.subcommand.send.Send.{Send}
 
 -- ---- what was given to a subcommand
 
@@ -111,6 +112,13 @@ pub record IsDrain (line : CommandLine) (m : ArgMatches) (a : Drain) : Type 0 wh
   pub folder : a.folder.now ≡ text_in m (codes "folder")
   pub maildir : a.maildir.now ≡ text_in m (codes "maildir")
 
+pub record IsSend (line : CommandLine) (m : ArgMatches) (a : Send) : Type 0 where
+  pub path : a.path.now ≡ text_in m (codes "db")
+  pub smtp : a.smtp.now ≡ text_in m (codes "smtp")
+  pub host : option_copied a.host ≡ value_in m (codes "host")
+  pub most : option_copied a.most ≡ value_in m (codes "most")
+  pub send_8bit : IsFlag m (codes "send-8bit") a.send_8bit
+
 pub record IsServe (line : CommandLine) (m : ArgMatches) (a : Serve) : Type 0 where
   pub location : IsLocation m a.location
   pub port : a.port.now ≡ text_in m (codes "port")
@@ -140,6 +148,7 @@ AsksFor line m word.Queue (asked.Queue a) = IsQueue line m a
 AsksFor line m word.Done (asked.Done a) = IsDone line m a
 AsksFor line m word.Notices (asked.Notices a) = IsNotices line m a
 AsksFor line m word.Drain (asked.Drain a) = IsDrain line m a
+AsksFor line m word.Send (asked.Send a) = IsSend line m a
 AsksFor line m word.Serve (asked.Serve a) = IsServe line m a
 AsksFor line m word.Session (asked.Session a) = IsSession line m a
 AsksFor line m word.Daemon (asked.Daemon a) = IsDaemon line m a

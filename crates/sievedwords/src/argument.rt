@@ -34,6 +34,10 @@ pub enum Argument {
     Host,
     Quiet,
     Check,
+    Smtp,
+    HostName,
+    MostRows,
+    SendEightBit,
 }
 
 /// How an argument is written.
@@ -65,9 +69,11 @@ impl Argument {
 
     fn form(self) -> Form {
         match self {
-            Argument::Wait | Argument::Directories | Argument::Quiet | Argument::Check => {
-                Form::Flag
-            }
+            Argument::Wait
+            | Argument::Directories
+            | Argument::Quiet
+            | Argument::Check
+            | Argument::SendEightBit => Form::Flag,
             Argument::Db
             | Argument::From
             | Argument::To
@@ -81,7 +87,10 @@ impl Argument {
             | Argument::Managesieve
             | Argument::Lmtp
             | Argument::Names
-            | Argument::Host => Form::Option,
+            | Argument::Host
+            | Argument::Smtp
+            | Argument::HostName
+            | Argument::MostRows => Form::Option,
             Argument::Name
             | Argument::Address
             | Argument::User
@@ -110,7 +119,7 @@ impl Argument {
             Argument::Folder => "folder",
             Argument::Number => "number",
             Argument::Id | Argument::AnyId => "id",
-            Argument::Most => "most",
+            Argument::Most | Argument::MostRows => "most",
             Argument::Maildir | Argument::Directories => "maildir",
             Argument::Separator => "separator",
             Argument::Port => "port",
@@ -118,24 +127,31 @@ impl Argument {
             Argument::Managesieve => "managesieve",
             Argument::Lmtp => "lmtp",
             Argument::Names => "names",
-            Argument::Host => "host",
+            Argument::Host | Argument::HostName => "host",
             Argument::Quiet => "quiet",
             Argument::Check => "check",
+            Argument::Smtp => "smtp",
+            Argument::SendEightBit => "send-8bit",
         }
     }
 
     /// What the help calls its value.
     fn value_name(self) -> &'static str {
         match self {
-            Argument::Wait | Argument::Directories | Argument::Quiet | Argument::Check => "",
+            Argument::Wait
+            | Argument::Directories
+            | Argument::Quiet
+            | Argument::Check
+            | Argument::SendEightBit => "",
             Argument::Separator => ".|/",
             Argument::From | Argument::To | Argument::AnyTo => "A",
             Argument::At | Argument::Number | Argument::Sessions => "N",
-            Argument::Most => "K",
+            Argument::Most | Argument::MostRows => "K",
+            Argument::Smtp => "ADDRESS:PORT|PATH",
             Argument::Port | Argument::Managesieve => "P",
             Argument::Salt => "HEX32",
             Argument::Db => "FILE",
-            Argument::Name | Argument::Host => "NAME",
+            Argument::Name | Argument::Host | Argument::HostName => "NAME",
             Argument::Lmtp => "P|PATH|-",
             Argument::Names => "local|whole",
             Argument::Address => "ADDRESS",
@@ -174,6 +190,10 @@ impl Argument {
             Argument::Host => "The name that clients of LMTP are greeted with [default: localhost]",
             Argument::Quiet => "Tells of no delivery that was made",
             Argument::Check => "Says what would go wrong, and serves nobody",
+            Argument::Smtp => "The mail server's address and port, or the path of its socket",
+            Argument::HostName => "The name that EHLO says [default: localhost]",
+            Argument::MostRows => "Tries at most K rows [default: all]",
+            Argument::SendEightBit => "Sends octets over 127 where 8BITMIME isn't offered too",
         }
     }
 
@@ -195,6 +215,9 @@ impl Argument {
                 | Argument::Host
                 | Argument::Quiet
                 | Argument::Check
+                | Argument::HostName
+                | Argument::MostRows
+                | Argument::SendEightBit
         )
     }
 }

@@ -23,6 +23,7 @@ pub use subcommand::folders::Folders;
 pub use subcommand::init::Init;
 pub use subcommand::notices::Notices;
 pub use subcommand::queue::Queue;
+pub use subcommand::send::Send;
 pub use subcommand::serve::Serve;
 pub use subcommand::session::Session;
 pub use subcommand::show::Show;

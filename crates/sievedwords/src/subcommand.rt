@@ -12,6 +12,7 @@ pub mod folders;
 pub mod init;
 pub mod notices;
 pub mod queue;
+pub mod send;
 pub mod serve;
 pub mod session;
 pub mod show;
@@ -26,6 +27,7 @@ use self::folders::{FOLDERS, Folders};
 use self::init::{INIT, Init};
 use self::notices::{NOTICES, Notices};
 use self::queue::{QUEUE, Queue};
+use self::send::{SEND, Send};
 use self::serve::{SERVE, Serve};
 use self::session::{SESSION, Session};
 use self::show::{SHOW, Show};
@@ -46,6 +48,7 @@ pub enum Subcommand<'a> {
     Done(Done<'a>),
     Notices(Notices<'a>),
     Drain(Drain<'a>),
+    Send(Send<'a>),
     Serve(Serve<'a>),
     Session(Session<'a>),
     Daemon(Daemon<'a>),
@@ -64,6 +67,7 @@ pub enum Word {
     Done,
     Notices,
     Drain,
+    Send,
     Serve,
     Session,
     Daemon,
@@ -71,7 +75,7 @@ pub enum Word {
 
 impl Word {
     /// All, in the order of the help.
-    pub const ALL: [Word; 13] = [
+    pub const ALL: [Word; 14] = [
         Word::Try,
         Word::Init,
         Word::AddUser,
@@ -82,6 +86,7 @@ impl Word {
         Word::Done,
         Word::Notices,
         Word::Drain,
+        Word::Send,
         Word::Serve,
         Word::Session,
         Word::Daemon,
@@ -121,6 +126,7 @@ impl Word {
             Word::Done => &DONE,
             Word::Notices => &NOTICES,
             Word::Drain => &DRAIN,
+            Word::Send => &SEND,
             Word::Serve => &SERVE,
             Word::Session => &SESSION,
             Word::Daemon => &DAEMON,
@@ -142,6 +148,7 @@ impl Word {
             Word::Done => Subcommand::Done(Done::read(given)),
             Word::Notices => Subcommand::Notices(Notices::read(given)),
             Word::Drain => Subcommand::Drain(Drain::read(given)),
+            Word::Send => Subcommand::Send(Send::read(given)),
             Word::Serve => Subcommand::Serve(Serve::read(given)),
             Word::Session => Subcommand::Session(Session::read(given)),
             Word::Daemon => Subcommand::Daemon(Daemon::read(given)),

@@ -1,4 +1,8 @@
+pub mod DialogueLemmas
 pub mod Examples
+pub mod ExtensionLemmas
+pub mod LetterLemmas
+pub mod MailboxLemmas
 pub mod ReplyLemmas
 pub mod RunLemmas
 pub mod SentLemmas

@@ -64,7 +64,7 @@ one_line line a b last end text other one two =
 
 -- ---- the line that stands first
 
-here_found : (octets line behind : List ℕ) → IsHere octets line behind → Finds (found.Line (length line)) octets
+pub here_found : (octets line behind : List ℕ) → IsHere octets line behind → Finds (found.Line (length line)) octets
 here_found octets line behind is =
     let front : take (length line) octets ≡ line = ap (take (length line)) is.first.written ∙ take-append_seam line (line_end ++ behind) in
     let back : drop (length line + 2) octets ≡ behind = ap (drop (length line + 2)) is.first.written ∙ drop-append-add line (line_end ++ behind) 2 in
@@ -76,16 +76,16 @@ here_found octets line behind is =
       omega (arith, size, ends, two),
     )
 
-abbrev count_of : Found → ℕ
+abbrev pub count_of : Found → ℕ
 count_of (found.Line count) = count
 count_of found.Need = 0
 count_of found.TooLong = 0
 
-record SameLine (octets line behind : List ℕ) (count : ℕ) : Type 0 where
-  front : line ≡ take count octets
-  back : behind ≡ drop (count + 2) octets
+pub record SameLine (octets line behind : List ℕ) (count : ℕ) : Type 0 where
+  pub front : line ≡ take count octets
+  pub back : behind ≡ drop (count + 2) octets
 
-same_line : (octets line behind : List ℕ) (count : ℕ) → IsHere octets line behind → Finds (found.Line count) octets → SameLine octets line behind count
+pub same_line : (octets line behind : List ℕ) (count : ℕ) → IsHere octets line behind → Finds (found.Line count) octets → SameLine octets line behind count
 same_line octets line behind count is finds =
     let size : length line ≡ count = ap count_of (one_found (found.Line (length line)) (found.Line count) octets (here_found octets line behind is) finds) in
     record {

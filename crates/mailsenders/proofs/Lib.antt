@@ -1,0 +1,3 @@
+pub mod DeedLemmas
+pub mod TalkLemmas
+pub mod WireLemmas

@@ -1,0 +1,9 @@
+use Rattle.std.proofs.Common.{length}
+use Rattle.smtpclient.proofs.LetterLemmas.{Counts}
+use Rattle.smtpclient.proofs.letter.size_of.Given as goal
+
+abbrev pub invariant-loop-octet : goal.invariant-loop-octet
+invariant-loop-octet l = Counts l.text l.left l.place l.size
+
+abbrev pub decreases-loop-octet : goal.decreases-loop-octet
+decreases-loop-octet l = length l.left

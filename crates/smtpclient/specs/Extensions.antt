@@ -1,0 +1,65 @@
+-- What a server offers in its reply to EHLO (RFC 5321, section 4.1.1.1).
+use Rattle.std.specs.Prelude.{◌≡◌, ℕ, ◌==◌, ◌||◌, not, nat_eq, Bool, false, List, [], ◌∷◌, codes, drop, take}
+use Rattle.std.specs.Cmp.Lexicographic.{pointwise}
+use Rattle.std.specs.List.{list_any, prefix_len}
+use Rattle.octets.specs.Ascii.{lowered}
+use Rattle.smtpclient.specs.Replies.{IsHere}
+use Rattle.smtpclient.specs.declared.extension.Extensions.{Extensions}
+
+-- the first word of a line behind its code and mark
+abbrev pub is_unspaced : ℕ → Bool
+is_unspaced octet = not (octet == 32)
+
+abbrev pub word_of : List ℕ → List ℕ
+word_of text = take (prefix_len is_unspaced text) text
+
+abbrev pub keyword_of : List ℕ → List ℕ
+keyword_of line = word_of (drop 4 line)
+
+-- a word, in upper or lower case
+abbrev pub is_word : List ℕ → List ℕ → Bool
+is_word word text = pointwise nat_eq (lowered text) (lowered word)
+
+-- a line whose keyword is this one
+abbrev pub names : List ℕ → List ℕ → Bool
+names keyword line = is_word keyword (keyword_of line)
+
+-- some of these lines names it
+abbrev pub offers : List ℕ → List (List ℕ) → Bool
+offers keyword lines = list_any (names keyword) lines
+
+-- what is offered by the lines behind the first one, which has the server's name
+abbrev pub extensions_of : List (List ℕ) → Extensions
+extensions_of lines = record { size = offers (codes "size") lines; eight_bit_mime = offers (codes "8bitmime") lines; smtputf8 = offers (codes "smtputf8") lines }
+
+-- octets are these lines, each with its CRLF
+abbrev pub AreLines : List (List ℕ) → List ℕ → Type 0
+AreLines [] octets = octets ≡ []
+AreLines (line ∷ lines) octets = (behind : List ℕ) × IsHere octets line behind × AreLines lines behind
+
+-- that of a reply of one line and others
+abbrev pub Offers : List ℕ → Extensions → Type 0
+Offers octets it = (first : List ℕ) (lines : List (List ℕ)) → AreLines (first ∷ lines) octets → it ≡ extensions_of lines
+
+-- ---- one line behind others
+
+abbrev pub with_line : Extensions → List ℕ → Extensions
+with_line it line = record {
+  size = it.size || names (codes "size") line;
+  eight_bit_mime = it.eight_bit_mime || names (codes "8bitmime") line;
+  smtputf8 = it.smtputf8 || names (codes "smtputf8") line;
+}
+
+abbrev pub with_lines : Extensions → List (List ℕ) → Extensions
+with_lines it lines = record {
+  size = it.size || offers (codes "size") lines;
+  eight_bit_mime = it.eight_bit_mime || offers (codes "8bitmime") lines;
+  smtputf8 = it.smtputf8 || offers (codes "smtputf8") lines;
+}
+
+abbrev pub no_extensions : Extensions
+no_extensions = record { size = false; eight_bit_mime = false; smtputf8 = false }
+
+-- what lines offer more
+abbrev pub OffersMore : List ℕ → Extensions → Extensions → Type 0
+OffersMore octets before after = (lines : List (List ℕ)) → AreLines lines octets → after ≡ with_lines before lines

@@ -1,0 +1,82 @@
+//! The commands that are written.
+ghost use Rattle.std.specs.Prelude.{◌≡◌, ◌++◌, IfOk, OnOk};
+ghost use Rattle.smtpclient.specs.Letters as s;
+
+use crate::extension::Extensions;
+use crate::letter::{Letter, size_of};
+use octets::{Octets, write_decimal};
+use std::alloc::{AllocError, Global};
+
+/// DATA.
+pub const DATA: &[u8] = b"DATA\r\n";
+/// RSET.
+pub const RSET: &[u8] = b"RSET\r\n";
+/// QUIT.
+pub const QUIT: &[u8] = b"QUIT\r\n";
+
+/// EHLO with the name of this host (RFC 5321, section 4.1.1.1). Lack of memory is the only error.
+pub fn ehlo_line(alloc: Global, host: &[u8]) -> Result<Octets, AllocError>
+    ensures { IfOk result (λ line. line ≡ s.ehlo_line host.now) }
+{
+    let mut line = Octets::from_slice(alloc, b"EHLO ")?;
+    line.extend_from_slice(host)?;
+    line.extend_from_slice(b"\r\n")?;
+    Ok(line)
+}
+
+/// MAIL with the letter's sender, and what is needed and offered: its size, BODY where an octet over 127 stands in its text, SMTPUTF8
+/// where one stands in an address (RFC 5321, section 4.1.1.2). Lack of memory is the only error. Time is linear in the letter's octets.
+pub fn mail_line(
+    alloc: Global,
+    offered: Extensions,
+    letter: Letter<'_>,
+) -> Result<Octets, AllocError>
+    ensures { IfOk result (λ line. line ≡ s.mail_line offered (s.mail_of letter.entry)) }
+{
+    let mut line = Octets::from_slice(alloc, b"MAIL FROM:<")?;
+    line.extend_from_slice(letter.sender)?;
+    line.extend_from_slice(b">")?;
+    add_size(&mut line, offered, letter)?;
+    add_body(&mut line, offered, letter)?;
+    add_utf8(&mut line, letter)?;
+    line.extend_from_slice(b"\r\n")?;
+    Ok(line)
+}
+
+fn add_size(line: &mut Octets, offered: Extensions, letter: Letter<'_>) -> Result<(), AllocError>
+    ensures { OnOk result (line.new ≡ line.old ++ s.size_part offered (s.mail_of letter.entry)) }
+{
+    if offered.size {
+        line.extend_from_slice(b" SIZE=")?;
+        write_decimal(line, size_of(letter.text))?;
+    }
+    Ok(())
+}
+
+fn add_body(line: &mut Octets, offered: Extensions, letter: Letter<'_>) -> Result<(), AllocError>
+    ensures { OnOk result (line.new ≡ line.old ++ s.body_part offered (s.mail_of letter.entry)) }
+{
+    if offered.eight_bit_mime && letter.needs_eight_bit() {
+        line.extend_from_slice(b" BODY=8BITMIME")?;
+    }
+    Ok(())
+}
+
+fn add_utf8(line: &mut Octets, letter: Letter<'_>) -> Result<(), AllocError>
+    ensures { OnOk result (line.new ≡ line.old ++ s.utf8_part (s.mail_of letter.entry)) }
+{
+    if letter.needs_smtputf8() {
+        line.extend_from_slice(b" SMTPUTF8")?;
+    }
+    Ok(())
+}
+
+/// RCPT with the letter's target (RFC 5321, section 4.1.1.3). Lack of memory is the only error.
+pub fn rcpt_line(alloc: Global, letter: Letter<'_>) -> Result<Octets, AllocError>
+    ensures { IfOk result (λ line. line ≡ s.rcpt_line (s.mail_of letter.entry)) }
+{
+    let mut line = Octets::from_slice(alloc, b"RCPT TO:<")?;
+    line.extend_from_slice(letter.target)?;
+    line.extend_from_slice(b">\r\n")?;
+    Ok(line)
+}

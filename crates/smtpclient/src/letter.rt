@@ -1,0 +1,125 @@
+//! A letter: a message with its envelope, and what it needs.
+ghost use Rattle.std.specs.Prelude.{◌≡◌, ◌↔◌, ◌≤◌, IsTrue, length};
+ghost use Rattle.smtpclient.specs.Letters as s;
+ghost use Rattle.smtpclient.specs.Sent as sent;
+ghost use Rattle.lmtp.specs.Copies as copies;
+
+use crate::extension::Extensions;
+use crate::mailbox::{is_high, is_mailbox};
+use crate::sent::Place;
+use mailhead::{logical_line, read_field};
+
+/// A message with its envelope, as it goes to a server.
+#[derive(Clone, Copy)]
+pub struct Letter<'a> {
+    /// The sender's address; empty for that of a bounce.
+    pub sender: &'a [u8],
+    pub target: &'a [u8],
+    /// The text of the message, without the field `Return-Path` in front.
+    pub text: &'a [u8],
+}
+
+impl<'a> Letter<'a> {
+    /// Whether its addresses are mailboxes; the sender may be empty. One for which this isn't so is never sent.
+    ///
+    /// Time is linear in the addresses' octets; no memory is taken.
+    pub fn is_addressed(&self) -> bool
+        ensures { IsTrue result ↔ s.IsAddressed (s.mail_of self.now) }
+    {
+        is_sender(self.sender) && is_mailbox(self.target)
+    }
+
+    /// Whether a server offers what it needs: SMTPUTF8 where an octet over 127 stands in an address, 8BITMIME where one stands in its
+    /// text, unless it may go without that.
+    ///
+    /// Time is linear in its octets; no memory is taken.
+    pub fn is_offered(&self, offered: Extensions, may_eight_bit: bool) -> bool
+        ensures { IsTrue result ↔ s.IsOffered offered may_eight_bit (s.mail_of self.now) }
+    {
+        if !offered.smtputf8 && self.needs_smtputf8() {
+            return false;
+        }
+        offered.eight_bit_mime || may_eight_bit || !self.needs_eight_bit()
+    }
+
+    /// Whether an octet over 127 stands in an address.
+    pub fn needs_smtputf8(&self) -> bool
+        ensures { result ≡ s.needs_smtputf8 (s.mail_of self.now) }
+    {
+        has_high(self.sender) || has_high(self.target)
+    }
+
+    /// Whether an octet over 127 stands in the text.
+    pub fn needs_eight_bit(&self) -> bool
+        ensures { result ≡ s.needs_eight_bit (s.mail_of self.now) }
+    {
+        has_high(self.text)
+    }
+}
+
+fn is_sender(sender: &[u8]) -> bool
+    ensures { IsTrue result ↔ s.IsSender sender.now }
+{
+    sender.is_empty() || is_mailbox(sender)
+}
+
+fn has_high(text: &[u8]) -> bool
+    ensures { result ≡ s.has_high text.now }
+{
+    text.iter().any(|octet| is_high(*octet))
+}
+
+/// A message without the field `Return-Path` that its first line is (RFC 5321, section 4.4), or all of it where its first line is none.
+///
+/// Time is linear in that field's octets; no memory is taken.
+pub fn without_path(message: &[u8]) -> &[u8]
+    ensures { s.LeavesPath message.now result.now }
+{
+    if message.is_empty() {
+        return message;
+    }
+    let (line, after) = logical_line(message);
+    if is_path(line) { after } else { message }
+}
+
+fn is_path(line: &[u8]) -> bool
+    ensures { result ≡ copies.is_path_line line.now }
+{
+    match read_field(line) {
+        Some(field) => field.name.eq_ignore_ascii_case(b"return-path"),
+        None => false,
+    }
+}
+
+/// How many octets the other side has of a text that is sent (RFC 1870). Time is linear in its octets.
+pub fn size_of(text: &[u8]) -> u64
+    ensures { result ≡ s.size_of text.now }
+{
+    let mut size: u64 = 0;
+    let mut place = Place::Start;
+    let mut left = text;
+    while let Some((octet, rest)) = left.split_first() {
+        if *octet == b'\n' {
+            size += 2;
+            place = Place::Start;
+        } else if *octet != b'\r' || !begins_feed(rest) {
+            size += 1;
+            place = Place::Inside;
+        }
+        left = rest;
+    }
+    if place == Place::Inside {
+        size + 2
+    } else {
+        size
+    }
+}
+
+fn begins_feed(rest: &[u8]) -> bool
+    ensures { result ≡ sent.begins_feed rest.now }
+{
+    match rest.split_first() {
+        Some((octet, _)) => *octet == b'\n',
+        None => false,
+    }
+}
