@@ -1,0 +1,3 @@
+mod DeedLemmas
+mod StoreLemmas
+mod TableLemmas

@@ -1,0 +1,6 @@
+pub mod Couriers
+pub mod Deeds
+pub mod Holdings
+pub mod Lines
+pub mod Posts
+pub mod Waits

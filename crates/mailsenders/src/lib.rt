@@ -1,0 +1,18 @@
+//! What `send` does with the queues of a store: each row goes to a server, and leaves the store behind the server's 250.
+#![tactic(auto)]
+
+pub mod book;
+pub mod clock;
+pub mod courier;
+pub mod holding;
+pub mod post;
+pub mod run;
+pub mod wait;
+
+pub use book::Book;
+pub use clock::Clock;
+pub use courier::Courier;
+pub use holding::Search;
+pub use post::Post;
+pub use run::{Stop, Teller, send_rows};
+pub use wait::{Wait, is_due, note};
