@@ -8,8 +8,7 @@ use Rattle.smtpclient.specs.declared.dialogue.Stage.{Stage}
 use Rattle.smtpclient.specs.declared.dialogue.Stage.TheVariants.{Sender, Recipient, Data, Text}
 use Rattle.smtpclient.specs.declared.dialogue.Ending.{Ending}
 use Rattle.smtpclient.specs.declared.dialogue.Ending.TheVariants as ending
-use Rattle.smtpclient.specs.declared.dialogue.Turn.{Turn}
-use Rattle.smtpclient.specs.declared.dialogue.Turn.TheVariants.{Goes, Ends}
+use Rattle.smtpclient.specs.declared.dialogue.Turn.TheVariants.{Ends}
 
 -- ---- a letter that was sent
 

@@ -1,11 +1,11 @@
 -- What lines of a reply offer.
-use Rattle.std.proofs.Common.{◌≡◌, ℕ, ◌+◌, Bool, true, false, ◌||◌, List, [], ◌∷◌, ◌++◌, length, drop, take, refl, sym, ap, ◌∙◌, subst, arith}
+use Rattle.std.proofs.Common.{◌≡◌, ℕ, Bool, true, false, ◌||◌, List, [], ◌∷◌, length, drop, take, refl, sym, ap, ◌∙◌, subst, arith}
 use Rattle.lmtp.specs.Lines.{Finds}
 use Rattle.lmtp.specs.declared.line.Found.{Found}
 use Rattle.lmtp.specs.declared.line.Found.TheVariants as found
 use Rattle.lmtp.proofs.LineLemmas.{one_found}
 use Rattle.smtpclient.specs.Replies.{IsHere}
-use Rattle.smtpclient.specs.Extensions.{AreLines, Offers, OffersMore, with_line, with_lines, extensions_of, no_extensions}
+use Rattle.smtpclient.specs.Extensions.{AreLines, Offers, OffersMore, with_line, with_lines, no_extensions}
 use Rattle.smtpclient.specs.declared.extension.Extensions.{Extensions}
 use Rattle.smtpclient.proofs.ReplyLemmas.{here_found, same_line, dropped}
 

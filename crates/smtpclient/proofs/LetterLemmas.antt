@@ -1,5 +1,5 @@
 -- Letters.
-use Rattle.std.proofs.Common.{◌≡◌, ◌⊎◌, ℕ, ◌+◌, ◌*◌, ◌≤◌, ◌<◌, ◌==◌, Bool, true, false, List, [], ◌∷◌, ◌++◌, length, refl, sym, ap, ◌∙◌, inl, inr, arith}
+use Rattle.std.proofs.Common.{◌≡◌, ℕ, ◌+◌, ◌*◌, ◌≤◌, ◌==◌, Bool, true, false, List, [], ◌∷◌, length, refl, sym, ap, ◌∙◌, inl, inr, arith}
 use Rattle.mailhead.specs.Cuts.{CutsLogicalLine}
 use Rattle.mailhead.specs.Lines.{lines_of, logical_lines}
 use Rattle.mailhead.proofs.FoldLemmas.{logical_lines-folded}

@@ -1,5 +1,5 @@
 -- Mailboxes, octet by octet.
-use Rattle.std.proofs.Common.{◌≡◌, ◌≢◌, ◌⊎◌, ℕ, zero, suc, ◌+◌, ◌-◌, ◌<◌, ◌≤◌, ◌==◌, ◌&&◌, ◌||◌, not, Bool, true, false, List, [], ◌∷◌, ◌++◌, length, take, drop, get_or, Option, Some, None, Result, Ok, Err, is_ok, Bor, inl, inr, refl, sym, ap, ◌∙◌, subst, append-nil, append_assoc, arith}
+use Rattle.std.proofs.Common.{◌≡◌, ℕ, suc, ◌-◌, ◌<◌, ◌≤◌, ◌==◌, ◌&&◌, ◌||◌, not, Bool, true, false, List, [], ◌∷◌, ◌++◌, length, take, drop, get_or, Option, Some, None, Result, Ok, Err, is_ok, Bor, inl, inr, refl, sym, ap, ◌∙◌, subst, append-nil, append_assoc, arith}
 use Rattle.std.proofs.lemmas.Bool.{false_from_ne_true}
 use Rattle.std.specs.Prelude.{MatchResult, IsUtf8, IfSome, IfNone}
 use Rattle.std.specs.Str.{is_utf8, IsValidUpTo}
@@ -7,11 +7,11 @@ use Rattle.std.proofs.lemmas.Str.{IsUtf8-from_is_utf8, is_utf8-from_IsUtf8}
 use Rattle.std.specs.List.{list_all, slice_split, onto_first, prefix_len}
 use Rattle.mailhead.proofs.FormLemmas.{list_all-prefix}
 use Rattle.std.proofs.Math.Seq.{drop-cons}
-use Rattle.std.proofs.lemmas.List.{take-append-drop, length-append, length-drop}
+use Rattle.std.proofs.lemmas.List.{take-append-drop, length-drop}
 use Rattle.std.proofs.lemmas.List.Folds.{list_all-append}
 use Rattle.std.proofs.lemmas.List.Sums.{passes_at_first}
 use Rattle.octets.specs.Ascii.{is_printable}
-use Rattle.smtpclient.specs.Mailboxes.{CutsAt, HasNone, CutsLocal, CutsDotted, Closes, IsLocal, IsHost, IsMailbox, IsTagged, is_atom, is_atext, is_high, is_dot, is_dot_string, is_qcontent, is_qtext, is_end, is_tag_octet, is_tag, is_content, ends_well, joined, behind_quotes}
+use Rattle.smtpclient.specs.Mailboxes.{CutsAt, HasNone, CutsLocal, CutsDotted, Closes, IsLocal, IsHost, IsMailbox, IsTagged, is_atom, is_atext, is_high, is_dot, is_dot_string, is_qcontent, is_end, is_tag_octet, is_tag, is_content, ends_well, joined, behind_quotes}
 
 -- ---- truth values
 

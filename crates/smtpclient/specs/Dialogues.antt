@@ -7,7 +7,7 @@ use Rattle.smtpclient.specs.declared.extension.Extensions.{Extensions}
 use Rattle.smtpclient.specs.declared.dialogue.Stage.{Stage}
 use Rattle.smtpclient.specs.declared.dialogue.Stage.TheVariants.{Sender, Recipient, Data, Text}
 use Rattle.smtpclient.specs.declared.dialogue.Ending.{Ending}
-use Rattle.smtpclient.specs.declared.dialogue.Ending.TheVariants.{Sent, Refused, Delayed, OutOfPlace, Lost, Undeclared, Unaddressed}
+use Rattle.smtpclient.specs.declared.dialogue.Ending.TheVariants.{Sent, Refused, Delayed, OutOfPlace, Lost}
 use Rattle.smtpclient.specs.declared.dialogue.Turn.{Turn}
 use Rattle.smtpclient.specs.declared.dialogue.Turn.TheVariants.{Goes, Ends}
 

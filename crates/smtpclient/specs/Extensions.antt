@@ -1,5 +1,5 @@
 -- What a server offers in its reply to EHLO (RFC 5321, section 4.1.1.1).
-use Rattle.std.specs.Prelude.{◌≡◌, ℕ, ◌==◌, ◌||◌, not, nat_eq, Bool, true, false, List, [], ◌∷◌, codes, drop, take}
+use Rattle.std.specs.Prelude.{◌≡◌, ℕ, ◌==◌, ◌||◌, not, nat_eq, Bool, false, List, [], ◌∷◌, codes, drop, take}
 use Rattle.std.specs.Cmp.Lexicographic.{pointwise}
 use Rattle.std.specs.List.{list_any, prefix_len}
 use Rattle.octets.specs.Ascii.{lowered}

@@ -1,11 +1,11 @@
 -- A letter: a message with its envelope, and what is written for it.
-use Rattle.std.specs.Prelude.{◌≡◌, ◌≢◌, ◌⊎◌, ℕ, ◌||◌, ◌&&◌, if◌then◌else◌, Bool, true, false, List, [], ◌∷◌, ◌++◌, length, codes, decimal}
+use Rattle.std.specs.Prelude.{◌≡◌, ◌⊎◌, ℕ, ◌||◌, ◌&&◌, if◌then◌else◌, Bool, true, List, [], ◌++◌, length, codes, decimal}
 use Rattle.std.specs.List.{list_any}
 use Rattle.mailhead.specs.Cuts.{CutsLogicalLine}
 use Rattle.lmtp.specs.Copies.{is_path_line}
 use Rattle.lmtp.specs.Lines.{line_end}
 use Rattle.smtpclient.specs.Mailboxes.{IsMailbox, is_high}
-use Rattle.smtpclient.specs.Sent.{sent_from, text_from, start}
+use Rattle.smtpclient.specs.Sent.{text_from, start}
 use Rattle.smtpclient.specs.declared.extension.Extensions.{Extensions}
 use Rattle.smtpclient.specs.declared.letter.Letter.{Letter}
 

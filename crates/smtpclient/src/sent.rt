@@ -22,6 +22,7 @@ pub enum Place {
 /// space, or as `?` where it begins the line, so that no line becomes the continuation of a field. A dot stands before each line that
 /// begins with one, and a dot alone on a line behind the last one. It takes no memory: the parts are those of the message, or of a few
 /// octets.
+#[derive(Drop)]
 pub struct Sent<'a> {
     pub(crate) left: &'a [u8],
     pub(crate) place: Place,

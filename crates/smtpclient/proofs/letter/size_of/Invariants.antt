@@ -1,5 +1,4 @@
-use Rattle.std.proofs.Common.{◌≡◌, ◌≤◌, ◌+◌, ◌*◌, length}
-use Rattle.smtpclient.specs.Sent.{text_from, start}
+use Rattle.std.proofs.Common.{length}
 use Rattle.smtpclient.proofs.LetterLemmas.{Counts}
 use Rattle.smtpclient.proofs.letter.size_of.Given as goal
 

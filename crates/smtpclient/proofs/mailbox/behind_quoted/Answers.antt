@@ -1,4 +1,4 @@
-use Rattle.std.proofs.Common.{sym, ap, ◌∙◌, ◌≡◌, ◌∷◌, Some, None}
+use Rattle.std.proofs.Common.{sym, ap, ◌∙◌, ◌∷◌, Some}
 use Rattle.smtpclient.proofs.MailboxLemmas.{some_by, none_by, closes_back, closes_forth, one_close, same_host}
 use Rattle.smtpclient.proofs.mailbox.behind_quoted.Goals as goal
 

@@ -1,4 +1,4 @@
-use Rattle.std.proofs.Common.{sym, subst, ◌∷◌}
+use Rattle.std.proofs.Common.{sym, subst}
 use Rattle.smtpclient.specs.Mailboxes.{CutsLocal}
 use Rattle.smtpclient.proofs.MailboxLemmas.{some_by, none_by, quoted_cut, cut_quoted, cut_dotted}
 use Rattle.smtpclient.proofs.mailbox.host_of.Goals as goal

@@ -1,5 +1,5 @@
-use Rattle.std.proofs.Common.{◌≡◌, List, ℕ, length}
-use Rattle.smtpclient.specs.Extensions.{AreLines, OffersMore, with_lines}
+use Rattle.std.proofs.Common.{length}
+use Rattle.smtpclient.specs.Extensions.{OffersMore}
 use Rattle.smtpclient.proofs.extension.Extensions.with_lines.Given as goal
 
 abbrev pub invariant-loop-count : goal.invariant-loop-count

@@ -1,0 +1,32 @@
+use Rattle.std.proofs.Common.{subst, sym, Ok}
+use Rattle.smtpclient.specs.Letters.{mail_of}
+use Rattle.mailsenders.specs.Talks.{Treats}
+use Rattle.mailsenders.specs.Deeds.{state, EndsRow}
+use Rattle.mailsenders.proofs.DeedLemmas.{waits, leaves, keeps}
+use Rattle.mailsenders.proofs.row.send_row.Goals as goal
+
+pub returns-in-Ok-take_out : goal.returns-in-Ok-take_out
+returns-in-Ok-take_out g c = λ before shows said.
+    let it = c.in-Ok.ensures.treats before.talk said in
+    let mail = mail_of c.letter_of-letter.result in
+    let out = c.in-Ok-take_out.ensures.taken before.rows shows in
+    let treats = subst (λ e. Treats c.args.offered c.args.may_eight_bit mail before.talk it.0 e) c.in-Sent.is it.2 in (
+      state out.0 it.0,
+      out.2,
+      it.1,
+      subst (λ e. EndsRow c.args.offered c.args.may_eight_bit c.args.row.now before (state out.0 it.0) (Ok e)) (sym c.in-Sent.is)
+          (leaves c.args.offered c.args.may_eight_bit c.args.row.now mail before it.0 out.0 c.letter_of-letter.ensures treats out.1),
+    )
+
+pub returns-in-Err : goal.returns-in-Err
+returns-in-Err g c = λ before shows said.
+    let it = c.in-Ok.ensures.treats before.talk said in
+    let mail = mail_of c.letter_of-letter.result in
+    let treats = subst (λ e. Treats c.args.offered c.args.may_eight_bit mail before.talk it.0 e) c.in-Sent.is it.2 in
+    (state before.rows it.0, c.in-Err.ensures.kept before.rows shows, it.1, keeps c.args.offered c.args.may_eight_bit c.args.row.now mail before it.0 c.letter_of-letter.ensures treats)
+
+pub returns-in_default-ending : goal.returns-in_default-ending
+returns-in_default-ending g c = λ before shows said.
+    let it = c.in-Ok.ensures.treats before.talk said in
+    let mail = mail_of c.letter_of-letter.result in
+    (state before.rows it.0, shows, it.1, waits c.args.offered c.args.may_eight_bit c.args.row.now mail before it.0 c.in-Ok.ending c.letter_of-letter.ensures it.2 c.in_default-ending.not-Sent)

@@ -1,0 +1,50 @@
+//! What the queues of all users promise.
+ghost use Rattle.std.specs.Prelude.{◌≡◌, ℕ, List, OnOk, OnErr, IfOk, IfSome};
+ghost use Rattle.mailsenders.specs.Rows.{Rows, TakesOut};
+
+use octets::Octets;
+
+/// A row of a user's queue.
+#[derive(Debug, Drop)]
+pub struct Row {
+    pub user: Octets,
+    /// The row's number in the account.
+    pub id: u64,
+    /// The envelope sender; empty for a reply.
+    pub sender: Octets,
+    pub target: Octets,
+    pub message: Octets,
+}
+
+/// Why a row can't be read, or can't be taken out.
+#[derive(Clone, Copy, Debug, PartialEq, Eq)]
+pub enum Unavailable {
+    /// There is no memory.
+    Memory,
+    /// The store can't be had, or refuses.
+    Store,
+}
+
+/// The queues of all users.
+pub trait Queue {
+    ghost use Rattle.mailsenders.specs.Rows.{IsThere};
+
+    /// Whether these are its rows. One over a store that doesn't tell its tables says it of none.
+    ghost shows: { Self → Rows → Type 0 };
+
+    /// The first row after this place, in the order of the octets of the users and of the numbers. The store is taken for it where it
+    /// isn't out, and given back.
+    fn next(&mut self, user: &[u8], id: u64) -> Result<Option<Row>, Unavailable>
+        ensures there { IfOk result (λ found. IfSome found (λ row. (rows : Rows) → shows self.new rows → IsThere row rows)) }
+        ensures same { (rows : Rows) → shows self.old rows → shows self.new rows };
+
+    /// Takes the user's row with the number out. The store is waited for without an end, and stays out after Ok, until the next row is
+    /// read. One that isn't there any more counts as taken out.
+    ///
+    /// # Errors
+    ///
+    /// The store refuses; then nothing changed.
+    fn take_out(&mut self, user: &[u8], id: u64) -> Result<(), Unavailable>
+        ensures taken { OnOk result ((rows : Rows) → shows self.old rows → (after : Rows) × TakesOut user.now id rows after × shows self.new after) }
+        ensures kept { OnErr result ((rows : Rows) → shows self.old rows → shows self.new rows) };
+}

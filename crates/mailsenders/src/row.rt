@@ -1,0 +1,88 @@
+//! One row: its letter is sent, and then it leaves the queue.
+ghost use Rattle.std.specs.Prelude.{OnOk, OnErr};
+ghost use Rattle.smtpclient.specs.Letters.{mail_of};
+ghost use Rattle.mailsenders.specs.Rows.{Rows, TakesOut};
+ghost use Rattle.mailsenders.specs.Deeds as s;
+
+use crate::dialogue::send_letter;
+use crate::journal::Journal;
+use crate::queue::{Queue, Row, Unavailable};
+use crate::server::Server;
+use smtpclient::{Ending, Extensions, Letter, without_path};
+use std::alloc::Global;
+
+/// How often a row that was sent is tried to be taken out, a second between: ten minutes.
+const TRIES: u32 = 600;
+
+/// Why a run ends early.
+#[derive(Clone, Copy, Debug, PartialEq, Eq)]
+pub enum Stop {
+    /// There is no memory.
+    Memory,
+    /// The store can't be had, or can't be read.
+    Store,
+    /// The server can't be had.
+    Unreachable,
+    /// What became of a row can't be told.
+    Output,
+    /// A row was sent, and can't be taken out: it goes once more.
+    Kept,
+}
+
+/// Hands a row's letter to the server. Behind the 250 to its text the row is taken out; where the store refuses that it is tried again for
+/// ten minutes.
+///
+/// Time is linear in the message's octets.
+pub fn send_row<Q: Queue, S: Server, J: Journal>(
+    alloc: Global,
+    queue: &mut Q,
+    server: &mut S,
+    journal: &mut J,
+    offered: Extensions,
+    may_eight_bit: bool,
+    row: &Row,
+) -> Result<Ending, Stop>
+    ensures { (before : s.State) → Q.shows queue.old before.rows → S.said server.old before.talk → (after : s.State)
+        × Q.shows queue.new after.rows × S.said server.new after.talk × s.EndsRow offered may_eight_bit row.now before after result }
+{
+    let letter = letter_of(row);
+    let Ok(ending) = send_letter(alloc, server, offered, may_eight_bit, letter) else {
+        return Err(Stop::Memory);
+    };
+    match ending {
+        Ending::Sent => match take_out(queue, journal, row) {
+            Ok(()) => Ok(ending),
+            Err(_) => Err(Stop::Kept),
+        },
+        _ => Ok(ending),
+    }
+}
+
+// The row's letter.
+pub(crate) fn letter_of(row: &Row) -> Letter<'_>
+    ensures { s.IsLetterOf row.now (mail_of result) }
+{
+    Letter {
+        sender: row.sender.as_slice(),
+        target: row.target.as_slice(),
+        text: without_path(row.message.as_slice()),
+    }
+}
+
+// Takes the row out, at one of some tries.
+fn take_out<Q: Queue, J: Journal>(
+    queue: &mut Q,
+    journal: &mut J,
+    row: &Row,
+) -> Result<(), Unavailable>
+    ensures taken { OnOk result ((rows : Rows) → Q.shows queue.old rows → (after : Rows) × TakesOut row.now.user row.now.id rows after × Q.shows queue.new after) }
+    ensures kept { OnErr result ((rows : Rows) → Q.shows queue.old rows → Q.shows queue.new rows) }
+{
+    for _ in 0..TRIES {
+        if queue.take_out(row.user.as_slice(), row.id).is_ok() {
+            return Ok(());
+        }
+        journal.pause();
+    }
+    queue.take_out(row.user.as_slice(), row.id)
+}

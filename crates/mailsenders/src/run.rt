@@ -1,0 +1,229 @@
+//! A run over all rows.
+ghost use Rattle.std.specs.Prelude.{◌≡◌, is_ok, true, IfOk, IfSome};
+ghost use Rattle.mailsenders.specs.Talks.{Talk};
+ghost use Rattle.mailsenders.specs.Rows.{Rows, IsThere};
+ghost use Rattle.mailsenders.specs.Deeds as s;
+
+use crate::journal::Journal;
+use crate::queue::{Queue, Row, Unavailable};
+use crate::row::{Stop, letter_of, send_row};
+use crate::server::Server;
+use octets::Octets;
+use smtpclient::{Ending, Extensions};
+use std::alloc::Global;
+
+/// What became of the rows of a run.
+#[derive(Clone, Copy, Debug, PartialEq, Eq)]
+pub struct Tally {
+    /// How many were sent.
+    pub sent: u64,
+    /// How many others were tried.
+    pub waiting: u64,
+}
+
+impl Tally {
+    // How many were tried.
+    fn count(self) -> u64 {
+        self.sent.saturating_add(self.waiting)
+    }
+
+    // With one row more, where one was tried.
+    fn with(self, ended: Option<Ending>) -> Tally {
+        match ended {
+            None => self,
+            Some(Ending::Sent) => Tally {
+                sent: self.sent.saturating_add(1),
+                waiting: self.waiting,
+            },
+            Some(_) => Tally {
+                sent: self.sent,
+                waiting: self.waiting.saturating_add(1),
+            },
+        }
+    }
+}
+
+/// What is known of the connection: what the server offers, or that there is none.
+#[derive(Clone, Copy)]
+struct Link {
+    offered: Option<Extensions>,
+    /// Whether a row may go without 8BITMIME.
+    may_eight_bit: bool,
+}
+
+/// Hands the rows of all queues that are due to a server, in the order of the octets of the users and of the numbers, at most so many of
+/// them. It connects once there is one, and again where the connection was lost.
+///
+/// Time is linear in the rows and in their messages' octets; one row is in memory.
+///
+/// # Errors
+///
+/// What was sent until then has left the queues, but for `Kept`: the last row that was sent has not.
+pub fn send_queue<Q: Queue, S: Server, J: Journal>(
+    alloc: Global,
+    queue: &mut Q,
+    server: &mut S,
+    journal: &mut J,
+    may_eight_bit: bool,
+    most: u64,
+) -> Result<Tally, Stop>
+    ensures { (before : s.State) → Q.shows queue.old before.rows → S.said server.old before.talk
+        → s.Reaches may_eight_bit (Q.shows queue.new) (S.said server.new) before (is_ok result) }
+{
+    let mut link = Link {
+        offered: None,
+        may_eight_bit,
+    };
+    let mut user = Octets::new(alloc);
+    let mut id = 0;
+    let mut tally = Tally {
+        sent: 0,
+        waiting: 0,
+    };
+    for _ in 0..u64::MAX {
+        if tally.count() >= most {
+            break;
+        }
+        let Some(row) = read_next(queue, &user, id)? else {
+            break;
+        };
+        match try_row(alloc, queue, server, journal, &mut link, &row) {
+            Ok(ended) => tally = tally.with(ended),
+            Err(stop) => return Err(stop),
+        }
+        id = row.id;
+        user = row.user;
+    }
+    server.close();
+    Ok(tally)
+}
+
+// The first row behind a place.
+fn read_next<Q: Queue>(queue: &mut Q, user: &Octets, id: u64) -> Result<Option<Row>, Stop>
+    ensures there { IfOk result (λ found. IfSome found (λ row. (rows : Rows) → Q.shows queue.new rows → IsThere row rows)) }
+    ensures same { (rows : Rows) → Q.shows queue.old rows → Q.shows queue.new rows }
+{
+    match queue.next(user.as_slice(), id) {
+        Ok(found) => Ok(found),
+        Err(Unavailable::Memory) => Err(Stop::Memory),
+        Err(Unavailable::Store) => Err(Stop::Store),
+    }
+}
+
+// One row: where it is due it is handed over. Answers how that ended.
+fn try_row<Q: Queue, S: Server, J: Journal>(
+    alloc: Global,
+    queue: &mut Q,
+    server: &mut S,
+    journal: &mut J,
+    link: &mut Link,
+    row: &Row,
+) -> Result<Option<Ending>, Stop>
+    ensures may { link.new.may_eight_bit ≡ link.old.may_eight_bit }
+    ensures reaches { (before : s.State) → Q.shows queue.old before.rows → S.said server.old before.talk → IsThere row.now before.rows
+        → s.Reaches link.old.may_eight_bit (Q.shows queue.new) (S.said server.new) before (is_ok result) }
+{
+    if !journal.is_due(row.user.as_slice(), row.id) {
+        return Ok(None);
+    }
+    match visit(alloc, queue, server, journal, link, row) {
+        Ok(ending) => Ok(Some(ending)),
+        Err(stop) => Err(stop),
+    }
+}
+
+// One row that is due: it is handed over, and what became of it is noted.
+fn visit<Q: Queue, S: Server, J: Journal>(
+    alloc: Global,
+    queue: &mut Q,
+    server: &mut S,
+    journal: &mut J,
+    link: &mut Link,
+    row: &Row,
+) -> Result<Ending, Stop>
+    ensures may { link.new.may_eight_bit ≡ link.old.may_eight_bit }
+    ensures reaches { (before : s.State) → Q.shows queue.old before.rows → S.said server.old before.talk → IsThere row.now before.rows
+        → s.Reaches link.old.may_eight_bit (Q.shows queue.new) (S.said server.new) before (is_ok result) }
+{
+    let handed = hand_over(alloc, queue, server, journal, link, row);
+    noted(journal, row, handed)
+}
+
+// The row is handed to the server, over the connection that there is or a new one.
+fn hand_over<Q: Queue, S: Server, J: Journal>(
+    alloc: Global,
+    queue: &mut Q,
+    server: &mut S,
+    journal: &mut J,
+    link: &mut Link,
+    row: &Row,
+) -> Result<Ending, Stop>
+    ensures may { link.new.may_eight_bit ≡ link.old.may_eight_bit }
+    ensures reaches { (before : s.State) → Q.shows queue.old before.rows → S.said server.old before.talk → IsThere row.now before.rows
+        → s.Reaches link.old.may_eight_bit (Q.shows queue.new) (S.said server.new) before (is_ok result) }
+{
+    let Some(offered) = offered_for(server, link, row) else {
+        return Err(Stop::Unreachable);
+    };
+    let may_eight_bit = link.may_eight_bit;
+    match send_row(alloc, queue, server, journal, offered, may_eight_bit, row) {
+        Ok(ending) => {
+            settle(server, link, ending);
+            Ok(ending)
+        }
+        Err(stop) => Err(stop),
+    }
+}
+
+// What became of the row is noted: where the server can't be had it waits.
+fn noted<J: Journal>(
+    journal: &mut J,
+    row: &Row,
+    handed: Result<Ending, Stop>,
+) -> Result<Ending, Stop>
+    ensures { is_ok result ≡ true → is_ok handed ≡ true }
+{
+    let ending = match handed {
+        Ok(ending) => ending,
+        Err(Stop::Unreachable) => Ending::Lost,
+        Err(stop) => return Err(stop),
+    };
+    match journal.note(row.user.as_slice(), row.id, ending) {
+        Ok(()) => handed,
+        Err(_) => Err(Stop::Output),
+    }
+}
+
+// What the server offers, over the connection that there is or a new one; none where it can't be had. A row that is never sent needs none.
+fn offered_for<S: Server>(server: &mut S, link: &mut Link, row: &Row) -> Option<Extensions>
+    ensures may { link.new.may_eight_bit ≡ link.old.may_eight_bit }
+    ensures kept { (t : Talk) → S.said server.old t → S.said server.new t }
+{
+    if let Some(offered) = link.offered {
+        return Some(offered);
+    }
+    if !letter_of(row).is_addressed() {
+        return Some(Extensions::none());
+    }
+    let Ok(offered) = server.open() else {
+        return None;
+    };
+    link.offered = Some(offered);
+    Some(offered)
+}
+
+// The connection behind a letter: a letter that was refused is forgotten by RSET, and a connection that was lost is ended.
+fn settle<S: Server>(server: &mut S, link: &mut Link, ending: Ending)
+    ensures may { link.new.may_eight_bit ≡ link.old.may_eight_bit }
+    ensures kept { (t : Talk) → S.said server.old t → S.said server.new t }
+{
+    let goes_on = match ending {
+        Ending::Sent | Ending::Undeclared | Ending::Unaddressed => true,
+        Ending::Refused(_) | Ending::Delayed(_) => server.reset().is_ok(),
+        Ending::OutOfPlace(_) | Ending::Lost => false,
+    };
+    if !goes_on {
+        server.close();
+        link.offered = None;
+    }
+}

@@ -1,0 +1,52 @@
+//! What a connection with a server promises.
+ghost use Rattle.std.specs.Prelude.{OnOk, OnErr, IfOk};
+ghost use Rattle.mailsenders.specs.Talks.{Talk};
+
+use smtpclient::{Extensions, Stage};
+
+/// The connection is lost, or can't be had.
+#[derive(Clone, Copy, Debug, PartialEq, Eq)]
+pub struct Lost;
+
+/// A connection with a server. What is written and answered is counted from behind the reply to EHLO on, and without RSET and QUIT: it is
+/// what was written for letters, and the replies to that.
+pub trait Server {
+    ghost use Rattle.mailsenders.specs.Talks.{WritesFront, wrote, heard};
+
+    /// Whether this is what was written and answered so far. A connection over a socket doesn't tell, and says it of nothing.
+    ghost said: { Self → Talk → Type 0 };
+
+    /// Connects, hears the greeting, and says EHLO. Answers what the server offers.
+    fn open(&mut self) -> Result<Extensions, Lost>
+        ensures kept { (t : Talk) → said self.old t → said self.new t };
+
+    /// Writes octets of a letter.
+    ///
+    /// # Errors
+    ///
+    /// The connection is lost, and a front of them was written.
+    fn write(&mut self, octets: &[u8]) -> Result<(), Lost>
+        ensures ok { OnOk result ((t : Talk) → said self.old t → said self.new (wrote t octets.now)) }
+        ensures err { OnErr result ((t : Talk) → said self.old t → (u : Talk) × said self.new u × WritesFront octets.now t u) };
+
+    /// Waits for the reply to what was written at this stage. Answers its code.
+    ///
+    /// # Errors
+    ///
+    /// The connection is lost, or what came is no reply.
+    fn hear(&mut self, stage: Stage) -> Result<u16, Lost>
+        ensures ok { IfOk result (λ code. (t : Talk) → said self.old t → said self.new (heard t code)) }
+        ensures err { OnErr result ((t : Talk) → said self.old t → said self.new t) };
+
+    /// Says RSET, so that the next letter begins anew.
+    ///
+    /// # Errors
+    ///
+    /// The connection is lost, or the server says no.
+    fn reset(&mut self) -> Result<(), Lost>
+        ensures kept { (t : Talk) → said self.old t → said self.new t };
+
+    /// Says QUIT where the connection stands, and ends it.
+    fn close(&mut self)
+        ensures kept { (t : Talk) → said self.old t → said self.new t };
+}
