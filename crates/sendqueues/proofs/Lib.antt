@@ -1,3 +1,5 @@
 mod DeedLemmas
+mod QueueLemmas
 mod StoreLemmas
 mod TableLemmas
+mod TextLemmas

@@ -44,7 +44,7 @@ turned_wider Became Wider old new wider moves = record {
 }
 
 -- what is left is offered to who comes next
-offered_then : (old mid : Database) (accounts between : Accounts) → Offers old accounts → LeavesTables old mid accounts between → Offers mid between
+pub offered_then : (old mid : Database) (accounts between : Accounts) → Offers old accounts → LeavesTables old mid accounts between → Offers mid between
 offered_then old mid accounts between p (inl shown) = inl (shown.0, inl shown.1, shown.2)
 offered_then old mid accounts between p (inr same) = subst (λ db. Offers db between) (sym same.0) (subst (Offers old) (sym same.1) p)
 

@@ -3,4 +3,6 @@ pub mod Deeds
 pub mod Holdings
 pub mod Lines
 pub mod Posts
+pub mod Queues
+pub mod Texts
 pub mod Waits

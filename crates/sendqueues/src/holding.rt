@@ -55,7 +55,7 @@ pub(crate) fn next_post<K: Keeper>(
 /// # Errors
 ///
 /// The row is there still.
-fn take_once<K: Keeper>(
+pub(crate) fn take_once<K: Keeper>(
     alloc: Global,
     search: Search<'_>,
     place: &Queued,

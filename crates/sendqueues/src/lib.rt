@@ -6,7 +6,9 @@ pub mod clock;
 pub mod courier;
 pub mod holding;
 pub mod post;
+pub mod queue;
 pub mod run;
+pub mod text;
 pub mod wait;
 
 pub use book::Book;
@@ -14,5 +16,7 @@ pub use clock::Clock;
 pub use courier::Courier;
 pub use holding::Search;
 pub use post::Post;
+pub use queue::StoreQueue;
 pub use run::{Stop, Teller, send_rows};
+pub use text::{read_waits, write_waits};
 pub use wait::{Wait, is_due, note};
