@@ -1,4 +1,3 @@
-mod DeedLemmas
 mod QueueLemmas
 mod StoreLemmas
 mod TableLemmas

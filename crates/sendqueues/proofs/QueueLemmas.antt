@@ -115,10 +115,10 @@ found_in waits now place accounts (Some post) next = next.row
 
 module _ (tells : Bool) (held : Database) (ahead : Option Ahead) where
   -- a row that was found ahead
-  pub ahead_there : (rows : Rows) → ShowsRows tells held ahead rows → (found : Option Post) → ((accounts : Accounts) → IsAhead accounts ahead → IsFoundIn accounts found) → (told : Option Row) → IsToldOf found told
-      → IfSome told (λ row. IsThere row rows)
-  ahead_there rows shows found was None is = tt
-  ahead_there rows shows found was (Some row) is = shows.are row.user row.id ∙ is shows.accounts (was shows.accounts shows.found)
+  pub ahead_there : (found : Option Post) → ((accounts : Accounts) → IsAhead accounts ahead → IsFoundIn accounts found) → (told : Option Row) → IsToldOf found told
+      → IfSome told (λ row. (rows : Rows) → ShowsRows tells held ahead rows → IsThere row rows)
+  ahead_there found was None say = tt
+  ahead_there found was (Some row) say = λ rows shows. shows.are row.user row.id ∙ say shows.accounts (was shows.accounts shows.found)
 
   -- the tables are the same, and nothing is ahead
   pub shows_plain : (new : Database) → new ≡ held → (none : Option Ahead) → none ≡ None → (rows : Rows) → ShowsRows tells held ahead rows → ShowsRows tells new none rows
@@ -133,9 +133,9 @@ module _ (tells : Bool) (held : Database) (ahead : Option Ahead) where
   module _ (waits : List Wait) (now : ℕ) (place : Queued) (new : Database) where
     -- a row was looked for
     module _ (r : Result (Option Post) Unavailable) (finds : IsTrue tells → TurnsTables (Finds waits now place r) held new) where
-      pub found_there : (found : Option Post) → r ≡ Ok found → (told : Option Row) → IsToldOf found told → (rows : Rows) → ShowsRows tells held ahead rows → IfSome told (λ row. IsThere row rows)
-      found_there found is None say rows shows = tt
-      found_there found is (Some row) say rows shows =
+      pub found_there : (found : Option Post) → r ≡ Ok found → (told : Option Row) → IsToldOf found told → IfSome told (λ row. (rows : Rows) → ShowsRows tells held ahead rows → IsThere row rows)
+      found_there found is None say = tt
+      found_there found is (Some row) say = λ rows shows.
           let turned = (finds shows.told).accounts shows.accounts shows.offers in
           let there : IsFound waits now place shows.accounts found = subst (λ o. IfOk o (IsFound waits now place shows.accounts)) is turned.1.1 in
           shows.are row.user row.id ∙ say shows.accounts (found_in waits now place shows.accounts found there)

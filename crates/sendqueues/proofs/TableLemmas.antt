@@ -48,21 +48,6 @@ pub offered_then : (old mid : Database) (accounts between : Accounts) → Offers
 offered_then old mid accounts between p (inl shown) = inl (shown.0, inl shown.1, shown.2)
 offered_then old mid accounts between p (inr same) = subst (λ db. Offers db between) (sym same.0) (subst (Offers old) (sym same.1) p)
 
-leaves_then : (old mid new : Database) (accounts between later : Accounts) → LeavesTables old mid accounts between → LeavesTables mid new between later → LeavesTables old new accounts later
-leaves_then old mid new accounts between later one (inl shown) = inl shown
-leaves_then old mid new accounts between later (inl shown) (inr same) = inl (subst (λ db. Presents db later) (sym same.0) (subst (Presents mid) (sym same.1) shown))
-leaves_then old mid new accounts between later (inr before) (inr same) = inr (same.0 ∙ before.0, same.1 ∙ before.1)
-
-pub turned_then : (A B C : Accounts → Accounts → Type 0) (old mid new : Database) → ((accounts between later : Accounts) → A accounts between → B between later → C accounts later) → TurnsTables A old mid → TurnsTables B mid new
-    → TurnsTables C old new
-turned_then A B C old mid new both one two = record {
-  accounts = λ accounts p.
-      let m = one.accounts accounts p in
-      let l = two.accounts m.0 (offered_then old mid accounts m.0 p m.2) in
-      (l.0, both accounts m.0 l.0 m.1 l.1, leaves_then old mid new accounts m.0 l.0 m.2 l.2);
-  none = λ blank. two.none (one.none blank);
-}
-
 -- ---- a store that saw what `open` makes of what was held, and was handed back, open and over a disk that keeps what is written
 module _ (held new : Database) (taken given : State) (opened : OpensAs held taken.now) (ours : IsKnown held) (clean : HasCleanDisk given) (live : IsTrue given.is_open) (back : new ≡ given.now) where
   pub carried_turned : (Became : Accounts → Accounts → Type 0) → Carries Became taken given → TurnsTables Became held new
@@ -104,21 +89,3 @@ module _ (waits : List Wait) (now : ℕ) (place : Queued) (held new : Database) 
 
   pub taken_denied : (r : Result (Result (Option Post) Refusal) Unavailable) → r ≡ Err denial → TurnsTables (TakesOut waits now place r) held new
   taken_denied r is = stays_turned (TakesOut waits now place r) held new same (λ accounts. subst (λ o. TakesOut waits now place o accounts accounts) (sym is) refl)
-
--- ---- tries in turn
-
-abbrev pub Same : Accounts → Accounts → Type 0
-Same accounts later = later ≡ accounts
-
-pub same_begin : (held : Database) → TurnsTables Same held held
-same_begin held = stays_turned Same held held refl (λ accounts. refl)
-
-module _ (waits : List Wait) (now : ℕ) (place : Queued) (old mid new : Database) (before : TurnsTables Same old mid) (r : Result (Result (Option Post) Refusal) Unavailable) (last : TurnsTables (TakesOut waits now place r) mid new) where
-  pub tried_ok : (found : Result (Option Post) Refusal) → r ≡ Ok found → TurnsTables (TakesOut waits now place (Ok found)) old new
-  tried_ok found is =
-      turned_then Same (TakesOut waits now place r) (TakesOut waits now place (Ok found)) old mid new
-      (λ accounts between later one two. subst (λ all. TakesOut waits now place (Ok found) all later) one (subst (λ o. TakesOut waits now place o between later) is two)) before last
-
-  pub tried_err : (denial : Unavailable) → r ≡ Err denial → TurnsTables Same old new
-  tried_err denial is =
-      turned_then Same (TakesOut waits now place r) Same old mid new (λ accounts between later one two. subst (λ o. TakesOut waits now place o between later) is two ∙ one) before last

@@ -1,21 +1,18 @@
 -- Rows that wait, as a text: what was written is read back.
 use Prim.Native.Nat.{zero}
-use Rattle.std.proofs.Common.{◌≡◌, ◌≢◌, ◌==◌, ◌+◌, ◌-◌, ◌*◌, ◌<◌, ◌≤◌, ◌^◌, ◌&&◌, ℕ, suc, not, Bool, true, false, List, [], ◌∷◌, ◌++◌, length, fold, decimal, Option, Some, None, MatchOption, refl, sym, ◌∙◌, ap, subst, arith, append_assoc, eqb-true}
+use Rattle.std.proofs.Common.{◌≡◌, ◌≢◌, ◌==◌, ◌+◌, ◌-◌, ◌*◌, ◌<◌, ◌≤◌, ◌^◌, ◌&&◌, ℕ, suc, not, Bool, true, false, List, [], ◌∷◌, ◌++◌, length, fold, decimal, Option, Some, None, MatchOption, refl, sym, ◌∙◌, ap, subst, arith, append_assoc, leb}
 use Rattle.std.specs.List.{AllPass, flat_map, list_all}
 use Rattle.std.proofs.lemmas.List.{append-nil}
 use Rattle.std.proofs.lemmas.List.Folds.{list_all-append}
-use Rattle.std.proofs.lemmas.Fmt.{decimal_is_IsNumeral}
-use Rattle.std.proofs.lemmas.Str.{digit_value_digit}
-use Rattle.std.proofs.lemmas.Str.Parse.{digit_from_value}
-use Rattle.core.specs.Char.{digit_value}
-use Rattle.core.specs.Str.Parse.{AllDigits, digits_value_after}
+use Rattle.std.proofs.lemmas.Bool.{and_parts, leb-true, le-leb, ne_eqb}
+use Rattle.std.proofs.lemmas.Fmt.{decimal_nonempty, digits_decimal, digits_value-decimal}
+use Rattle.std.proofs.lemmas.Str.Parse.{IsDigitsTest, FoldsDigits, IsNumeralModel, numerals_by_fold}
 use Rattle.octets.specs.Ascii.{is_digit}
 use Rattle.octets.specs.Decimal.{with_digit, number_of, Writes}
 use Rattle.smtpclient.specs.Mailboxes.{CutsAt, HasNone}
 use Rattle.smtpclient.proofs.MailboxLemmas.{one_cut}
-use Rattle.sendqueues.specs.Texts.{wait_body, wait_line, text_of, IsWritable, AreWritable, IsNumber, IsPartsOf, ArePartsOf}
+use Rattle.sendqueues.specs.Texts.{wait_body, wait_line, text_of, IsWritable, AreWritable, IsNumber}
 use Rattle.sendqueues.specs.declared.text.Number.{Number}
-use Rattle.sendqueues.specs.declared.text.Parts.{Parts}
 use Rattle.sendqueues.specs.declared.wait.Wait.{Wait}
 
 abbrev other : ℕ → ℕ → Bool
@@ -27,45 +24,55 @@ both_true false b one two = one
 
 -- ---- digits
 
-digit_passes : (c : ℕ) → 48 ≤ c → c ≤ 57 → is_digit c ≡ true
-digit_passes c low high = grind arith
+digit_range : (c : ℕ) → is_digit c ≡ true → (48 ≤ c) × (c ≤ 57)
+digit_range c is = let parts = and_parts (leb 48 c) (leb c 57) is in (leb-true 48 c parts.0, leb-true c 57 parts.1)
 
-digits_pass : (ds : List ℕ) → AllDigits 10 ds → AllPass is_digit ds
-digits_pass [] all k d within = absurd (omega (arith, within))
-digits_pass (c ∷ cs) all zero d within = let range = digit_from_value c all.0 in digit_passes c range.0 range.1
-digits_pass (c ∷ cs) all (suc k) d within = digits_pass cs all.1 k d (omega (arith, within))
+apart : (c mark : ℕ) → mark < c → other mark c ≡ true
+apart c mark less = ap not (ne_eqb c mark (λ same. absurd (omega (arith, less, same))))
 
-folded : (n : ℕ) (ds : List ℕ) → AllDigits 10 ds → fold with_digit n ds ≡ digits_value_after 10 n ds
-folded n [] all = refl
-folded n (c ∷ cs) all =
-    let range = digit_from_value c all.0 in
-    let same : n * 10 + (c - 48) ≡ n * 10 + digit_value c = omega (arith, digit_value_digit c range) in
-    ap (λ m. fold with_digit m cs) same ∙ folded (n * 10 + digit_value c) cs all.1
+-- digits alone, none of them an LF or a space
+record AreDigits (ds : List ℕ) : Type 0 where
+  pass : AllPass is_digit ds
+  feed : list_all (other 10) ds ≡ true
+  space : list_all (other 32) ds ≡ true
+
+pass_more : (c : ℕ) (cs : List ℕ) → (48 ≤ c) × (c ≤ 57) → AllPass is_digit cs → AllPass is_digit (c ∷ cs)
+pass_more c cs range rest zero d within = both_true (leb 48 c) (leb c 57) (le-leb 48 c range.0) (le-leb c 57 range.1)
+pass_more c cs range rest (suc k) d within = rest k d (omega (arith, within))
+
+no_digits : AllPass is_digit []
+no_digits k d within = absurd (omega (arith, within))
+
+digits_test : IsDigitsTest AreDigits
+digits_test = record {
+  empty = record { pass = no_digits; feed = refl; space = refl };
+  parts = λ c cs p. (digit_range c (p.pass 0 0 (omega arith)), record {
+    pass = λ k d within. p.pass (suc k) d (omega (arith, within));
+    feed = (and_parts (other 10 c) (list_all (other 10) cs) p.feed).1;
+    space = (and_parts (other 32 c) (list_all (other 32) cs) p.space).1;
+  });
+  more = λ c cs range p. record {
+    pass = pass_more c cs range p.pass;
+    feed = both_true (other 10 c) (list_all (other 10) cs) (apart c 10 (omega (arith, range.0))) p.feed;
+    space = both_true (other 32 c) (list_all (other 32) cs) (apart c 32 (omega (arith, range.0))) p.space;
+  };
+}
+
+folds : FoldsDigits (λ n ds. fold with_digit n ds)
+folds = record { empty = λ n. refl; more = λ n c cs range. refl }
+
+model : IsNumeralModel AreDigits (λ ds. fold with_digit 0 ds)
+model = numerals_by_fold AreDigits digits_test (λ n ds. fold with_digit n ds) folds
 
 some_there : (ds : List ℕ) → 0 < length ds → ds ≢ []
 some_there [] some is = omega (arith, some)
 some_there (d ∷ ds) some is = let never = is in cc
 
+digits_of : (n : ℕ) → n < 2 ^ 64 → AreDigits (decimal n)
+digits_of n small = digits_decimal model n small
+
 pub decimal_writes : (n : ℕ) → n < 2 ^ 64 → Writes (decimal n) n
-decimal_writes n small =
-    let told = decimal_is_IsNumeral n small in
-    record { present = some_there (decimal n) told.0.0; digits = digits_pass (decimal n) told.0.1; value = folded 0 (decimal n) told.0.1 ∙ told.1 }
-
-apart : (c mark : ℕ) → mark < c → (c == mark) ≡ false
-apart c mark less = go (c == mark) refl
-  where
-    go : (b : Bool) → (c == mark) ≡ b → b ≡ false
-    go true is = absurd (let same = eqb-true c mark is in omega (arith, less, same))
-    go false is = refl
-
-lacks : (mark : ℕ) → mark < 48 → (ds : List ℕ) → AllDigits 10 ds → list_all (other mark) ds ≡ true
-lacks mark small [] all = refl
-lacks mark small (c ∷ cs) all =
-    let range = digit_from_value c all.0 in
-    both_true (other mark c) (list_all (other mark) cs) (ap not (apart c mark (omega (arith, small, range.0)))) (lacks mark small cs all.1)
-
-decimal_lacks : (mark n : ℕ) → mark < 48 → n < 2 ^ 64 → list_all (other mark) (decimal n) ≡ true
-decimal_lacks mark n low small = lacks mark low (decimal n) (decimal_is_IsNumeral n small).0.1
+decimal_writes n small = record { present = some_there (decimal n) (decimal_nonempty n small); digits = (digits_of n small).pass; value = digits_value-decimal model n small }
 
 -- the number that digits write is read
 read_number : (front : List ℕ) (r : Option ℕ) → MatchOption r ((n : ℕ) → n < 2 ^ 64 → Writes front n → ⊥) (λ n. Writes front n) → (n : ℕ) → n < 2 ^ 64 → front ≡ decimal n → r ≡ Some n
@@ -76,7 +83,7 @@ read_number front (Some m) writes n small is =
 
 module _ (text front rest : List ℕ) (cut : CutsAt 32 text front rest) (n : ℕ) (after : List ℕ) (small : n < 2 ^ 64) (is : text ≡ decimal n ++ 32 ∷ after) where
   as_cut : (front ≡ decimal n) × (rest ≡ after)
-  as_cut = one_cut 32 front (decimal n) rest after (sym cut.written ∙ is) cut.first (decimal_lacks 32 n (omega arith) small)
+  as_cut = one_cut 32 front (decimal n) rest after (sym cut.written ∙ is) cut.first (digits_of n small).space
 
   module _ (r : Option ℕ) (read : MatchOption r ((m : ℕ) → m < 2 ^ 64 → Writes front m → ⊥) (λ m. Writes front m)) where
     pub number_read : (number : Number) → r ≡ Some number.value → number.rest.now ≡ rest → IsNumber n after (Some number)
@@ -94,8 +101,8 @@ number_uncut text none n after is = none (decimal n) after is
 
 body_lacks : (wait : Wait) → IsWritable wait → list_all (other 10) (wait_body wait) ≡ true
 body_lacks wait own =
-    joined (decimal wait.due) (decimal wait.tries ++ 32 ∷ (decimal wait.id ++ 32 ∷ wait.user)) (decimal_lacks 10 wait.due (omega arith) own.due)
-    (joined (decimal wait.tries) (decimal wait.id ++ 32 ∷ wait.user) (decimal_lacks 10 wait.tries (omega arith) own.tries) (joined (decimal wait.id) wait.user (decimal_lacks 10 wait.id (omega arith) own.id) own.user))
+    joined (decimal wait.due) (decimal wait.tries ++ 32 ∷ (decimal wait.id ++ 32 ∷ wait.user)) (digits_of wait.due own.due).feed
+    (joined (decimal wait.tries) (decimal wait.id ++ 32 ∷ wait.user) (digits_of wait.tries own.tries).feed (joined (decimal wait.id) wait.user (digits_of wait.id own.id).feed own.user))
   where
     joined : (front rest : List ℕ) → list_all (other 10) front ≡ true → list_all (other 10) rest ≡ true → list_all (other 10) (front ++ 32 ∷ rest) ≡ true
     joined front rest one two = list_all-append (other 10) front (32 ∷ rest) ∙ both_true (list_all (other 10) front) (list_all (other 10) (32 ∷ rest)) one two

@@ -1,5 +1,3 @@
-pub mod Couriers
-pub mod Deeds
 pub mod Holdings
 pub mod Lines
 pub mod Posts

@@ -24,6 +24,7 @@ row_line place ending = ((codes "waits " ++ place_text place) ++ cause_text endi
 -- it is told as an error, too
 abbrev pub is_for_good : Ending → Bool
 is_for_good (Refused code) = true
+is_for_good Undeclared = true
 is_for_good Unaddressed = true
 is_for_good ending = false
 

@@ -38,14 +38,14 @@ tries_of waits place = tries_in (wait_of waits place)
 abbrev pub pause_after : ℕ → ℕ
 pause_after tries = if nat_lt tries 6 then 60 * 2 ^ tries else 3600
 
--- a row that was sent doesn't wait; one that is refused for good, or is no letter, waits a day
+-- a row that was sent doesn't wait; one that is refused for good, that needs what the server doesn't offer, or that is no letter waits a day
 abbrev pub seconds_after : Ending → ℕ → Option ℕ
 seconds_after Sent tries = None
 seconds_after (Refused code) tries = Some 86400
 seconds_after (Delayed code) tries = Some (pause_after tries)
 seconds_after (OutOfPlace code) tries = Some (pause_after tries)
 seconds_after Lost tries = Some (pause_after tries)
-seconds_after Undeclared tries = Some (pause_after tries)
+seconds_after Undeclared tries = Some 86400
 seconds_after Unaddressed tries = Some 86400
 
 abbrev pub largest : ℕ

@@ -2,67 +2,97 @@
 ghost use Rattle.std.specs.Prelude.{◌≡◌, ◌++◌, decimal, IfOk, OnOk};
 ghost use Rattle.sendqueues.specs.Lines as s;
 
-use crate::run::Teller;
-use crate::wait::{Wait, note};
+use crate::clock::Clock;
+use crate::queue::place_of;
+use crate::wait::{Wait, is_due, note};
+use mailsenders::{Journal, Unwritten};
 use mailstore::Queued;
 use octets::{List, Octets, write_decimal};
 use smtpclient::Ending;
 use std::alloc::{AllocError, Global};
 use std::io::Write;
 
-/// Tells what came of each row on an output, and of those that are refused for good on another, too. Keeps what is known of rows that wait.
-///
-/// Where a line can't be written, or there is no memory for it, the run goes on.
-pub struct Book<'a, W: Write, E: Write> {
+/// A journal: tells what came of each row on an output, and of those that are refused for good on another, too; keeps what is known of rows
+/// that wait.
+pub struct Book<'a, W: Write, E: Write, T: Clock> {
     alloc: Global,
     /// What is known of rows that were tried in vain.
     pub waits: List<Wait>,
-    /// How many rows were sent.
-    pub sent: u64,
     output: &'a mut W,
     errors: &'a mut E,
+    clock: &'a mut T,
 }
 
-impl<'a, W: Write, E: Write> Book<'a, W, E> {
+impl<'a, W: Write, E: Write, T: Clock> Book<'a, W, E, T> {
     /// With what is known of rows that were tried in vain before.
     pub fn new(
         alloc: Global,
         waits: List<Wait>,
         output: &'a mut W,
         errors: &'a mut E,
-    ) -> Book<'a, W, E> {
+        clock: &'a mut T,
+    ) -> Book<'a, W, E, T> {
         Book {
             alloc,
             waits,
-            sent: 0,
             output,
             errors,
+            clock,
         }
     }
 }
 
-impl<W: Write, E: Write> Teller for Book<'_, W, E> {
-    fn tell(&mut self, place: &Queued, ending: Ending, moment: u64) {
-        let _ = note(self.alloc, &mut self.waits, place, ending, moment);
-        if matches!(ending, Ending::Sent) {
-            self.sent = self.sent.saturating_add(1);
-        }
-        if let Ok(line) = row_line(self.alloc, place, ending) {
-            let _ = self.output.write_all(line.as_slice());
-        }
-        if is_for_good(ending)
-            && let Ok(line) = refusal_line(self.alloc, place, ending)
-        {
-            let _ = self.errors.write_all(line.as_slice());
+impl<W: Write, E: Write, T: Clock> Journal for Book<'_, W, E, T> {
+    fn is_due(&mut self, user: &[u8], id: u64) -> bool {
+        let now = self.clock.moment();
+        match place_of(self.alloc, user, id) {
+            Ok(place) => is_due(self.waits.as_slice(), &place, now),
+            Err(_) => false,
         }
     }
+
+    fn note(&mut self, user: &[u8], id: u64, ending: Ending) -> Result<(), Unwritten> {
+        let Ok(place) = place_of(self.alloc, user, id) else {
+            return Err(Unwritten);
+        };
+        // Without memory nothing is known of the row, and it is due at once.
+        let _ = note(
+            self.alloc,
+            &mut self.waits,
+            &place,
+            ending,
+            self.clock.moment(),
+        );
+        if is_for_good(ending) {
+            print(self.errors, refusal_line(self.alloc, &place, ending))?;
+        }
+        print(self.output, row_line(self.alloc, &place, ending))
+    }
+
+    fn pause(&mut self) {
+        self.clock.pause();
+    }
+}
+
+/// Writes a line, and flushes. One for which there was no memory isn't written.
+fn print<W: Write>(output: &mut W, line: Result<Octets, AllocError>) -> Result<(), Unwritten> {
+    let Ok(line) = line else {
+        return Err(Unwritten);
+    };
+    if output.write_all(line.as_slice()).is_err() || output.flush().is_err() {
+        return Err(Unwritten);
+    }
+    Ok(())
 }
 
 /// Whether a row that ended so is told as an error: another try needs somebody who looks after it.
 fn is_for_good(ending: Ending) -> bool
     ensures { result ≡ s.is_for_good ending }
 {
-    matches!(ending, Ending::Refused(_) | Ending::Unaddressed)
+    matches!(
+        ending,
+        Ending::Refused(_) | Ending::Undeclared | Ending::Unaddressed
+    )
 }
 
 /// The line on a row that was tried: `sent USER ID`, or `waits USER ID: CAUSE`. Lack of memory is the only error.

@@ -4,15 +4,11 @@ ghost use Rattle.sqlite.specs.Held.{state};
 ghost use Rattle.keepers.specs.Taken.{IsTaken};
 ghost use Rattle.sendqueues.specs.Holdings.{Finds, TakesOut, TurnsTables};
 
-use crate::clock::Clock;
 use crate::post::{Post, find_post, take_then_find};
 use crate::wait::Wait;
 use keepers::{Keeper, Unavailable};
 use mailstore::{Queued, Refusal, Store};
 use std::alloc::Global;
-
-/// How many seconds a row that the server has is tried to be taken out.
-const PATIENCE: u64 = 600;
 
 /// Which rows are asked for.
 #[derive(Clone, Copy)]
@@ -68,30 +64,4 @@ pub(crate) fn take_once<K: Keeper>(
     let taken = take_then_find(alloc, &mut store, place, search.waits, search.now);
     keeper.hand_back(store);
     Ok(taken?)
-}
-
-/// The same, and where it is refused it is tried again, second by second, for ten minutes.
-pub(crate) fn take_surely<K: Keeper, T: Clock>(
-    alloc: Global,
-    search: Search<'_>,
-    place: &Queued,
-    keeper: &mut K,
-    clock: &mut T,
-) -> Result<Result<Option<Post>, Refusal>, Unavailable>
-    ensures back { K.is_out keeper.old ≡ false → K.is_out keeper.new ≡ false }
-    ensures takes { IsTrue K.tells → TurnsTables (TakesOut search.entry.waits.now search.entry.now place.now result) (K.holds keeper.old) (K.holds keeper.new) }
-{
-    let begun = clock.moment();
-    let mut denial = Unavailable::Busy;
-    for _ in 0..PATIENCE {
-        match take_once(alloc, search, place, keeper) {
-            Ok(found) => return Ok(found),
-            Err(why) => denial = why,
-        }
-        if clock.moment().saturating_sub(begun) >= PATIENCE {
-            return Err(denial);
-        }
-        clock.pause();
-    }
-    Err(denial)
 }

@@ -8,7 +8,7 @@ use crate::holding::{Search, next_post, take_once};
 use crate::post::Post;
 use keepers::{Keeper, Unavailable};
 use mailsenders::{Queue, Row, Unavailable as Denial};
-use mailstore::{Queued, Refusal};
+use mailstore::{Outgoing, Queued, Refusal};
 use octets::Octets;
 use std::alloc::{AllocError, Global};
 
@@ -60,7 +60,7 @@ impl<'a, K: Keeper> StoreQueue<'a, K> {
 }
 
 /// A place, as the store has it. Lack of memory is the only error.
-fn place_of(alloc: Global, user: &[u8], id: u64) -> Result<Queued, AllocError>
+pub(crate) fn place_of(alloc: Global, user: &[u8], id: u64) -> Result<Queued, AllocError>
     ensures user { IfOk result (λ place. place.user ≡ user.now) }
     ensures id { IfOk result (λ place. place.id ≡ id) }
 {
@@ -89,15 +89,23 @@ fn found_behind(ahead: Option<Ahead>, place: &Queued) -> Option<Option<Post>>
 fn told_of(found: Option<Post>) -> Option<Row>
     ensures { IsToldOf found result }
 {
-    let Some(post) = found else {
+    let Some(Post { place, row }) = found else {
         return None;
     };
+    let Queued { user, id } = place;
+    let Outgoing {
+        id: _,
+        kind: _,
+        sender,
+        target,
+        message,
+    } = row;
     Some(Row {
-        user: post.place.user,
-        id: post.place.id,
-        sender: post.row.sender,
-        target: post.row.target,
-        message: post.row.message,
+        user,
+        id,
+        sender,
+        target,
+        message,
     })
 }
 

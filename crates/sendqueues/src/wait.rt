@@ -89,16 +89,15 @@ pub fn pause_after(tries: u64) -> u64
     }
 }
 
-/// How many seconds a row waits after an ending: none after 250; a day where it is refused for good, or no letter.
+/// How many seconds a row waits after an ending: none after 250; a day where it is refused for good, needs what the server
+/// doesn't offer, or is no letter.
 pub fn seconds_after(ending: Ending, tries: u64) -> Option<u64>
     ensures { result ≡ s.seconds_after ending tries }
 {
     match ending {
         Ending::Sent => None,
-        Ending::Refused(_) | Ending::Unaddressed => Some(DAY),
-        Ending::Delayed(_) | Ending::OutOfPlace(_) | Ending::Lost | Ending::Undeclared => {
-            Some(pause_after(tries))
-        }
+        Ending::Refused(_) | Ending::Undeclared | Ending::Unaddressed => Some(DAY),
+        Ending::Delayed(_) | Ending::OutOfPlace(_) | Ending::Lost => Some(pause_after(tries)),
     }
 }
 
