@@ -1,3 +1,4 @@
+mod Examples
 mod QueueLemmas
 mod StoreLemmas
 mod TableLemmas

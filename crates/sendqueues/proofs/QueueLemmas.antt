@@ -121,8 +121,8 @@ module _ (tells : Bool) (held : Database) (ahead : Option Ahead) where
   ahead_there found was (Some row) say = λ rows shows. shows.are row.user row.id ∙ say shows.accounts (was shows.accounts shows.found)
 
   -- the tables are the same, and nothing is ahead
-  pub shows_plain : (new : Database) → new ≡ held → (none : Option Ahead) → none ≡ None → (rows : Rows) → ShowsRows tells held ahead rows → ShowsRows tells new none rows
-  shows_plain new same none is rows shows = record {
+  pub shows_plain : (new : Database) → new ≡ held → (next : Option Ahead) → next ≡ None → (rows : Rows) → ShowsRows tells held ahead rows → ShowsRows tells new next rows
+  shows_plain new same next is rows shows = record {
     told = shows.told;
     accounts = shows.accounts;
     offers = subst (λ db. Offers db shows.accounts) (sym same) shows.offers;
@@ -140,8 +140,8 @@ module _ (tells : Bool) (held : Database) (ahead : Option Ahead) where
           let there : IsFound waits now place shows.accounts found = subst (λ o. IfOk o (IsFound waits now place shows.accounts)) is turned.1.1 in
           shows.are row.user row.id ∙ say shows.accounts (found_in waits now place shows.accounts found there)
 
-      pub shows_found : (none : Option Ahead) → none ≡ None → (rows : Rows) → ShowsRows tells held ahead rows → ShowsRows tells new none rows
-      shows_found none is rows shows =
+      pub shows_found : (next : Option Ahead) → next ≡ None → (rows : Rows) → ShowsRows tells held ahead rows → ShowsRows tells new next rows
+      shows_found next is rows shows =
           let turned = (finds shows.told).accounts shows.accounts shows.offers in
           record {
             told = shows.told;
@@ -158,8 +158,7 @@ module _ (tells : Bool) (held : Database) (ahead : Option Ahead) where
       shows_taken user id user_is id_is found is next then rows shows =
           let turned = (takes shows.told).accounts shows.accounts shows.offers in
           let took = subst (λ o. holding.TakesOut waits now place o shows.accounts turned.0) is turned.1 in
-          let gone = gone_rows shows.accounts place turned.0 took.0 in
-          (
+          let gone = gone_rows shows.accounts place turned.0 took.0 in (
             rows_in turned.0,
             subst (λ u. TakesOut u id rows (rows_in turned.0)) user_is (subst (λ n. TakesOut place.user n rows (rows_in turned.0)) id_is (record {
               gone = gone.gone;
@@ -178,8 +177,8 @@ module _ (tells : Bool) (held : Database) (ahead : Option Ahead) where
           found_ok (Ok o) all there = found_in waits now place all o there
           found_ok (Err e) all there = tt
 
-      pub shows_kept : (denial : Unavailable) → r ≡ Err denial → (none : Option Ahead) → none ≡ None → (rows : Rows) → ShowsRows tells held ahead rows → ShowsRows tells new none rows
-      shows_kept denial is none none_is rows shows =
+      pub shows_kept : (denial : Unavailable) → r ≡ Err denial → (next : Option Ahead) → next ≡ None → (rows : Rows) → ShowsRows tells held ahead rows → ShowsRows tells new next rows
+      shows_kept denial is next next_is rows shows =
           let turned = (takes shows.told).accounts shows.accounts shows.offers in
           let same : turned.0 ≡ shows.accounts = subst (λ o. holding.TakesOut waits now place o shows.accounts turned.0) is turned.1 in
           record {
@@ -187,5 +186,5 @@ module _ (tells : Bool) (held : Database) (ahead : Option Ahead) where
             accounts = shows.accounts;
             offers = subst (Offers new) same (offered_then held new shows.accounts turned.0 shows.offers turned.2);
             are = shows.are;
-            found = subst (IsAhead shows.accounts) (sym none_is) tt;
+            found = subst (IsAhead shows.accounts) (sym next_is) tt;
           }

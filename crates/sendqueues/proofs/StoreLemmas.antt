@@ -139,7 +139,7 @@ row_queued tables accounts place row shows has =
     let shown : IsShown place.user (rows_of place.user tables) has.0 = subst (IsShownOrAbsent place.user (rows_of place.user tables)) has.1 (shows.users place.user) in
     let there : Has has.0.queue row = found_has place.id has.0.queue row has.2 in
     let own : Has (rows_of place.user tables outgoing_tree) (queue_row place.user row) =
-        permuted_has (map (queue_row place.user) has.0.queue) (rows_of place.user tables outgoing_tree) (queue_row place.user row) shown.queue.rows_are (has_map (queue_row place.user) has.0.queue row there) in
+    permuted_has (map (queue_row place.user) has.0.queue) (rows_of place.user tables outgoing_tree) (queue_row place.user row) shown.queue.rows_are (has_map (queue_row place.user) has.0.queue row there) in
     let all : Has (tables outgoing_tree) (queue_row place.user row) = filtered_has _ (tables outgoing_tree) (queue_row place.user row) own in
     subst (λ n. Has (map first_two (tables outgoing_tree)) (Blob place.user ∷ Int (pos n) ∷ [])) (row_numbered place.id has.0.queue row has.2) (has_map first_two (tables outgoing_tree) (queue_row place.user row) all)
 
@@ -273,11 +273,13 @@ module _ (waits : List Wait) (now : ℕ) (start place : Queued) where
 
     pub steps_on : (next : Queued) → r ≡ Ok (Past next) → Works (StepsTo waits now start next) a c
     steps_on next is = by_steps (StepsTo waits now start next) (λ accounts from step.
-        let past : IsPast waits now place next accounts = subst (λ o. IfOk o (IsStep waits now place accounts)) is step in
-        (refl, inr (record {
-          after = after_then accounts from next past.after;
-          none = none_then accounts (λ other. IsAfter start other × (IsAfter next other → ⊥)) from (λ other here. here.0) (λ other row here has due. past.none other row (here.0, here.1.1) has due);
-        })))
+        let past : IsPast waits now place next accounts = subst (λ o. IfOk o (IsStep waits now place accounts)) is step in (
+          refl,
+          inr (record {
+            after = after_then accounts from next past.after;
+            none = none_then accounts (λ other. IsAfter start other × (IsAfter next other → ⊥)) from (λ other here. here.0) (λ other row here has due. past.none other row (here.0, here.1.1) has due);
+          }),
+        ))
 
     pub steps_end : r ≡ Ok End → Works (Reads (IsFound waits now start) (Ok None)) a c
     steps_end is = by_steps (Reads (IsFound waits now start) (Ok None)) (λ accounts from step.
@@ -290,13 +292,15 @@ module _ (waits : List Wait) (now : ℕ) (start place : Queued) where
     pub steps_due : (post : Post) → r ≡ Ok (Due post) → Works (Reads (IsFound waits now start) (Ok (Some post))) a c
     steps_due post is = by_steps (Reads (IsFound waits now start) (Ok (Some post)))
         (λ accounts from step.
-        let next : IsNext waits now place accounts post = subst (λ o. IfOk o (IsStep waits now place accounts)) is step in
-        (refl, record {
-          after = after_then accounts from post.place next.after;
-          due = next.due;
-          row = next.row;
-          first = none_then accounts (λ other. IsAfter start other × IsAfter other post.place) from (λ other here. here.0) (λ other row here has due. next.first other row (here.0, here.1.1) has due);
-        }))
+        let next : IsNext waits now place accounts post = subst (λ o. IfOk o (IsStep waits now place accounts)) is step in (
+          refl,
+          record {
+            after = after_then accounts from post.place next.after;
+            due = next.due;
+            row = next.row;
+            first = none_then accounts (λ other. IsAfter start other × IsAfter other post.place) from (λ other here. here.0) (λ other row here has due. next.first other row (here.0, here.1.1) has due);
+          },
+        ))
 
 -- there are fewer rows
 pub steps_past : (waits : List Wait) (now : ℕ) (start place : Queued) (e : Refusal) (a b : State) → Works (StepsTo waits now start place) a b → Works (Reads (IsFound waits now start) (Err e)) a b

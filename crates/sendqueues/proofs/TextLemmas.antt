@@ -46,11 +46,14 @@ no_digits k d within = absurd (omega (arith, within))
 digits_test : IsDigitsTest AreDigits
 digits_test = record {
   empty = record { pass = no_digits; feed = refl; space = refl };
-  parts = λ c cs p. (digit_range c (p.pass 0 0 (omega arith)), record {
-    pass = λ k d within. p.pass (suc k) d (omega (arith, within));
-    feed = (and_parts (other 10 c) (list_all (other 10) cs) p.feed).1;
-    space = (and_parts (other 32 c) (list_all (other 32) cs) p.space).1;
-  });
+  parts = λ c cs p. (
+    digit_range c (p.pass 0 0 (omega arith)),
+    record {
+      pass = λ k d within. p.pass (suc k) d (omega (arith, within));
+      feed = (and_parts (other 10 c) (list_all (other 10) cs) p.feed).1;
+      space = (and_parts (other 32 c) (list_all (other 32) cs) p.space).1;
+    },
+  );
   more = λ c cs range p. record {
     pass = pass_more c cs range p.pass;
     feed = both_true (other 10 c) (list_all (other 10) cs) (apart c 10 (omega (arith, range.0))) p.feed;

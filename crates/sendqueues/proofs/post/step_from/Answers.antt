@@ -1,5 +1,5 @@
 -- The next place was found, and the row there read where it is due.
-use Rattle.std.proofs.Common.{◌≡◌, true, Err, Ok, Some, ◌∙◌, ap, sym, rules}
+use Rattle.std.proofs.Common.{◌≡◌, true, Ok, ◌∙◌, ap, sym, rules}
 use Rattle.sqlite.specs.Held.{state}
 use Rattle.sendqueues.specs.Waits.{is_due}
 use Rattle.sendqueues.proofs.StoreLemmas.{none_next, not_next, past_next, step_unread, step_past, step_due}

@@ -1,5 +1,5 @@
 -- Each line is that of the next wait, and none is left at the end.
-use Rattle.std.proofs.Common.{◌≡◌, ◌==◌, List, [], length, false, true, Some, sym, ◌∙◌, ap, subst}
+use Rattle.std.proofs.Common.{◌==◌, length, Some, sym, ◌∙◌, ap, subst}
 use Rattle.std.proofs.lemmas.Bool.{true≢false}
 use Rattle.sendqueues.proofs.TextLemmas.{Left, line_on, line_lost, lines_end}
 use Rattle.sendqueues.proofs.text.lines_of.Goals as goal
