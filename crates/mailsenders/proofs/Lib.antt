@@ -1,2 +1,3 @@
 pub mod DeedLemmas
 pub mod TalkLemmas
+pub mod WireLemmas

@@ -1,3 +1,4 @@
 pub mod Deeds
 pub mod Rows
 pub mod Talks
+pub mod Wires

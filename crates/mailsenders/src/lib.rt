@@ -1,15 +1,19 @@
 //! Sends the rows of a queue by SMTP: each is handed to a server, and leaves the queue once the server has taken it.
 #![tactic(auto)]
 
+pub mod client;
 pub mod dialogue;
 pub mod journal;
+pub mod peer;
 pub mod queue;
 pub mod row;
 pub mod run;
 pub mod server;
 
+pub use client::Client;
 pub use dialogue::send_letter;
 pub use journal::{Journal, Unwritten};
+pub use peer::{Patience, Peer};
 pub use queue::{Queue, Row, Unavailable};
 pub use row::{Stop, send_row};
 pub use run::{Tally, send_queue};

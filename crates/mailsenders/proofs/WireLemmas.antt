@@ -1,0 +1,104 @@
+-- What passes over a connection.
+use Rattle.std.proofs.Common.{◌≡◌, ℕ, List, [], ◌++◌, take, drop, refl, sym, ap, ◌∙◌, subst, append-nil, append_assoc}
+use Rattle.std.proofs.lemmas.List.{take-append-drop}
+use Rattle.smtpclient.specs.Replies.{IsReply}
+use Rattle.mailsenders.specs.Talks.{Talk, wrote, heard, WritesFront}
+use Rattle.mailsenders.specs.Wires.{sent_letter, sent_other, came_reply, came_other, Passes}
+
+-- the same passed
+pub same : (P Q : List ℕ → List ℕ → Type 0) (unread : List ℕ) (t : Talk) → ((sent came : List ℕ) → P sent came → Q sent came) → Passes P unread t → Passes Q unread t
+same P Q unread t keeps passes = record {
+  sent = passes.sent;
+  came = passes.came;
+  passed = keeps passes.sent (passes.came ++ unread) passes.passed;
+  carries = passes.carries;
+  answers = passes.answers;
+}
+
+-- octets were sent
+pub sent_more : (P Q : List ℕ → List ℕ → Type 0) (unread octets : List ℕ) (t : Talk) → ((sent came : List ℕ) → P sent came → Q (sent ++ octets) came) → Passes P unread t → Passes Q unread t
+sent_more P Q unread octets t sends passes = record {
+  sent = passes.sent ++ octets;
+  came = passes.came;
+  passed = sends passes.sent (passes.came ++ unread) passes.passed;
+  carries = sent_other passes.sent t.written octets passes.carries;
+  answers = passes.answers;
+}
+
+-- those of a letter
+pub letter_more : (P Q : List ℕ → List ℕ → Type 0) (unread octets : List ℕ) (t : Talk) → ((sent came : List ℕ) → P sent came → Q (sent ++ octets) came) → Passes P unread t → Passes Q unread (wrote t octets)
+letter_more P Q unread octets t sends passes = record {
+  sent = passes.sent ++ octets;
+  came = passes.came;
+  passed = sends passes.sent (passes.came ++ unread) passes.passed;
+  carries = sent_letter passes.sent t.written octets passes.carries;
+  answers = passes.answers;
+}
+
+-- a front of these
+abbrev SendsFront : (P Q : List ℕ → List ℕ → Type 0) → List ℕ → Type 0
+SendsFront P Q octets = (sent came : List ℕ) → P sent came → (front rest : List ℕ) × (octets ≡ front ++ rest) × Q (sent ++ front) came
+
+pub other_front : (P Q : List ℕ → List ℕ → Type 0) (unread octets : List ℕ) (t : Talk) → SendsFront P Q octets → Passes P unread t → Passes Q unread t
+other_front P Q unread octets t sends passes =
+    let it = sends passes.sent (passes.came ++ unread) passes.passed in
+    record { sent = passes.sent ++ it.0; came = passes.came; passed = it.3; carries = sent_other passes.sent t.written it.0 passes.carries; answers = passes.answers }
+
+pub letter_front : (P Q : List ℕ → List ℕ → Type 0) (unread octets : List ℕ) (t : Talk) → SendsFront P Q octets → Passes P unread t → (u : Talk) × Passes Q unread u × WritesFront octets t u
+letter_front P Q unread octets t sends passes =
+    let it = sends passes.sent (passes.came ++ unread) passes.passed in (
+      wrote t it.0,
+      record { sent = passes.sent ++ it.0; came = passes.came; passed = it.3; carries = sent_letter passes.sent t.written it.0 passes.carries; answers = passes.answers },
+      record { front = it.0; rest = it.1; cut = it.2; written = refl; answered = refl },
+    )
+
+-- octets came
+pub came_more : (P Q : List ℕ → List ℕ → Type 0) (unread now octets : List ℕ) (t : Talk) → ((sent came : List ℕ) → P sent came → Q sent (came ++ octets)) → now ≡ unread ++ octets → Passes P unread t
+    → Passes Q now t
+came_more P Q unread now octets t comes joined passes = record {
+  sent = passes.sent;
+  came = passes.came;
+  passed = subst (Q passes.sent) (append_assoc passes.came unread octets ∙ ap (λ u. passes.came ++ u) (sym joined)) (comes passes.sent (passes.came ++ unread) passes.passed);
+  carries = passes.carries;
+  answers = passes.answers;
+}
+
+-- what isn't read is forgotten
+pub forgets : (P : List ℕ → List ℕ → Type 0) (unread : List ℕ) (t : Talk) → Passes P unread t → Passes P [] t
+forgets P unread t passes = record {
+  sent = passes.sent;
+  came = passes.came ++ unread;
+  passed = subst (P passes.sent) (sym (append-nil (passes.came ++ unread))) passes.passed;
+  carries = passes.carries;
+  answers = came_other passes.came t.answered unread passes.answers;
+}
+
+-- a reply is read
+taken : (P : List ℕ → List ℕ → Type 0) (sent came unread : List ℕ) (count : ℕ) → P sent (came ++ unread) → P sent ((came ++ take count unread) ++ drop count unread)
+taken P sent came unread count passed =
+    subst (P sent) (ap (λ u. came ++ u) (sym (take-append-drop count unread)) ∙ sym (append_assoc came (take count unread) (drop count unread))) passed
+
+pub reads_reply : (P : List ℕ → List ℕ → Type 0) (unread now : List ℕ) (count code : ℕ) (t : Talk) → IsReply unread code (drop count unread) → now ≡ drop count unread → Passes P unread t
+    → Passes P now (heard t code)
+reads_reply P unread now count code t reply same passes =
+    subst (λ n. Passes P n (heard t code)) (sym same)
+    (record {
+      sent = passes.sent;
+      came = passes.came ++ take count unread;
+      passed = taken P passes.sent passes.came unread count passes.passed;
+      carries = passes.carries;
+      answers =
+          came_reply passes.came t.answered (take count unread) (drop count unread) code passes.answers
+          (subst (λ o. IsReply o code (drop count unread)) (sym (take-append-drop count unread)) reply);
+    })
+
+pub reads_other : (P : List ℕ → List ℕ → Type 0) (unread now : List ℕ) (count : ℕ) (t : Talk) → now ≡ drop count unread → Passes P unread t → Passes P now t
+reads_other P unread now count t same passes =
+    subst (λ n. Passes P n t) (sym same)
+    (record {
+      sent = passes.sent;
+      came = passes.came ++ take count unread;
+      passed = taken P passes.sent passes.came unread count passes.passed;
+      carries = passes.carries;
+      answers = came_other passes.came t.answered (take count unread) passes.answers;
+    })

@@ -1,0 +1,238 @@
+//! A client of SMTP over a connection.
+ghost use Rattle.std.specs.Prelude.{◌≡◌, ◌≤◌, [], drop, length, OnErr, IfOk};
+ghost use Rattle.smtpclient.specs.Replies.{IsReply};
+ghost use Rattle.mailsenders.specs.Talks.{Talk};
+ghost use Rattle.mailsenders.specs.Wires as s;
+
+use crate::peer::{Patience, Peer};
+use crate::server::{Lost, Server};
+use octets::{Octets, Pending};
+use smtpclient::{Extensions, Heard, QUIT, RSET, Stage, ehlo_line, first_reply, read_extensions};
+use std::alloc::Global;
+
+/// The most octets of a reply.
+const MAX_REPLY: usize = 65_536;
+
+/// A client of SMTP (RFC 5321) over a connection.
+#[derive(Drop)]
+pub struct Client<P: Peer + Drop> {
+    pub(crate) peer: P,
+    /// What came and isn't read yet.
+    pub(crate) unread: Pending,
+    alloc: Global,
+    /// The name of this host, which EHLO says.
+    host: Octets,
+    is_open: bool,
+}
+
+/// A reply of a server.
+#[derive(Clone, Copy)]
+struct Reply {
+    code: u16,
+    /// How many octets it has.
+    count: usize,
+}
+
+impl<P: Peer + Drop> Client<P> {
+    /// A client that isn't connected yet.
+    pub fn new(alloc: Global, peer: P, host: Octets) -> Client<P>
+        ensures peer { result.peer ≡ peer }
+        ensures unread { result.unread ≡ [] }
+    {
+        Client {
+            peer,
+            unread: Pending::new(alloc),
+            alloc,
+            host,
+            is_open: false,
+        }
+    }
+
+    /// The connection.
+    pub fn peer(&self) -> &P
+        ensures { result.now ≡ self.now.peer }
+    {
+        &self.peer
+    }
+
+    // Octets of no letter.
+    fn say(&mut self, octets: &[u8]) -> Result<(), Lost>
+        ensures { (t : Talk) → s.Passes (P.passed self.old.peer) self.old.unread t → s.Passes (P.passed self.new.peer) self.new.unread t }
+    {
+        match self.peer.send(octets, Patience::Piece) {
+            Ok(()) => Ok(()),
+            Err(lost) => Err(lost),
+        }
+    }
+
+    // More octets come.
+    fn listen(&mut self, patience: Patience) -> Result<(), Lost>
+        ensures { (t : Talk) → s.Passes (P.passed self.old.peer) self.old.unread t → s.Passes (P.passed self.new.peer) self.new.unread t }
+    {
+        let mut piece = [0; 4096];
+        let count = self.peer.receive(&mut piece, patience)?;
+        if count == 0 {
+            return Err(Lost);
+        }
+        let (octets, _) = piece.split_at(count);
+        if self.unread.extend_from_slice(octets).is_err() {
+            self.unread = Pending::new(self.alloc);
+            return Err(Lost);
+        }
+        Ok(())
+    }
+
+    // Waits until a reply stands first in what isn't read.
+    fn next_reply(&mut self, patience: Patience) -> Result<Reply, Lost>
+        ensures kept { (t : Talk) → s.Passes (P.passed self.old.peer) self.old.unread t → s.Passes (P.passed self.new.peer) self.new.unread t }
+        ensures within { IfOk result (λ reply. reply.count ≤ length self.new.unread) }
+        ensures first { IfOk result (λ reply. IsReply self.new.unread reply.code (drop reply.count self.new.unread)) }
+    {
+        for _ in 0..MAX_REPLY {
+            match first_reply(self.unread.as_slice()) {
+                Heard::Reply { code, count } => return Ok(Reply { code, count }),
+                Heard::Bad => return Err(Lost),
+                Heard::Need => {
+                    if self.unread.len() > MAX_REPLY || self.listen(patience).is_err() {
+                        return Err(Lost);
+                    }
+                }
+            }
+        }
+        Err(Lost)
+    }
+
+    // The reply to something that is no letter's. Answers whether it is 2yz.
+    fn agrees(&mut self, patience: Patience) -> Result<bool, Lost>
+        ensures { (t : Talk) → s.Passes (P.passed self.old.peer) self.old.unread t → s.Passes (P.passed self.new.peer) self.new.unread t }
+    {
+        match self.next_reply(patience) {
+            Ok(reply) => {
+                self.unread.drop_front(reply.count);
+                Ok(reply.code / 100 == 2)
+            }
+            Err(lost) => Err(lost),
+        }
+    }
+
+    // The server's greeting, and EHLO. Answers what the reply to that offers.
+    fn greet(&mut self) -> Result<Extensions, Lost>
+        ensures { (t : Talk) → s.Passes (P.passed self.old.peer) self.old.unread t → s.Passes (P.passed self.new.peer) self.new.unread t }
+    {
+        if self.agrees(Patience::Command) != Ok(true) {
+            return Err(Lost);
+        }
+        if self.say_hello().is_err() {
+            return Err(Lost);
+        }
+        match self.next_reply(Patience::Command) {
+            Ok(reply) if reply.code / 100 == 2 => {
+                let offered = self.offered_in(reply.count);
+                self.unread.drop_front(reply.count);
+                Ok(offered)
+            }
+            _ => Err(Lost),
+        }
+    }
+
+    fn say_hello(&mut self) -> Result<(), Lost>
+        ensures { (t : Talk) → s.Passes (P.passed self.old.peer) self.old.unread t → s.Passes (P.passed self.new.peer) self.new.unread t }
+    {
+        match ehlo_line(self.alloc, self.host.as_slice()) {
+            Ok(line) => self.say(line.as_slice()),
+            Err(_) => Err(Lost),
+        }
+    }
+
+    // What the reply that stands first offers.
+    fn offered_in(&self, count: usize) -> Extensions
+        requires { count ≤ length self.now.unread }
+    {
+        let (reply, _) = self.unread.as_slice().split_at(count);
+        read_extensions(reply)
+    }
+
+    // What isn't read is forgotten, and the connection ends.
+    fn leave(&mut self)
+        ensures { (t : Talk) → s.Passes (P.passed self.old.peer) self.old.unread t → s.Passes (P.passed self.new.peer) self.new.unread t }
+    {
+        self.unread = Pending::new(self.alloc);
+        self.peer.disconnect();
+        self.is_open = false;
+    }
+}
+
+impl<P: Peer + Drop> Server for Client<P> {
+    ghost use Rattle.mailsenders.specs.Wires.{Passes};
+
+    ghost said = { λ client t. Passes (P.passed client.peer) client.unread t };
+
+    fn open(&mut self) -> Result<Extensions, Lost> {
+        self.leave();
+        if self.peer.connect().is_err() {
+            return Err(Lost);
+        }
+        self.is_open = true;
+        match self.greet() {
+            Ok(offered) => Ok(offered),
+            Err(lost) => {
+                self.leave();
+                Err(lost)
+            }
+        }
+    }
+
+    fn write(&mut self, octets: &[u8]) -> Result<(), Lost> {
+        match self.peer.send(octets, Patience::Piece) {
+            Ok(()) => Ok(()),
+            Err(lost) => {
+                self.leave();
+                Err(lost)
+            }
+        }
+    }
+
+    fn hear(&mut self, stage: Stage) -> Result<u16, Lost> {
+        match self.next_reply(patience_at(stage)) {
+            Ok(reply) => {
+                self.unread.drop_front(reply.count);
+                Ok(reply.code)
+            }
+            Err(lost) => {
+                self.leave();
+                Err(lost)
+            }
+        }
+    }
+
+    fn reset(&mut self) -> Result<(), Lost> {
+        if self.say(RSET).is_err() {
+            self.leave();
+            return Err(Lost);
+        }
+        match self.agrees(Patience::Command) {
+            Ok(true) => Ok(()),
+            Ok(false) => Err(Lost),
+            Err(lost) => {
+                self.leave();
+                Err(lost)
+            }
+        }
+    }
+
+    fn close(&mut self) {
+        if self.is_open && self.say(QUIT).is_ok() {
+            let _ = self.agrees(Patience::Command);
+        }
+        self.leave();
+    }
+}
+
+// How long the reply to a stage is waited for.
+fn patience_at(stage: Stage) -> Patience {
+    match stage {
+        Stage::Sender | Stage::Recipient => Patience::Command,
+        Stage::Data => Patience::Data,
+        Stage::Text => Patience::Text,
+    }
+}
