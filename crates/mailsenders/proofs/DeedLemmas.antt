@@ -107,8 +107,8 @@ pub row_there : (P : Row → Type 0) (found : Option Row) (row : Row) → found 
 row_there P found row same is = let Q : Option Row → Type 0 = λ o. IfSome o P in subst Q same is
 
 pub then_row : (may was : Bool) (First Mid Shows : Rows → Type 0) (Heard Said : Talk → Type 0) (before : State) (whole : Bool) (row : Row) → was ≡ may → Reaches may First Heard before true
-    → ((rows : Rows) → First rows → Mid rows) → ((rows : Rows) → Mid rows → IsThere row rows)
+    → ((rows : Rows) → First rows → Mid rows) → ((rows : Rows) → First rows → IsThere row rows)
     → ((mid : State) → Mid mid.rows → Heard mid.talk → IsThere row mid.rows → Reaches was Shows Said mid whole) → Reaches may Shows Said before whole
 then_row may was First Mid Shows Heard Said before whole row same one stay there more =
     joins may First Shows Heard Said before whole one
-    (λ mid shows said. let here = stay mid.rows shows in subst (λ m. Reaches m Shows Said mid whole) same (more mid here said (there mid.rows here)))
+    (λ mid shows said. let here = stay mid.rows shows in subst (λ m. Reaches m Shows Said mid whole) same (more mid here said (there mid.rows shows)))

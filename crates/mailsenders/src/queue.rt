@@ -32,14 +32,14 @@ pub trait Queue {
     /// Whether these are its rows. One over a store that doesn't tell its tables says it of none.
     ghost shows: { Self → Rows → Type 0 };
 
-    /// The first row after this place, in the order of the octets of the users and of the numbers. The store is taken for it where it
-    /// isn't out, and given back.
+    /// The first row after this place, in the order of the octets of the users and of the numbers; one that isn't due may be passed over.
+    /// The store is taken for it, and given back.
     fn next(&mut self, user: &[u8], id: u64) -> Result<Option<Row>, Unavailable>
-        ensures there { IfOk result (λ found. IfSome found (λ row. (rows : Rows) → shows self.new rows → IsThere row rows)) }
+        ensures there { IfOk result (λ found. IfSome found (λ row. (rows : Rows) → shows self.old rows → IsThere row rows)) }
         ensures same { (rows : Rows) → shows self.old rows → shows self.new rows };
 
-    /// Takes the user's row with the number out. The store is waited for without an end, and stays out after Ok, until the next row is
-    /// read. One that isn't there any more counts as taken out.
+    /// Takes the user's row with the number out. The store is waited for without an end. One that isn't there any more counts as taken
+    /// out.
     ///
     /// # Errors
     ///

@@ -100,7 +100,7 @@ pub fn send_queue<Q: Queue, S: Server, J: Journal>(
 
 // The first row behind a place.
 fn read_next<Q: Queue>(queue: &mut Q, user: &Octets, id: u64) -> Result<Option<Row>, Stop>
-    ensures there { IfOk result (λ found. IfSome found (λ row. (rows : Rows) → Q.shows queue.new rows → IsThere row rows)) }
+    ensures there { IfOk result (λ found. IfSome found (λ row. (rows : Rows) → Q.shows queue.old rows → IsThere row rows)) }
     ensures same { (rows : Rows) → Q.shows queue.old rows → Q.shows queue.new rows }
 {
     match queue.next(user.as_slice(), id) {

@@ -10,7 +10,7 @@ pub returns-in-Err : goal.returns-in-Err
 returns-in-Err g c = λ before shows said.
     then_row c.args.may_eight_bit c.loop.link.may_eight_bit (g.Q.Queue.shows c.loop.queue) (g.Q.Queue.shows c.read_next.new.queue) (g.Q.Queue.shows c.try_row.new.queue)
     (g.S.Server.said c.loop.server) (g.S.Server.said c.try_row.new.server) before false c.in-Some.row c.loop.invariant.0 (c.loop.invariant.1 before shows said) c.read_next.ensures.same
-    (row_there (λ row. (rows : Rows) → g.Q.Queue.shows c.read_next.new.queue rows → IsThere row rows) c.in_ok-row.field-0 c.in-Some.row c.in-Some.is c.in_ok-row.ensures.there)
+    (row_there (λ row. (rows : Rows) → g.Q.Queue.shows c.loop.queue rows → IsThere row rows) c.in_ok-row.field-0 c.in-Some.row c.in-Some.is c.in_ok-row.ensures.there)
     c.in-Err.ensures.reaches
 
 pub loop-preserved : goal.loop-preserved
@@ -19,6 +19,6 @@ loop-preserved g c = (
   λ before shows said.
       then_row c.args.may_eight_bit c.loop.link.may_eight_bit (g.Q.Queue.shows c.loop.queue) (g.Q.Queue.shows c.read_next.new.queue) (g.Q.Queue.shows c.try_row.new.queue)
       (g.S.Server.said c.loop.server) (g.S.Server.said c.try_row.new.server) before true c.in-Some.row c.loop.invariant.0 (c.loop.invariant.1 before shows said) c.read_next.ensures.same
-      (row_there (λ row. (rows : Rows) → g.Q.Queue.shows c.read_next.new.queue rows → IsThere row rows) c.in_ok-row.field-0 c.in-Some.row c.in-Some.is c.in_ok-row.ensures.there)
+      (row_there (λ row. (rows : Rows) → g.Q.Queue.shows c.loop.queue rows → IsThere row rows) c.in_ok-row.field-0 c.in-Some.row c.in-Some.is c.in_ok-row.ensures.there)
       c.in-Ok.ensures.reaches,
 )

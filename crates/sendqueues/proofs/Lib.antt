@@ -1,0 +1,5 @@
+mod Examples
+mod QueueLemmas
+mod StoreLemmas
+mod TableLemmas
+mod TextLemmas

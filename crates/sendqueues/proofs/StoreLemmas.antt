@@ -1,0 +1,380 @@
+-- Calls over a store that is taken: rows that are read and taken out.
+use Rattle.std.proofs.Common.{◌≡◌, ◌⊎◌, ◌==◌, ℕ, pos, Bool, true, false, cond, List, [], ◌∷◌, map, filter, Option, Some, None, Result, Ok, Err, IfOk, IfErr, IfSome, refl, sym, ◌∙◌, ap, subst, inl, inr}
+use Rattle.std.proofs.Common.{IsPermutation}
+use Rattle.std.proofs.ByRecursion.{all_shuffled}
+use Rattle.std.proofs.lemmas.Bool.{true≢false}
+use Rattle.std.proofs.lemmas.List.Sorted.{IsPermutation-sym}
+use Rattle.std.proofs.lemmas.Map.Lookups.{exact_bytes, exact_unsigned}
+use Rattle.std.specs.List.{AllByRecursion}
+use Rattle.std.specs.Ordering.{nat_cmp, ordering_then, ordering_reverse}
+use Rattle.std.specs.declared.cmp.Ordering.{Ordering}
+use Rattle.std.specs.declared.cmp.Ordering.TheVariants.{Less, Equal, Greater}
+use Rattle.std.specs.FinMap.{get}
+use Rattle.sqlite.specs.State.{State, HasCleanDisk}
+use Rattle.sqlite_rules.specs.Lists.{Has}
+use Rattle.sqlite_value.specs.declared.value.Value.TheVariants.{Int, Blob}
+use Rattle.mailtables.specs.QueueTable.{outgoing_tree}
+use Rattle.mailtables.specs.Rows.{Tables}
+use Rattle.mailtables.proofs.AnswerLemmas.{has_map}
+use Rattle.mailtables.proofs.WriteLemmas.{clean_before}
+use Rattle.mailstore.specs.Account.{Account, Accounts, bytes_cmp, row_with}
+use Rattle.mailstore.specs.FirstCells.{first_two}
+use Rattle.mailstore.specs.QueueRows.{queue_row}
+use Rattle.mailstore.specs.Shows.{IsShown, IsShownOrAbsent, ShowsAccounts, rows_of}
+use Rattle.mailstore.specs.Next.{queued_cmp, FindsAll, IsNextQueued, IsQueued}
+use Rattle.mailstore.specs.Promises.{OfUser, Keeps}
+use Rattle.mailstore.specs.Promises as store
+use Rattle.mailstore.specs.declared.next.Queued.{Queued}
+use Rattle.mailstore.specs.declared.queue.Outgoing.{Outgoing}
+use Rattle.mailstore.specs.declared.refusal.Refusal.{Refusal}
+use Rattle.mailstore.specs.declared.refusal.Refusal.TheVariants.{NoUser, NoRow}
+use Rattle.mailstore.specs.Refusals.{IsTransient}
+use Rattle.mailstore.proofs.NextLemmas.{queued_total}
+use Rattle.sessions.specs.Acts.{HasAccounts, Carries}
+use Rattle.sessions.proofs.ActLemmas.{glanced, accounts_stay, read_shows}
+use Rattle.mailengine.proofs.TakingLemmas.{row_numbered}
+use Rattle.mailengine.specs.declared.answer.Answer.{Answer}
+use Rattle.mailengine.specs.declared.answer.Answer.TheVariants.{Taken, Refused}
+use Rattle.mailengine.specs.AccountEvents.{TakesIn, Taking}
+use Rattle.mailengine.specs.AccountEvents as engine
+use Rattle.mailengine.specs.Hosts.{TurnsBy, MayTurnBy, ActsTaking, answer_by}
+use Rattle.sendqueues.specs.Posts.{IsAfter, HasRow, IsRowAt, IsNoneDue, IsNext, IsFound, IsPast, IsStep, IsGone, Works, Reads, Takes, TakesRow}
+use Rattle.sendqueues.specs.Waits.{is_due}
+use Rattle.sendqueues.specs.declared.post.Post.{Post}
+use Rattle.sendqueues.specs.declared.post.Step.{Step}
+use Rattle.sendqueues.specs.declared.post.Step.TheVariants.{End, Past, Due}
+use Rattle.sendqueues.specs.declared.wait.Wait.{Wait}
+
+-- ---- one call, and then another
+
+pub works_then : (a b c : State) (A B C : Accounts → Accounts → Type 0) → ((accounts mid later : Accounts) → A accounts mid → B mid later → C accounts later) → Works A a b → Works B b c → Works C a c
+works_then a b c A B C both one two = record {
+  carries = λ clean accounts shown.
+      let m = one.carries (two.clean clean) accounts shown in
+      let l = two.carries clean m.0 m.2 in
+      (l.0, both accounts m.0 l.0 m.1 l.1, l.2);
+  clean = λ clean. one.clean (two.clean clean);
+}
+
+pub works_as : (a b : State) (A B : Accounts → Accounts → Type 0) → ((accounts later : Accounts) → A accounts later → B accounts later) → Works A a b → Works B a b
+works_as a b A B wider one = record {
+  carries = λ clean accounts shown. let m = one.carries clean accounts shown in (m.0, wider accounts m.0 m.1, m.2);
+  clean = one.clean;
+}
+
+-- nothing was asked
+pub works_not : (a : State) (A : Accounts → Accounts → Type 0) → ((accounts : Accounts) → A accounts accounts) → Works A a a
+works_not a A same = record {
+  carries = λ clean accounts shown. (accounts, same accounts, shown);
+  clean = λ clean. clean;
+}
+
+-- ---- reads
+
+module _ (a b : State) where
+  pub works_read : {X Y E : Type 0} (r : Result X E) (Part : Accounts → Y → Type 0) (q : Result Y Refusal) → Keeps a b r
+      → (HasCleanDisk b → (accounts : Accounts) → HasAccounts a accounts → IfOk q (Part accounts)) → Works (Reads Part q) a b
+  works_read r Part q k part = record {
+    carries = λ clean accounts shown. (accounts, (refl, part clean accounts shown), accounts_stay a b (glanced a b r k) clean accounts shown);
+    clean = clean_before a b _ k.crash;
+  }
+
+  pub works_err : {X Y E : Type 0} (r : Result X E) (Part : Accounts → Y → Type 0) (e : Refusal) (q : Result Y Refusal) → q ≡ Err e → Keeps a b r → Works (Reads Part q) a b
+  works_err r Part e q is k = works_read r Part q k (λ clean accounts shown. subst (λ o. IfOk o (Part accounts)) (sym is) tt)
+
+-- the row at a place
+same_row : (accounts : Accounts) (place : Queued) (a b : Account) (o : Option Outgoing) (row : Outgoing) → get accounts place.user ≡ Some a → get accounts place.user ≡ Some b → o ≡ row_with place.id a.queue → row_with place.id b.queue ≡ Some row → o ≡ Some row
+same_row accounts place a b o row one two is has =
+    let same : a ≡ b = (let h = one in let k = two in cc) in
+    is ∙ ap (λ (x : Account). row_with place.id x.queue) same ∙ has
+
+row_is : (accounts : Accounts) (place : Queued) (row : Option Outgoing) → OfUser accounts place.user (λ a. row ≡ row_with place.id a.queue) → IsRowAt place accounts row
+row_is accounts place None own = λ row has. let never = same_row accounts place own.0 has.0 None row own.1 has.1 own.2 has.2 in cc
+row_is accounts place (Some row) own = (own.0, own.1, sym own.2)
+
+module _ (place : Queued) (user : List ℕ) (same : user ≡ place.user) (a b : State) where
+  abbrev Read : Result (Option Outgoing) Refusal → Type 0
+  Read r = store.Reads user (λ row account. row ≡ row_with place.id account.queue) a b r
+
+  pub row_read : (r : Result (Option Outgoing) Refusal) → Read r → Works (Reads (IsRowAt place) r) a b
+  row_read (Err e) reads = works_read a b (Err e) (IsRowAt place) (Err e) reads.keeps (λ clean accounts shown. tt)
+  row_read (Ok row) reads = works_read a b (Ok row) (IsRowAt place) (Ok row) reads.keeps (λ clean accounts shown.
+      let p = (read_shows a b (Ok row) row refl reads.keeps clean accounts shown).0 in
+      row_is accounts place row (subst (λ u. OfUser accounts u (λ account. row ≡ row_with place.id account.queue)) same (reads.found clean accounts p)))
+
+-- ---- the rows that the tables have
+
+within_all : {X : Type 0} (some all : List X) → ((x : X) → Has some x → Has all x) → AllByRecursion (Has all) some
+within_all [] all within = tt
+within_all (x ∷ some) all within = (within x (inl refl), within_all some all (λ y there. within y (inr there)))
+
+all_at : {X : Type 0} (P : X → Type 0) (xs : List X) (x : X) → AllByRecursion P xs → Has xs x → P x
+all_at P [] x all there = absurd there
+all_at P (y ∷ xs) x all (inl same) = subst P (sym same) all.0
+all_at P (y ∷ xs) x all (inr there) = all_at P xs x all.1 there
+
+permuted_has : {X : Type 0} (xs ys : List X) (x : X) → IsPermutation xs ys → Has xs x → Has ys x
+permuted_has xs ys x same there = all_at (Has ys) xs x (all_shuffled (Has ys) ys xs (IsPermutation-sym xs ys same) (within_all ys ys (λ y here. here))) there
+
+filtered_has : {X : Type 0} (p : X → Bool) (xs : List X) (x : X) → Has (filter p xs) x → Has xs x
+filtered_has p [] x there = absurd there
+filtered_has p (y ∷ xs) x there = go (p y) (filtered_has p xs x) there
+  where
+    go : (b : Bool) → (Has (filter p xs) x → Has xs x) → Has (cond b (y ∷ filter p xs) (filter p xs)) x → Has (y ∷ xs) x
+    go true later (inl same) = inl same
+    go true later (inr more) = inr (later more)
+    go false later more = inr (later more)
+
+found_has : (id : ℕ) (rows : List Outgoing) (row : Outgoing) → row_with id rows ≡ Some row → Has rows row
+found_has id [] row is = absurd (let never = is in cc)
+found_has id (first ∷ rows) row is = go (first.id == id) (found_has id rows row) is
+  where
+    go : (b : Bool) → (row_with id rows ≡ Some row → Has rows row) → cond b (Some first) (row_with id rows) ≡ Some row → Has (first ∷ rows) row
+    go true later same = inl (let h = same in cc)
+    go false later same = inr (later same)
+
+-- a row of a queue stands in the table
+row_queued : (tables : Tables) (accounts : Accounts) (place : Queued) (row : Outgoing) → ShowsAccounts tables accounts → HasRow accounts place row → IsQueued tables place
+row_queued tables accounts place row shows has =
+    let shown : IsShown place.user (rows_of place.user tables) has.0 = subst (IsShownOrAbsent place.user (rows_of place.user tables)) has.1 (shows.users place.user) in
+    let there : Has has.0.queue row = found_has place.id has.0.queue row has.2 in
+    let own : Has (rows_of place.user tables outgoing_tree) (queue_row place.user row) =
+    permuted_has (map (queue_row place.user) has.0.queue) (rows_of place.user tables outgoing_tree) (queue_row place.user row) shown.queue.rows_are (has_map (queue_row place.user) has.0.queue row there) in
+    let all : Has (tables outgoing_tree) (queue_row place.user row) = filtered_has _ (tables outgoing_tree) (queue_row place.user row) own in
+    subst (λ n. Has (map first_two (tables outgoing_tree)) (Blob place.user ∷ Int (pos n) ∷ [])) (row_numbered place.id has.0.queue row has.2) (has_map first_two (tables outgoing_tree) (queue_row place.user row) all)
+
+-- ---- the order of places
+
+both_equal : (a b : Ordering) → ordering_then a b ≡ Equal → (a ≡ Equal) × (b ≡ Equal)
+both_equal Less b is = absurd (let never = is in cc)
+both_equal Equal b is = (refl, is)
+both_equal Greater b is = absurd (let never = is in cc)
+
+-- neither before nor after is the same
+one_place : (p q : Queued) → (IsAfter p q → ⊥) → (IsAfter q p → ⊥) → p ≡ q
+one_place p q not_before not_after = by (queued_cmp p q) refl
+  where
+    by : (o : Ordering) → queued_cmp p q ≡ o → p ≡ q
+    by Less is = absurd (not_before is)
+    by Equal is =
+        let both = both_equal (bytes_cmp p.user q.user) (nat_cmp p.id q.id) is in
+        let users = exact_bytes p.user q.user both.0 in
+        let ids = exact_unsigned p.id q.id both.1 in
+        λ i. record { user = users i; id = ids i }
+    by Greater is = absurd (not_after (queued_total.antisymm q p ∙ ap ordering_reverse is))
+
+-- ---- the place of the next row
+module _ (waits : List Wait) (now : ℕ) (start : Queued) (a b : State) where
+  abbrev Stands : Accounts → Step → Type 0
+  Stands = IsStep waits now start
+
+  -- no row stands after the place; or none until there
+  abbrev Comes : Accounts → Option Queued → Type 0
+  Comes accounts None = (place : Queued) (row : Outgoing) → IsAfter start place → HasRow accounts place row → ⊥
+  Comes accounts (Some next) = IsAfter start next × ((place : Queued) (row : Outgoing) → IsAfter start place → HasRow accounts place row → IsAfter place next → ⊥)
+
+  comes_by : (tables : Tables) (accounts : Accounts) (next : Option Queued) → ShowsAccounts tables accounts → IsNextQueued start next tables → Comes accounts next
+  comes_by tables accounts None shows least = λ place row after has. least place (row_queued tables accounts place row shows has) after
+  comes_by tables accounts (Some next) shows least = (least.1, λ place row after has before. least.2 place (row_queued tables accounts place row shows has) after before)
+
+  pub next_comes : (r : Result (Option Queued) Refusal) → FindsAll (IsNextQueued start) a b r → Works (Reads Comes r) a b
+  next_comes (Err e) finds = works_read a b (Err e) Comes (Err e) finds.keeps (λ clean accounts shown. tt)
+  next_comes (Ok next) finds = works_read a b (Ok next) Comes (Ok next) finds.keeps (λ clean accounts shown.
+      let p = (read_shows a b (Ok next) next refl finds.keeps clean accounts shown).0 in
+      comes_by p.0 accounts next p.2 (finds.found clean p.0 p.1))
+
+  module _ (r : Result (Option Queued) Refusal) (finds : FindsAll (IsNextQueued start) a b r) where
+    step_as : (o : Result Step Refusal) → ((accounts : Accounts) → IfOk r (Comes accounts) → IfOk o (Stands accounts)) → Works (Reads Stands o) a b
+    step_as o by = works_as a b (Reads Comes r) (Reads Stands o) (λ accounts later h. (h.0, by accounts h.1)) (next_comes r finds)
+
+    pub none_next : r ≡ Ok None → Works (Reads Stands (Ok End)) a b
+    none_next is = step_as (Ok End) (λ accounts comes place row after has due. subst (λ o. IfOk o (Comes accounts)) is comes place row after has)
+
+    pub not_next : (e : Refusal) (o : Result Step Refusal) → o ≡ Err e → Works (Reads Stands o) a b
+    not_next e o is = step_as o (λ accounts comes. subst (λ x. IfOk x (Stands accounts)) (sym is) tt)
+
+    module _ (next : Queued) (is : r ≡ Ok (Some next)) where
+      abbrev At : Accounts → Type 0
+      At accounts = Comes accounts (Some next)
+
+      comes_at : (accounts : Accounts) → IfOk r (Comes accounts) → At accounts
+      comes_at accounts comes = subst (λ o. IfOk o (Comes accounts)) is comes
+
+      -- until there nothing is due, where the row there isn't
+      past_by : (accounts : Accounts) → At accounts → ((row : Outgoing) → HasRow accounts next row → is_due waits now next ≡ true → ⊥) → IsPast waits now start next accounts
+      past_by accounts comes not = record {
+        after = comes.0;
+        none = λ place row here has due.
+            let same : place ≡ next = one_place place next (comes.1 place row here.0 has) here.1 in
+            not row (subst (λ p. HasRow accounts p row) same has) (subst (λ p. is_due waits now p ≡ true) same due);
+      }
+
+      pub past_next : is_due waits now next ≡ false → Works (Reads Stands (Ok (Past next))) a b
+      past_next not = step_as (Ok (Past next)) (λ accounts comes. past_by accounts (comes_at accounts comes) (λ row has due. true≢false (sym due ∙ not)))
+
+      module _ (c : State) (q : Result (Option Outgoing) Refusal) (row : Works (Reads (IsRowAt next) q) b c) where
+        step_by : (o : Result Step Refusal) → ((accounts : Accounts) → At accounts → IfOk q (IsRowAt next accounts) → IfOk o (Stands accounts)) → Works (Reads Stands o) a c
+        step_by o by =
+            works_then a b c (Reads Comes r) (Reads (IsRowAt next) q) (Reads Stands o)
+            (λ accounts mid later one two. (two.0 ∙ one.0, by accounts (comes_at accounts one.1) (subst (λ all. IfOk q (IsRowAt next all)) one.0 two.1))) (next_comes r finds) row
+
+        pub step_unread : (e : Refusal) (o : Result Step Refusal) → o ≡ Err e → Works (Reads Stands o) a c
+        step_unread e o told = step_by o (λ accounts comes has. subst (λ x. IfOk x (Stands accounts)) (sym told) tt)
+
+        pub step_past : q ≡ Ok None → Works (Reads Stands (Ok (Past next))) a c
+        step_past told = step_by (Ok (Past next)) (λ accounts comes none. past_by accounts comes (λ row has due. subst (λ x. IfOk x (IsRowAt next accounts)) told none row has))
+
+        pub step_due : (found : Outgoing) → q ≡ Ok (Some found) → is_due waits now next ≡ true → Works (Reads Stands (Ok (Due (record { place = next; row = found })))) a c
+        step_due found told due = step_by (Ok (Due (record { place = next; row = found })))
+            (λ accounts comes has. record {
+              after = comes.0;
+              due = due;
+              row = subst (λ x. IfOk x (IsRowAt next accounts)) told has;
+              first = λ place row here there is. comes.1 place row here.0 there here.1;
+            })
+
+-- ---- steps in turn
+
+-- the steps came to a place; none until there is due
+abbrev pub IsFrom : List Wait → ℕ → Queued → Queued → Accounts → Type 0
+IsFrom waits now start place accounts = (place ≡ start) ⊎ IsPast waits now start place accounts
+
+abbrev pub StepsTo : List Wait → ℕ → Queued → Queued → Accounts → Accounts → Type 0
+StepsTo waits now start place accounts later = (later ≡ accounts) × IsFrom waits now start place accounts
+
+pub steps_begin : (waits : List Wait) (now : ℕ) (start : Queued) (a : State) → Works (StepsTo waits now start start) a a
+steps_begin waits now start a = works_not a (StepsTo waits now start start) (λ accounts. (refl, inl refl))
+
+module _ (waits : List Wait) (now : ℕ) (start place : Queued) where
+  -- a place after the start is after the other one, or it isn't
+  after_then : (accounts : Accounts) → IsFrom waits now start place accounts → (next : Queued) → IsAfter place next → IsAfter start next
+  after_then accounts (inl same) next after = subst (λ p. IsAfter p next) same after
+  after_then accounts (inr past) next after = queued_total.trans start place next past.after after
+
+  is_after : (o : Ordering) → (o ≡ Less) ⊎ (o ≡ Less → ⊥)
+  is_after Less = inl refl
+  is_after Equal = inr (λ is. let never = is in cc)
+  is_after Greater = inr (λ is. let never = is in cc)
+
+  -- nothing is due among these, where nothing is among those that stand after the place
+  none_then : (accounts : Accounts) (Here : Queued → Type 0) → IsFrom waits now start place accounts → ((other : Queued) → Here other → IsAfter start other)
+      → IsNoneDue waits now (λ other. IsAfter place other × Here other) accounts → IsNoneDue waits now Here accounts
+  none_then accounts Here (inl same) within none other row here has due = none other row (subst (λ p. IsAfter p other) (sym same) (within other here), here) has due
+  none_then accounts Here (inr past) within none other row here has due = elim (is_after (queued_cmp place other)) [
+    | inl after ↦ none other row (after, here) has due
+    | inr not ↦ past.none other row (within other here, not) has due
+  ]
+
+  module _ (a b c : State) (steps : Works (StepsTo waits now start place) a b) (r : Result Step Refusal) (last : Works (Reads (IsStep waits now place) r) b c) where
+    by_steps : (C : Accounts → Accounts → Type 0) → ((accounts : Accounts) → IsFrom waits now start place accounts → IfOk r (IsStep waits now place accounts) → C accounts accounts) → Works C a c
+    by_steps C by =
+        works_then a b c (StepsTo waits now start place) (Reads (IsStep waits now place) r) C
+        (λ accounts mid later one two. subst (C accounts) (sym (two.0 ∙ one.0)) (by accounts one.1 (subst (λ all. IfOk r (IsStep waits now place all)) one.0 two.1))) steps last
+
+    pub steps_on : (next : Queued) → r ≡ Ok (Past next) → Works (StepsTo waits now start next) a c
+    steps_on next is = by_steps (StepsTo waits now start next) (λ accounts from step.
+        let past : IsPast waits now place next accounts = subst (λ o. IfOk o (IsStep waits now place accounts)) is step in (
+          refl,
+          inr (record {
+            after = after_then accounts from next past.after;
+            none = none_then accounts (λ other. IsAfter start other × (IsAfter next other → ⊥)) from (λ other here. here.0) (λ other row here has due. past.none other row (here.0, here.1.1) has due);
+          }),
+        ))
+
+    pub steps_end : r ≡ Ok End → Works (Reads (IsFound waits now start) (Ok None)) a c
+    steps_end is = by_steps (Reads (IsFound waits now start) (Ok None)) (λ accounts from step.
+        let none : IsNoneDue waits now (IsAfter place) accounts = subst (λ o. IfOk o (IsStep waits now place accounts)) is step in
+        (refl, none_then accounts (IsAfter start) from (λ other here. here) (λ other row here has due. none other row here.0 has due)))
+
+    pub steps_unread : (e : Refusal) (q : Result (Option Post) Refusal) → q ≡ Err e → Works (Reads (IsFound waits now start) q) a c
+    steps_unread e q told = by_steps (Reads (IsFound waits now start) q) (λ accounts from step. (refl, subst (λ o. IfOk o (IsFound waits now start accounts)) (sym told) tt))
+
+    pub steps_due : (post : Post) → r ≡ Ok (Due post) → Works (Reads (IsFound waits now start) (Ok (Some post))) a c
+    steps_due post is = by_steps (Reads (IsFound waits now start) (Ok (Some post)))
+        (λ accounts from step.
+        let next : IsNext waits now place accounts post = subst (λ o. IfOk o (IsStep waits now place accounts)) is step in (
+          refl,
+          record {
+            after = after_then accounts from post.place next.after;
+            due = next.due;
+            row = next.row;
+            first = none_then accounts (λ other. IsAfter start other × IsAfter other post.place) from (λ other here. here.0) (λ other row here has due. next.first other row (here.0, here.1.1) has due);
+          },
+        ))
+
+-- there are fewer rows
+pub steps_past : (waits : List Wait) (now : ℕ) (start place : Queued) (e : Refusal) (a b : State) → Works (StepsTo waits now start place) a b → Works (Reads (IsFound waits now start) (Err e)) a b
+steps_past waits now start place e a b steps = works_as a b (StepsTo waits now start place) (Reads (IsFound waits now start) (Err e)) (λ accounts later h. (h.0, tt)) steps
+
+-- ---- a row is taken out, and the next one looked for
+
+refused_row : (accounts later : Accounts) (user : List ℕ) (o : Option Outgoing) (e : Refusal) → engine.TakesRow accounts user o (Refused e) later → later ≡ accounts
+refused_row accounts later user None e takes = takes.stays
+refused_row accounts later user (Some row) e takes = absurd (let no = takes.taken in cc)
+
+refused_in : (accounts later : Accounts) (user : List ℕ) (id : ℕ) (o : Option Account) (e : Refusal) → TakesIn accounts user id o (Refused e) later → later ≡ accounts
+refused_in accounts later user id None e takes = takes.stays
+refused_in accounts later user id (Some a) e takes = refused_row accounts later user (row_with id a.queue) e takes
+
+refused_same : (accounts later : Accounts) (user : List ℕ) (id : ℕ) (e : Refusal) → Taking accounts user id (Refused e) later → later ≡ accounts
+refused_same accounts later user id e taking = refused_in accounts later user id (get accounts user) e taking
+
+module _ (place : Queued) (user : List ℕ) (same : user ≡ place.user) (a b : State) (r : Result Outgoing Refusal) (acts : ActsTaking user place.id a b r) where
+  abbrev Turned : Result Outgoing Refusal → Accounts → Accounts → Type 0
+  Turned q = TurnsBy (λ accounts. Taking accounts place.user place.id) IsTransient (answer_by Taken q)
+
+  as_acts : (q : Result Outgoing Refusal) → r ≡ q → Works (Turned q) a b
+  as_acts q is = record {
+    carries = subst (λ o. Carries (Turned o) a b) is (subst (λ u. Carries (TurnsBy (λ accounts. Taking accounts u place.id) IsTransient (answer_by Taken r)) a b) same acts.carries);
+    clean = clean_before a b _ acts.crash;
+  }
+
+  -- it wasn't taken out
+  pub take_refused : (e : Refusal) → r ≡ Err e → Works (TakesRow place (Err e)) a b
+  take_refused e is = works_as a b (Turned (Err e)) (TakesRow place (Err e)) stays (as_acts (Err e) is)
+    where
+      stays : (accounts later : Accounts) → Turned (Err e) accounts later → later ≡ accounts
+      stays accounts later (inl taking) = refused_same accounts later place.user place.id e taking
+      stays accounts later (inr refused) = refused.3
+
+  -- it was
+  pub row_taken : (row : Outgoing) (done : Unit {0}) → r ≡ Ok row → Works (TakesRow place (Ok done)) a b
+  row_taken row done is = works_as a b (Turned (Ok row)) (TakesRow place (Ok done)) by (as_acts (Ok row) is)
+    where
+      by : (accounts later : Accounts) → Turned (Ok row) accounts later → IsGone place accounts later
+      by accounts later (inl taking) = (Taken row, taking)
+      by accounts later (inr refused) = absurd (let no = refused.2 in cc)
+
+  -- it isn't there
+  pub row_gone : (e : Refusal) (done : Unit {0}) → (IsTransient e → ⊥) → r ≡ Err e → Works (TakesRow place (Ok done)) a b
+  row_gone e done known is = works_as a b (Turned (Err e)) (TakesRow place (Ok done)) by (as_acts (Err e) is)
+    where
+      by : (accounts later : Accounts) → Turned (Err e) accounts later → IsGone place accounts later
+      by accounts later (inl taking) = (Refused e, taking)
+      by accounts later (inr refused) = absurd (known (let same : e ≡ refused.0 = (let h = refused.2 in cc) in subst IsTransient (sym same) refused.1))
+
+-- these aren't without visible cause
+pub no_row_known : IsTransient NoRow → ⊥
+no_row_known (inl never) = let h = never in cc
+no_row_known (inr never) = let h = never in cc
+
+pub no_user_known : IsTransient NoUser → ⊥
+no_user_known (inl never) = let h = never in cc
+no_user_known (inr never) = let h = never in cc
+
+-- and then the next one was looked for
+module _ (waits : List Wait) (now : ℕ) (place : Queued) where
+  -- no memory for it
+  pub take_not : (a : State) (e : Refusal) (q : Result (Result (Option Post) Refusal) Refusal) → q ≡ Err e → Works (Takes waits now place q) a a
+  take_not a e q is = works_not a (Takes waits now place q) (λ accounts. subst (λ o. Takes waits now place o accounts accounts) (sym is) refl)
+
+  module _ (a b : State) (r : Result (Unit {0}) Refusal) (taken : Works (TakesRow place r) a b) where
+    pub take_unmade : (e : Refusal) (q : Result (Result (Option Post) Refusal) Refusal) → r ≡ Err e → q ≡ Err e → Works (Takes waits now place q) a b
+    take_unmade e q is told = works_as a b (TakesRow place r) (Takes waits now place q)
+        (λ accounts later h. subst (λ o. Takes waits now place o accounts later) (sym told) (subst (λ o. TakesRow place o accounts later) is h)) taken
+
+    pub take_made : (done : Unit {0}) → r ≡ Ok done → (c : State) (start : Queued) → start ≡ place → (q : Result (Option Post) Refusal) → Works (Reads (IsFound waits now start) q) b c → Works (Takes waits now place (Ok q)) a c
+    take_made done is c start from q found = works_then a b c (TakesRow place r) (Reads (IsFound waits now place) q) (Takes waits now place (Ok q))
+        (λ accounts mid later one two.
+        (subst (IsGone place accounts) (sym two.0) (subst (λ o. TakesRow place o accounts mid) is one), subst (λ all. IfOk q (IsFound waits now place all)) (sym two.0) two.1))
+        taken (subst (λ p. Works (Reads (IsFound waits now p) q) b c) from found)

@@ -1,0 +1,85 @@
+-- Rows of queues that are due, as a store finds them.
+use Rattle.std.specs.Prelude.{◌≡◌, true, ℕ, List, Option, Some, None, Result, Ok, Err, IfOk}
+use Rattle.std.specs.declared.cmp.Ordering.TheVariants.{Less}
+use Rattle.sqlite.specs.State.{State, HasCleanDisk}
+use Rattle.mailstore.specs.Account.{Account, Accounts, row_with}
+use Rattle.mailstore.specs.Next.{queued_cmp}
+use Rattle.mailstore.specs.Promises.{OfUser}
+use Rattle.mailstore.specs.declared.next.Queued.{Queued}
+use Rattle.mailstore.specs.declared.queue.Outgoing.{Outgoing}
+use Rattle.mailstore.specs.declared.refusal.Refusal.{Refusal}
+use Rattle.sessions.specs.Acts.{Carries}
+use Rattle.mailengine.specs.declared.answer.Answer.{Answer}
+use Rattle.mailengine.specs.AccountEvents.{Taking}
+use Rattle.sendqueues.specs.Waits.{is_due}
+use Rattle.sendqueues.specs.declared.post.Post.{Post}
+use Rattle.sendqueues.specs.declared.post.Step.{Step}
+use Rattle.sendqueues.specs.declared.post.Step.TheVariants.{End, Past, Due}
+use Rattle.sendqueues.specs.declared.wait.Wait.{Wait}
+
+-- a place comes after another one: by the octets of the user, and the number
+abbrev pub IsAfter : Queued → Queued → Type 0
+IsAfter start place = queued_cmp start place ≡ Less
+
+-- the queue of the user there has this row under the number there
+abbrev pub HasRow : Accounts → Queued → Outgoing → Type 0
+HasRow accounts place row = OfUser accounts place.user (λ a. row_with place.id a.queue ≡ Some row)
+
+-- the row at a place; none where there is none
+abbrev pub IsRowAt : Queued → Accounts → Option Outgoing → Type 0
+IsRowAt place accounts None = (row : Outgoing) → HasRow accounts place row → ⊥
+IsRowAt place accounts (Some row) = HasRow accounts place row
+
+-- rows that wait, at a moment
+module _ (waits : List Wait) (now : ℕ) where
+  -- at none of these places a row is due
+  abbrev pub IsNoneDue : (Queued → Type 0) → Accounts → Type 0
+  IsNoneDue Here accounts = (place : Queued) (row : Outgoing) → Here place → HasRow accounts place row → is_due waits now place ≡ true → ⊥
+
+  -- the first row after a place that is due
+  pub record IsNext (start : Queued) (accounts : Accounts) (post : Post) : Type 0 where
+    pub after : IsAfter start post.place
+    pub due : is_due waits now post.place ≡ true
+    pub row : HasRow accounts post.place post.row
+    pub first : IsNoneDue (λ place. IsAfter start place × IsAfter place post.place) accounts
+
+  -- that row; none where none is due after the place
+  abbrev pub IsFound : Queued → Accounts → Option Post → Type 0
+  IsFound start accounts None = IsNoneDue (IsAfter start) accounts
+  IsFound start accounts (Some post) = IsNext start accounts post
+
+  -- how far it is to a place after another one: none is due until there
+  pub record IsPast (start place : Queued) (accounts : Accounts) : Type 0 where
+    pub after : IsAfter start place
+    pub none : IsNoneDue (λ other. IsAfter start other × (IsAfter place other → ⊥)) accounts
+
+  -- what stands after a place: nothing that is due, or nothing until there, or the first one that is
+  abbrev pub IsStep : Queued → Accounts → Step → Type 0
+  IsStep start accounts End = IsNoneDue (IsAfter start) accounts
+  IsStep start accounts (Past place) = IsPast start place accounts
+  IsStep start accounts (Due post) = IsNext start accounts post
+
+-- ---- over a store
+
+-- whatever accounts a store showed, it then shows some that these turn into; and where its disk is clean then, it was before
+pub record Works (Turn : Accounts → Accounts → Type 0) (old new : State) : Type 0 where
+  pub carries : Carries Turn old new
+  pub clean : HasCleanDisk new → HasCleanDisk old
+
+-- a read: no account changes, and after Ok this holds of the answer and of the accounts
+abbrev pub Reads : {X : Type 0} → (Accounts → X → Type 0) → Result X Refusal → Accounts → Accounts → Type 0
+Reads Part result accounts later = (later ≡ accounts) × IfOk result (Part accounts)
+
+-- the event of the machine that takes the row at a place was answered: the row left the queue, or it wasn't there
+abbrev pub IsGone : Queued → Accounts → Accounts → Type 0
+IsGone place accounts later = (answer : Answer) × Taking accounts place.user place.id answer later
+
+-- it was; or nothing changed
+abbrev pub TakesRow : Queued → Result (Unit {0}) Refusal → Accounts → Accounts → Type 0
+TakesRow place (Ok done) accounts later = IsGone place accounts later
+TakesRow place (Err refusal) accounts later = later ≡ accounts
+
+-- it was, and then the next row was looked for; or nothing changed
+abbrev pub Takes : List Wait → ℕ → Queued → Result (Result (Option Post) Refusal) Refusal → Accounts → Accounts → Type 0
+Takes waits now place (Ok found) accounts later = IsGone place accounts later × IfOk found (IsFound waits now place later)
+Takes waits now place (Err refusal) accounts later = later ≡ accounts

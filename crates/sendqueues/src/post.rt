@@ -1,0 +1,123 @@
+//! Rows that are due, in a store that is taken.
+ghost use Rattle.std.specs.Prelude.{◌≡◌, IfOk};
+ghost use Rattle.sqlite.specs.Held.{state};
+ghost use Rattle.sendqueues.specs.Posts.{IsFound, IsRowAt, IsStep, Reads, Takes, TakesRow, Works};
+
+use crate::wait::{Wait, is_due};
+use mailengine::take_out;
+use mailstore::{Outgoing, Queued, Refusal, Store};
+use sqlite::Alter;
+use std::alloc::{AllocError, Global};
+
+/// A row of a queue, with its place.
+#[derive(Drop)]
+pub struct Post {
+    pub place: Queued,
+    pub row: Outgoing,
+}
+
+/// What stands after a place.
+#[derive(Drop)]
+enum Step {
+    /// No row.
+    End,
+    /// A row that isn't due.
+    Past(Queued),
+    /// A row that is.
+    Due(Post),
+}
+
+/// A copy of a place. Lack of memory is the only error.
+fn copy_of(alloc: Global, place: &Queued) -> Result<Queued, AllocError>
+    ensures { IfOk result (λ copy. copy ≡ place.now) }
+{
+    Ok(Queued {
+        user: place.user.try_clone(alloc)?,
+        id: place.id,
+    })
+}
+
+/// The row at a place; none where there is none.
+fn row_at<S: Alter>(store: &mut Store<S>, place: &Queued) -> Result<Option<Outgoing>, Refusal>
+    ensures { Works (Reads (IsRowAt place.now) result) (state S.Store store.old) (state S.Store store.new) }
+{
+    store.outgoing(place.user.as_slice(), place.id)
+}
+
+/// The row after a place, which is read where it is due.
+fn step_from<S: Alter>(
+    store: &mut Store<S>,
+    start: &Queued,
+    waits: &[Wait],
+    now: u64,
+) -> Result<Step, Refusal>
+    ensures { Works (Reads (IsStep waits.now now start.now) result) (state S.Store store.old) (state S.Store store.new) }
+{
+    let Some(place) = store.next_queued(start)? else {
+        return Ok(Step::End);
+    };
+    if !is_due(waits, &place, now) {
+        return Ok(Step::Past(place));
+    }
+    match row_at(store, &place)? {
+        Some(row) => Ok(Step::Due(Post { place, row })),
+        None => Ok(Step::Past(place)),
+    }
+}
+
+/// The first row after a place that is due. Rows that aren't are passed over without a look at their messages. Time is linear in them and
+/// in the waits for each, memory in the row.
+pub(crate) fn find_post<S: Alter>(
+    store: &mut Store<S>,
+    start: Queued,
+    waits: &[Wait],
+    now: u64,
+) -> Result<Option<Post>, Refusal>
+    ensures { Works (Reads (IsFound waits.now now start) result) (state S.Store store.old) (state S.Store store.new) }
+{
+    let mut place = start;
+    for _ in 0..u64::MAX {
+        match step_from(store, &place, waits, now)? {
+            Step::End => return Ok(None),
+            Step::Due(post) => return Ok(Some(post)),
+            Step::Past(next) => place = next,
+        }
+    }
+    // There are fewer rows.
+    Err(Refusal::Store)
+}
+
+/// The row at a place is taken out. One that isn't there any more was taken out by another.
+///
+/// # Errors
+///
+/// The row is there still.
+fn take_row<S: Alter>(store: &mut Store<S>, place: &Queued) -> Result<(), Refusal>
+    ensures { Works (TakesRow place.now result) (state S.Store store.old) (state S.Store store.new) }
+{
+    match take_out(store, place.user.as_slice(), place.id) {
+        Ok(_row) => Ok(()),
+        Err(Refusal::NoRow) => Ok(()),
+        Err(Refusal::NoUser) => Ok(()),
+        Err(refusal) => Err(refusal),
+    }
+}
+
+/// The row at a place is taken out, and the first one after it that is due is looked for.
+///
+/// # Errors
+///
+/// The row is there still. Where it is out and the next one can't be read, that is told inside.
+pub(crate) fn take_then_find<S: Alter>(
+    alloc: Global,
+    store: &mut Store<S>,
+    place: &Queued,
+    waits: &[Wait],
+    now: u64,
+) -> Result<Result<Option<Post>, Refusal>, Refusal>
+    ensures { Works (Takes waits.now now place.now result) (state S.Store store.old) (state S.Store store.new) }
+{
+    let start = copy_of(alloc, place)?;
+    take_row(store, place)?;
+    Ok(find_post(store, start, waits, now))
+}
