@@ -40,6 +40,20 @@ impl<'a, W: Write, E: Write, T: Clock> Book<'a, W, E, T> {
             clock,
         }
     }
+
+    /// What is known of rows that wait.
+    pub fn into_waits(self) -> List<Wait>
+        ensures { result ≡ self.entry.waits }
+    {
+        let Book {
+            alloc: _,
+            waits,
+            output: _,
+            errors: _,
+            clock: _,
+        } = self;
+        waits
+    }
 }
 
 impl<W: Write, E: Write, T: Clock> Journal for Book<'_, W, E, T> {

@@ -20,13 +20,7 @@ use wires::service::Service;
 
 /// Serves many clients at once, from the store of a keeper. What is inherited is on the descriptor. The answer is the exit status,
 /// where there is one.
-pub fn serve_many<
-    N: Net + Files + Clock,
-    D: AsFd,
-    W: Write,
-    E: Write + Drop,
-    K: Keeper + Drop,
->(
+pub fn serve_many<N: Net + Files + Clock, D: AsFd, W: Write, E: Write + Drop, K: Keeper + Drop>(
     system: &N,
     alloc: Global,
     words: words::Daemon<'_>,
@@ -39,7 +33,15 @@ pub fn serve_many<
         Ok(asked) => asked,
         Err(fault) => return refuse(&mut errors, trouble_of(fault)),
     };
-    let listening = match begin(system, alloc, words, &asked, descriptor, &mut errors, &mut keeper) {
+    let listening = match begin(
+        system,
+        alloc,
+        words,
+        &asked,
+        descriptor,
+        &mut errors,
+        &mut keeper,
+    ) {
         Ok(Some(listening)) => listening,
         Ok(None) => return 0,
         Err(trouble) => return refuse(&mut errors, trouble),

@@ -79,7 +79,8 @@ fn names_of(text: Option<&str>) -> Result<Names, Fault> {
     }
 }
 
-fn host_of(text: Option<&str>) -> Result<&str, Fault> {
+/// The name of this host: `localhost` where it isn't said.
+pub fn host_of(text: Option<&str>) -> Result<&str, Fault> {
     let Some(name) = text else {
         return Ok("localhost");
     };

@@ -5,6 +5,10 @@
 mod daemon;
 mod listener;
 mod listening;
+mod memo;
+mod run_file;
+mod send;
+mod wall_clock;
 
 use clap::error::ErrorKind;
 use daemon::serve_many;
@@ -12,10 +16,11 @@ use keepers::{FileKeeper, Keeper};
 use listener::serve;
 use mailsinks::{MailSink, Maildir};
 use octets::Octets;
+use send::send;
 use sievedrun::drive::drive;
 use sievedrun::fault::{Fault, refuse};
 use sievedrun::session::run_session;
-use sievedwords::{CommandLine, ReadError, Subcommand, read};
+use sievedwords::{CommandLine, ReadError, Send, Subcommand, read};
 use std::alloc::{AllocError, Global};
 use std::env::{Env, FillError};
 use std::fs::Files;
@@ -35,6 +40,11 @@ fn main(rt: HostRuntime) -> ExitCode {
 
 /// Does what the words ask for, over the standard streams and a file, and answers the exit status.
 fn run(rt: &HostRuntime, words: &CommandLine) -> u8 {
+    match sending(rt.alloc(), words) {
+        Err(refused) => return refuse(&mut rt.stderr(), Fault::from(refused)),
+        Ok(Some(asked)) => return send(rt, asked, &mut rt.stdout(), &mut rt.stderr()),
+        Ok(None) => {}
+    }
     answer(
         rt,
         rt.alloc(),
@@ -91,6 +101,18 @@ where
             clock,
             sink,
         ),
+    }
+}
+
+/// What the words ask for, where the first is `send` and the others are right.
+fn sending<'a>(alloc: Global, words: &'a CommandLine) -> Result<Option<Send<'a>>, AllocError> {
+    if words.first() != Some("send") {
+        return Ok(None);
+    }
+    match read(alloc, words) {
+        Ok(Subcommand::Send(asked)) => Ok(Some(asked)),
+        Err(ReadError::Said(error)) if error.kind() == ErrorKind::OutOfMemory => Err(AllocError),
+        _ => Ok(None),
     }
 }
 

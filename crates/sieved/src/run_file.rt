@@ -1,0 +1,117 @@
+//! The files of a run that sends, beside the store: `FILE.send`, its lock, and `FILE.send.waits`, what is known of rows that wait.
+use keepers::cause::of_file;
+use mailstore::Refusal;
+use octets::{List, Octets};
+use sendqueues::{Wait, read_waits, write_waits};
+use sievedrun::fault::Fault;
+use sievedrun::trouble::Trouble;
+use std::alloc::AllocError;
+use std::fs::{File, OpenOptions, TryLockError};
+use std::io::Write;
+use std::os::unix::fs::OpenOptionsExt;
+use std::{format, fs, io};
+
+/// The permissions of these files: their owner reads and writes them.
+const OWNER_ALONE: u32 = 0o600;
+
+/// A row that is gone is forgotten so many seconds after it was due.
+const FORGOTTEN: u64 = 172_800;
+
+/// The lock that one run has, until the file is dropped.
+///
+/// # Errors
+///
+/// `Busy` where another run has it; else why it can't be had.
+pub fn lock_run(rt: &HostRuntime, path: &str) -> Result<File, Trouble> {
+    let file = open_to_write(rt, path, "send", false)?;
+    match file.try_lock() {
+        Ok(()) => Ok(file),
+        Err(TryLockError::WouldBlock) => Err(Trouble {
+            fault: Fault::Busy,
+            cause: None,
+        }),
+        Err(TryLockError::Error(error)) => Err(trouble_of(&error)),
+    }
+}
+
+/// What was known of rows that wait, as the last run wrote it: none where there is no such file, or none that can be read. Lack of memory is
+/// the only error.
+pub fn read_run(rt: &HostRuntime, path: &str) -> Result<List<Wait>, AllocError> {
+    let alloc = rt.alloc();
+    let name = format!(in alloc; "{path}.send.waits")?;
+    match fs::read(rt, name.as_str()) {
+        Ok(octets) => read_waits(alloc, octets.as_slice()),
+        Err(_) => Ok(List::new(alloc)),
+    }
+}
+
+/// Writes what is known of rows that wait. Where that fails the next run knows what the last one knew.
+pub fn write_run(rt: &HostRuntime, path: &str, waits: &List<Wait>, now: u64) {
+    let Ok(text) = text_of(rt, waits, now) else {
+        return;
+    };
+    let _ = replace(rt, path, &text);
+}
+
+fn text_of(rt: &HostRuntime, waits: &List<Wait>, now: u64) -> Result<Octets, AllocError> {
+    let alloc = rt.alloc();
+    let mut kept = List::new(alloc);
+    for wait in waits.as_slice() {
+        if wait.due.saturating_add(FORGOTTEN) > now {
+            kept.push(wait.try_clone(alloc)?)?;
+        }
+    }
+    write_waits(alloc, kept.as_slice())
+}
+
+/// Puts a new file in the place of the one that is there.
+fn replace(rt: &HostRuntime, path: &str, text: &Octets) -> Result<(), Trouble> {
+    let mut file = open_to_write(rt, path, "send.waits.new", true)?;
+    if let Err(error) = file.write_all(text.as_slice()) {
+        return Err(trouble_of(&error));
+    }
+    drop(file);
+    let new = name_of(rt, path, "send.waits.new")?;
+    let name = name_of(rt, path, "send.waits")?;
+    match fs::rename(rt, new.as_str(), name.as_str()) {
+        Ok(()) => Ok(()),
+        Err(error) => Err(trouble_of(&error)),
+    }
+}
+
+/// The file beside the store with this ending, which is made where it is absent.
+fn open_to_write(
+    rt: &HostRuntime,
+    path: &str,
+    ending: &str,
+    empties: bool,
+) -> Result<File, Trouble> {
+    let name = name_of(rt, path, ending)?;
+    let opened = OpenOptions::new()
+        .write(true)
+        .create(true)
+        .truncate(empties)
+        .mode(OWNER_ALONE)
+        .open(rt, name.as_str());
+    match opened {
+        Ok(file) => Ok(file),
+        Err(error) => Err(trouble_of(&error)),
+    }
+}
+
+fn name_of(rt: &HostRuntime, path: &str, ending: &str) -> Result<String, Trouble> {
+    match format!(in rt.alloc(); "{path}.{ending}") {
+        Ok(name) => Ok(name),
+        Err(_) => Err(Trouble {
+            fault: Fault::Refused(Refusal::Memory),
+            cause: None,
+        }),
+    }
+}
+
+fn trouble_of(error: &io::Error) -> Trouble {
+    Trouble {
+        fault: Fault::Refused(Refusal::Store),
+        cause: of_file(error.kind()),
+    }
+}
