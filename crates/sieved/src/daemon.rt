@@ -46,7 +46,9 @@ pub fn serve_many<
     };
     match watch(system, alloc, listening, output) {
         Ok(sockets) => {
-            let host = Host::new(alloc, system, sockets, keeper, words.path, errors);
+            let host = Host::new(
+                alloc, system, sockets, keeper, words.path, words.quiet, errors,
+            );
             live(alloc, &asked, host)
         }
         Err(error) => refuse(&mut errors, trouble_of_socket(error)),
