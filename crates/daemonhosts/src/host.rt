@@ -7,6 +7,7 @@ ghost use Rattle.wires.specs.Told.{IsOwn};
 ghost use Rattle.daemonhosts.specs.Held.{Shows, IsClean, StillShown, Brings, Seeks};
 
 use crate::held::HeldStore;
+use crate::log::{is_delivered, of_delivery};
 use crate::pause::Pause;
 use crate::queue::Queue;
 use keepers::cause::of_sqlite;
@@ -50,17 +51,21 @@ pub struct Host<'a, N: Net + time::Clock, E: Write + Drop, K: Keeper + Drop> {
     pause: Pause,
     /// The first trouble with the store since it was taken.
     trouble: FirstTrouble,
+    /// No delivery that was made is told of.
+    quiet: bool,
     errors: E,
 }
 
 impl<'a, N: Net + time::Clock, E: Write + Drop, K: Keeper + Drop> Host<'a, N, E, K> {
-    /// The store isn't had yet. What goes wrong with it is told on the errors.
+    /// The store isn't had yet. What goes wrong with it is told on the errors, and what becomes of messages; unless it is `quiet`
+    /// of those that were delivered too.
     pub fn new(
         alloc: Global,
         system: &'a N,
         sockets: SystemSockets<'a, N>,
         keeper: K,
         path: &'a str,
+        quiet: bool,
         errors: E,
     ) -> Host<'a, N, E, K> {
         Host {
@@ -74,6 +79,7 @@ impl<'a, N: Net + time::Clock, E: Write + Drop, K: Keeper + Drop> Host<'a, N, E,
             failed: false,
             pause: Pause::none(),
             trouble: FirstTrouble::none(),
+            quiet,
             errors,
         }
     }
@@ -130,7 +136,7 @@ impl<'a, N: Net + time::Clock, E: Write + Drop, K: Keeper + Drop> Host<'a, N, E,
         let moment = seconds(self.system);
         match self.held.deliver(self.alloc, parcel, moment) {
             Some(answer) => {
-                self.note_answer(&answer);
+                self.note_delivery(parcel, &answer);
                 Some(answer)
             }
             None => None,
@@ -173,6 +179,26 @@ impl<'a, N: Net + time::Clock, E: Write + Drop, K: Keeper + Drop> Host<'a, N, E,
             _ => {
                 self.pause = Pause::none();
             }
+        }
+    }
+
+    /// The same of a delivery, of which is told.
+    fn note_delivery(&mut self, parcel: &Parcel, answer: &Answer)
+        ensures { self.new.held ≡ self.old.held }
+    {
+        self.note_answer(answer);
+        self.tell_delivery(parcel, answer);
+    }
+
+    /// Tells of a delivery, where it is to be told of and there is memory for that.
+    fn tell_delivery(&mut self, parcel: &Parcel, answer: &Answer)
+        ensures { self.new.held ≡ self.old.held }
+    {
+        if self.quiet && is_delivered(answer) {
+            return;
+        }
+        if let Ok(line) = of_delivery(self.alloc, parcel, answer) {
+            let _ = self.errors.write_all(line.as_slice());
         }
     }
 

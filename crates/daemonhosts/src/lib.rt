@@ -3,5 +3,6 @@
 
 pub mod held;
 pub mod host;
+mod log;
 mod pause;
 mod queue;

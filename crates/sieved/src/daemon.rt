@@ -48,7 +48,9 @@ pub fn serve_many<N: Net + Files + Clock, D: AsFd, W: Write, E: Write + Drop, K:
     };
     match watch(system, alloc, listening, output) {
         Ok(sockets) => {
-            let host = Host::new(alloc, system, sockets, keeper, words.path, errors);
+            let host = Host::new(
+                alloc, system, sockets, keeper, words.path, words.quiet, errors,
+            );
             live(alloc, &asked, host)
         }
         Err(error) => refuse(&mut errors, trouble_of_socket(error)),

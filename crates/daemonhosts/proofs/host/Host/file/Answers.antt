@@ -9,7 +9,7 @@ pub returns-in-Some : goal.returns-in-Some
 returns-in-Some g c =
     let shows = Shows g.K.S.Store g.K.Keeper.tells g.K.Keeper.holds in
     let event = delivery_of c.args.parcel.now c.seconds-moment.result in
-    let same : c.note_answer.new.self.held ≡ c.deliver.new.self = c.note_answer.ensures in (
+    let same : c.note_delivery.new.self.held ≡ c.deliver.new.self = c.note_delivery.ensures in (
       c.seconds-moment.result,
       λ kept clean.
           let clean_then : IsClean g.K.S.Store g.K.Keeper.tells c.deliver.new.self = subst (λ held. IsClean g.K.S.Store g.K.Keeper.tells held) same clean in
