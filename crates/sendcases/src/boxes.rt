@@ -1,0 +1,24 @@
+//! Texts that are mailboxes, or none.
+use casefiles::Answers;
+use octets::Octets;
+use smtpclient::is_mailbox;
+use std::alloc::{AllocError, Global};
+
+/// Answers `yes` or `no` to a text.
+#[derive(Drop)]
+pub struct Boxes;
+
+impl Answers for Boxes {
+    fn answer(
+        &mut self,
+        _alloc: Global,
+        out: &mut Octets,
+        given: &[Octets],
+    ) -> Result<(), AllocError> {
+        let holds = match given {
+            [text] => is_mailbox(text.as_slice()),
+            _ => false,
+        };
+        out.extend_from_slice(if holds { b"yes" } else { b"no" })
+    }
+}
