@@ -1,11 +1,13 @@
 -- Framing and rounds of a session by example: right ones, and what is near them.
 use Prim.Native.Nat.{zero}
-use Rattle.std.proofs.Common.{Bool, true, false, inl, inr, lit≤, suc, ◌<◌, get_or, refl, sym, ap, ◌∙◌, ◌≡◌, ℕ, List, [], ◌∷◌, ◌++◌, arith}
+use Rattle.std.proofs.Common.{Bool, true, false, inl, inr, lit≤, suc, ◌<◌, get_or, refl, sym, ap, ◌∙◌, ◌≡◌, ℕ, List, [], ◌∷◌, ◌++◌, Option, Some, None, IsTrue, is_some, arith}
 use Rattle.std.specs.Prelude.{codes}
+use Rattle.std.specs.Option.{option_copied}
 use Rattle.octets.specs.Ascii.{is_digit}
 use Rattle.octets.specs.Decimal.{Writes, number_of}
 use Rattle.msproto.specs.Machine.{rows as machine_rows}
 use Rattle.mailstore.specs.Account.{no_accounts}
+use Rattle.mailstore.specs.declared.refusal.Refusal.{Refusal}
 use Rattle.sessions.specs.declared.progress.Progress.TheVariants.{Done}
 use Rattle.sessions.specs.Clients.{Client, new_client, shut}
 use Rattle.sessions.specs.Replies.{done}
@@ -13,8 +15,10 @@ use Rattle.keepers.specs.declared.keeper.Unavailable.{Unavailable}
 use Rattle.keepers.specs.declared.keeper.Unavailable.TheVariants.{Busy}
 use Rattle.sessions.specs.Refusing.{WasRefused}
 use Rattle.sievedwords.specs.declared.location.StoreLocation.{StoreLocation}
+use Rattle.sievedrun.specs.Faults.{cause_line, line_of, store_failed}
 use Rattle.sievedrun.specs.Framing.{IsFramed}
-use Rattle.sievedrun.specs.Serving.{Round, HasGiven, Hinders, IsDenied, Hears, Steps, GivesUp, Leads, Unstopped, came_in, said_in}
+use Rattle.sievedrun.specs.Serving.{Round, HasClosed, HasGiven, Hinders, IsDenied, IsDeniedBy, IsTold, Stops, Hears, Steps, GivesUp, Leads, Unstopped, came_in, said_in}
+use Rattle.sievedrun.specs.Streams.{WriteFailed}
 
 five-digits : (k d : ℕ) → k < 1 → is_digit (get_or (codes "5") k d) ≡ true
 five-digits zero d k<1 = refl
@@ -138,3 +142,27 @@ module _ (here there : StoreLocation) (a : here.path.now ≡ codes "a.db") (b : 
 
   given_at_once : here.waits ≡ true → HasGiven GivesA waits_never here → ⊥
   given_at_once waits h = let no : false ≡ true = h.2 ∙ waits in cc
+
+-- a trouble is told by its line, and by the one on its cause; nothing tells of one, where no write failed
+told_so : IsTold (Some []) (Some (line_of store_failed))
+told_so = (record { fault = store_failed; cause = None }, inl refl)
+
+told_silently : IsTold (Some []) (Some []) → WriteFailed (Some [])
+told_silently (trouble, written) = elim written [
+  | inl all ↦ absurd (let is : [] ≡ line_of trouble.fault ++ cause_line (option_copied trouble.cause) = all in let never : ⊥ = cc in never)
+  | inr cut ↦ cut.1
+]
+
+-- what is given up untold was so since another process had the store; a store whose closing is untold could be closed
+untold_busy : {K : Type 0} (refuses : K → List ℕ → Unavailable → Type 0) (waits : K → Bool) (location : StoreLocation) (c : Client) → Stops refuses waits location ⊥ c → IsDeniedBy refuses waits location Busy
+untold_busy refuses waits location c stops = elim stops.1 [
+  | inl told ↦ absurd told
+  | inr busy ↦ busy
+]
+
+untold_closed : {K S : Type 0} (closes : K → S → Option Refusal → Type 0) (h : HasClosed closes ⊥) → h.2 ≡ None
+untold_closed closes h = none_of h.2 h.4
+  where
+    none_of : (came : Option Refusal) → (IsTrue (is_some came) → ⊥) → came ≡ None
+    none_of None told = refl
+    none_of (Some refusal) told = absurd (told refl)

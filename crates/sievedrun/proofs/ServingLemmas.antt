@@ -24,7 +24,7 @@ use Rattle.keepers.specs.declared.keeper.Unavailable.{Unavailable}
 use Rattle.keepers.specs.declared.keeper.Unavailable.TheVariants.{Busy, Refused}
 use Rattle.sievedrun.specs.declared.trouble.Trouble.{Trouble}
 use Rattle.sievedrun.specs.declared.trouble.FirstTrouble.{FirstTrouble}
-use Rattle.sievedrun.specs.Serving.{Round, IsDenied, IsDeniedBy, IsNoted, KeepsFirst, Hinders, IsRound, Leads, came_in, said_in, largest_piece, BeginsWith, Passes, Answered, Writes, Interrupted, WritesFirst, StepsOn, Served, BreaksOff, Converses, Serves, Stops, Unstopped, IsTold, TellsOne, AreSeen, PresentsSeen, database_seen}
+use Rattle.sievedrun.specs.Serving.{Round, IsDenied, IsDeniedBy, IsNoted, KeepsFirst, IsRound, Leads, came_in, said_in, largest_piece, BeginsWith, Passes, Answered, Writes, Interrupted, WritesFirst, StepsOn, Served, BreaksOff, Converses, Serves, Stops, Unstopped, HasClosed, HasNoted, WasOut, IsTold, TellsOne, AreSeen, PresentsSeen, database_seen}
 use Rattle.sievedrun.specs.Faults.{IsPrinted, cause_line, line_of}
 use Rattle.sievedrun.specs.Streams.{AppendsFront, IsWritten}
 use Rattle.sievedrun.proofs.StreamLemmas.{front_on, nothing_read, nothing_written, read_on, written_on}
@@ -44,6 +44,23 @@ module _ (Given : Type 0) (Seen : Accounts → Type 0) (taken given : State) (op
       let carried = carries clean accounts (λ _. (opens accounts shown).1) in
       let turn : carried.0 ≡ accounts = subst (λ x. StepsTo c d x before after accounts carried.0) is carried.1 in
       (same, silent, ((opens accounts shown).0, subst (λ a. Presents given.now a) turn (carried.2 live)))
+
+pub steps_as : (Before Given : Type 0) (accounts : Accounts) (c : Client) (waited waits : List ℕ) (d : Client) (Shown : Accounts → Type 0) → (Before → Given) → StepsOn Before accounts c waited waits d Shown true → StepsOn Given accounts c waited waits d Shown true
+steps_as Before Given accounts c waited waits d Shown gives (progress, octets, later, joins, step, shown, reach) = (progress, octets, later, joins, step, shown, elim reach [ inl asks ↦ inl asks | inr given ↦ inr (gives given) ])
+
+-- ---- what came of closing a store
+
+-- of one that was out; where it couldn't be closed that is noted
+pub closed_so : {K S : Type 0} (closes : K → S → Option Refusal → Type 0) (keeper : K) (store : Option S) (came : Option Refusal) (Told : Type 0) → IfSome store (λ given. closes keeper given came) → IfSome came (λ refusal. Told) → IsTrue (is_some store) → HasClosed closes Told
+closed_so closes keeper None came Told closed noted out = absurd (let h = out in cc)
+closed_so closes keeper (Some store) came Told closed noted out = (keeper, store, came, closed, some_so came noted)
+  where
+    some_so : (o : Option Refusal) → IfSome o (λ refusal. Told) → IsTrue (is_some o) → Told
+    some_so None noted some = absurd (let h = some in cc)
+    some_so (Some refusal) noted some = noted
+
+pub closed_as : {K S : Type 0} (gives : K → List ℕ → Type 0) (waits : K → Bool) (closes : K → S → Option Refusal → Type 0) (location : StoreLocation) (Told Now : Type 0) → (Told → Now) → WasOut gives waits closes location Told → WasOut gives waits closes location Now
+closed_as gives waits closes location Told Now so (given, (keeper, store, came, closed, told)) = (given, (keeper, store, came, closed, λ some. so (told some)))
 
 -- ---- what is seen
 
@@ -84,6 +101,14 @@ kept_then a b c one two = (two.0 ∙ one.0, some_then a.trouble one.1)
     some_then None one = tt
     some_then (Some first) one = subst (λ o. IfSome o (λ first. c.trouble ≡ Some first)) one two.1
 
+-- what was noted stays so
+pub noted_then : (Denied : Unavailable → Type 0) (a b : FirstTrouble) → IfSome a.trouble (λ first. b.trouble ≡ Some first) → IsNoted Denied a → IsNoted Denied b
+noted_then Denied a b later noted = elim noted [ inl some ↦ inl (some_then a.trouble later some) | inr busy ↦ inr busy ]
+  where
+    some_then : (o : Option Trouble) → IfSome o (λ first. b.trouble ≡ Some first) → IsTrue (is_some o) → HasNoted b
+    some_then None is some = absurd (let h = some in cc)
+    some_then (Some first) is some = subst (λ o. IsTrue (is_some o)) (sym is) some
+
 -- ---- reads
 
 -- of a session that ended
@@ -101,7 +126,7 @@ pub told_one : (old new : Option (List ℕ)) (first : FirstTrouble) → ToldSoFa
 told_one old new first so = elim so [ inl none ↦ inl none.2 | inr told ↦ inr told.2 ]
 
 -- one that was noted stays so
-pub noted_still : (a b : FirstTrouble) → KeepsFirst a b → IsTrue (is_some a.trouble) → IsTrue (is_some b.trouble)
+pub noted_still : (a b : FirstTrouble) → KeepsFirst a b → HasNoted a → HasNoted b
 noted_still a b kept = some_still a.trouble kept.1
   where
     some_still : (o : Option Trouble) → IfSome o (λ first. b.trouble ≡ Some first) → IsTrue (is_some o) → IsTrue (is_some b.trouble)
@@ -158,41 +183,47 @@ stops_as refuses waits location Told Now so c stops = (stops.0, elim stops.1 [ i
 pub never_stops : (Stopped : Client → Type 0) (c : Client) → Unstopped c → Stopped c
 never_stops Stopped c never = absurd never
 
--- where one such cause is another
-module _ (First Stopped : Client → Type 0) (Given : Type 0) (so : (c : Client) → First c → Stopped c) where
-  round_as : (accounts : Accounts) (c : Client) (r : Round) → IsRound First Given accounts c r → IsRound Stopped Given accounts c r
+-- where one such cause is another, and a store that was given so was given otherwise
+module _ (First Stopped : Client → Type 0) (Before Given : Type 0) (so : (c : Client) → First c → Stopped c) (gives : Before → Given) where
+  round_as : (accounts : Accounts) (c : Client) (r : Round) → IsRound First Before accounts c r → IsRound Stopped Given accounts c r
   round_as accounts c r round = elim round [
     | inl heard ↦ inl heard
     | inr other ↦ elim other [
-      | inl stepped ↦ inr (inl stepped)
+      | inl stepped ↦ inr (inl (record {
+        ready = stepped.ready;
+        none = stepped.none;
+        progress = stepped.progress;
+        step = stepped.step;
+        reach = elim stepped.reach [ inl asks ↦ inl asks | inr given ↦ inr (gives given) ];
+      }))
       | inr gives ↦ inr (inr (record { ready = gives.ready; none = gives.none; cause = so c gives.cause; told = gives.told; drops = gives.drops; same = gives.same }))
     ]
   ]
 
-  leads_as : (accounts : Accounts) (c : Client) (rounds : List Round) (later : Accounts) (d : Client) → Leads First Given accounts c rounds later d → Leads Stopped Given accounts c rounds later d
+  leads_as : (accounts : Accounts) (c : Client) (rounds : List Round) (later : Accounts) (d : Client) → Leads First Before accounts c rounds later d → Leads Stopped Given accounts c rounds later d
   leads_as accounts c [] later d leads = leads
   leads_as accounts c (r ∷ rounds) later d leads = (round_as accounts c r leads.0, leads_as r.accounts r.client rounds later d leads.1)
 
-  passes_as : (accounts : Accounts) (c : Client) (rounds : List Round) (d : Client) (Shown : Accounts → Type 0) → Passes First Given accounts c rounds d Shown → Passes Stopped Given accounts c rounds d Shown
+  passes_as : (accounts : Accounts) (c : Client) (rounds : List Round) (d : Client) (Shown : Accounts → Type 0) → Passes First Before accounts c rounds d Shown → Passes Stopped Given accounts c rounds d Shown
   passes_as accounts c rounds d Shown p = record { later = p.later; leads = leads_as accounts c rounds p.later d p.leads; shown = p.shown }
 
-  pub answered_as : (accounts : Accounts) (c : Client) (waited waits : List ℕ) (d : Client) (Shown : Accounts → Type 0) → Answered First Given accounts c waited waits d Shown → Answered Stopped Given accounts c waited waits d Shown
+  pub answered_as : (accounts : Accounts) (c : Client) (waited waits : List ℕ) (d : Client) (Shown : Accounts → Type 0) → Answered First Before accounts c waited waits d Shown → Answered Stopped Given accounts c waited waits d Shown
   answered_as accounts c waited waits d Shown a = record { rounds = a.rounds; passes = passes_as accounts c a.rounds d Shown a.passes; none = a.none; joins = a.joins }
 
-  pub writes_as : (accounts : Accounts) (c : Client) (out out2 : Option (List ℕ)) (d : Client) (new : Database) → Writes First Given accounts c out out2 d new → Writes Stopped Given accounts c out out2 d new
+  pub writes_as : (accounts : Accounts) (c : Client) (out out2 : Option (List ℕ)) (d : Client) (new : Database) → Writes First Before accounts c out out2 d new → Writes Stopped Given accounts c out out2 d new
   writes_as accounts c out out2 d new a = record { rounds = a.rounds; passes = passes_as accounts c a.rounds d (Offers new) a.passes; none = a.none; written = a.written }
 
-  pub interrupted_as : (accounts : Accounts) (c : Client) (out out2 : Option (List ℕ)) (new : Database) → Interrupted First Given accounts c out out2 new → Interrupted Stopped Given accounts c out out2 new
+  pub interrupted_as : (accounts : Accounts) (c : Client) (out out2 : Option (List ℕ)) (new : Database) → Interrupted First Before accounts c out out2 new → Interrupted Stopped Given accounts c out out2 new
   interrupted_as accounts c out out2 new a = record { rounds = a.rounds; client = a.client; passes = passes_as accounts c a.rounds a.client (Offers new) a.passes; none = a.none; written = a.written }
 
-  pub served_as : (accounts : Accounts) (in_old in_new out out2 : Option (List ℕ)) (c : Client) (new : Database) → Served First Given accounts in_old in_new out out2 c new → Served Stopped Given accounts in_old in_new out out2 c new
+  pub served_as : (accounts : Accounts) (in_old in_new out out2 : Option (List ℕ)) (c : Client) (new : Database) → Served First Before accounts in_old in_new out out2 c new → Served Stopped Given accounts in_old in_new out out2 c new
   served_as accounts in_old in_new out out2 c new s = record { rounds = s.rounds; passes = passes_as accounts new_client s.rounds c (Offers new) s.passes; read = s.read; written = s.written; answered = s.answered }
 
-  converses_as : (accounts : Accounts) (in_old in_new out out2 : Option (List ℕ)) (new : Database) (r : Result (Unit {0}) Fault) → Converses First Given accounts in_old in_new out out2 new r → Converses Stopped Given accounts in_old in_new out out2 new r
+  converses_as : (accounts : Accounts) (in_old in_new out out2 : Option (List ℕ)) (new : Database) (r : Result (Unit {0}) Fault) → Converses First Before accounts in_old in_new out out2 new r → Converses Stopped Given accounts in_old in_new out out2 new r
   converses_as accounts in_old in_new out out2 new (Ok done) e = record { client = e.client; served = served_as accounts in_old in_new out out2 e.client new e.served; over = e.over }
   converses_as accounts in_old in_new out out2 new (Err fault) b = record { rounds = b.rounds; client = b.client; passes = passes_as accounts new_client b.rounds b.client (Offers new) b.passes; read = b.read; written = b.written }
 
-  pub serves_as : (in_old in_new out out2 : Option (List ℕ)) (old new : Database) (r : Result (Unit {0}) Fault) → Serves First Given in_old in_new out out2 old new r → Serves Stopped Given in_old in_new out out2 old new r
+  pub serves_as : (in_old in_new out out2 : Option (List ℕ)) (old new : Database) (r : Result (Unit {0}) Fault) → Serves First Before in_old in_new out out2 old new r → Serves Stopped Given in_old in_new out out2 old new r
   serves_as in_old in_new out out2 old new r s = record { talks = λ accounts shown. converses_as accounts in_old in_new out out2 new r (s.talks accounts shown); none = s.none }
 
 -- where what is given up has such a cause, and a store was given so
@@ -259,11 +290,11 @@ module _ (Stopped : Client → Type 0) (Given : Type 0) where
       subst (λ x. Answered Stopped Given accounts c waits waits2 x Shown) (sym same) (subst (λ w. Answered Stopped Given accounts c waits w c Shown) (sym silent) (answered_none accounts c waits Shown shown))
 
   -- what was seen is given back
-  pub answered_back : {X : Type 0} (sees : X → Database) (held new : Database) (store : Option X) → new ≡ database_seen sees held store → (accounts : Accounts) (c d : Client) (waits waits2 : List ℕ)
-      → Answered Stopped Given accounts c waits waits2 d (AreSeen Given sees held store) → Answered Stopped Given accounts c waits waits2 d (Offers new)
-  answered_back sees held new store is accounts c d waits waits2 a = record {
+  pub answered_back : {X : Type 0} (Gave : Type 0) (sees : X → Database) (held new : Database) (store : Option X) → new ≡ database_seen sees held store → (accounts : Accounts) (c d : Client) (waits waits2 : List ℕ)
+      → Answered Stopped Given accounts c waits waits2 d (AreSeen Gave sees held store) → Answered Stopped Given accounts c waits waits2 d (Offers new)
+  answered_back Gave sees held new store is accounts c d waits waits2 a = record {
     rounds = a.rounds;
-    passes = record { later = a.passes.later; leads = a.passes.leads; shown = offers_seen Given sees held new store is a.passes.later a.passes.shown };
+    passes = record { later = a.passes.later; leads = a.passes.leads; shown = offers_seen Gave sees held new store is a.passes.later a.passes.shown };
     none = a.none;
     joins = a.joins;
   }

@@ -8,6 +8,7 @@ use Rattle.msproto.specs.Replies.{spelled}
 use Rattle.mailstore.specs.Account.{Accounts}
 use Rattle.mailstore.specs.Schema.{no_schema}
 use Rattle.mailstore.specs.Shows.{Presents, Offers}
+use Rattle.mailstore.specs.declared.refusal.Refusal.{Refusal}
 use Rattle.sessions.specs.declared.progress.Progress.{Progress}
 use Rattle.sessions.specs.Clients.{Client, new_client, client_given, is_ready}
 use Rattle.sessions.specs.GivenUp.{text_given_up, client_given_up}
@@ -71,6 +72,18 @@ HasDenied refuses waits location fault = (keeper : _) × (denial : Unavailable) 
 abbrev pub HasGiven : {K : Type 0} → (K → List ℕ → Type 0) → (K → Bool) → StoreLocation → Type 0
 HasGiven gives waits location = (keeper : _) × gives keeper location.path.now × (waits keeper ≡ location.waits)
 
+-- such a keeper did, and a store is open
+abbrev pub HasOpen : {K X : Type 0} → (K → List ℕ → Type 0) → (K → Bool) → StoreLocation → Option X → Type 0
+HasOpen gives waits location store = HasGiven gives waits location × IsTrue (is_some store)
+
+-- what came of closing a store that a keeper took back; of one that couldn't be closed there is this: it is noted, or told
+abbrev pub HasClosed : {K S : Type 0} → (K → S → Option Refusal → Type 0) → Type 0 → Type 0
+HasClosed closes Told = (keeper : _) × (store : _) × (came : Option Refusal) × closes keeper store came × (IsTrue (is_some came) → Told)
+
+-- a keeper that waits so gave its store out at this path, and one took it back so
+abbrev pub WasOut : {K S : Type 0} → (K → List ℕ → Type 0) → (K → Bool) → (K → S → Option Refusal → Type 0) → StoreLocation → Type 0 → Type 0
+WasOut gives waits closes location Told = HasGiven gives waits location × HasClosed closes Told
+
 -- why what comes first can't be answered: the lock or the store was denied, or its step was refused
 abbrev pub Hinders : Type 0 → Client → Type 0
 Hinders Denied c = Denied ⊎ WasRefused c
@@ -91,9 +104,13 @@ StopsAt c waits d = (is_ready d ≡ false) ⊎ (largest_wait ≤ length waits) �
 abbrev pub KeepsFirst : FirstTrouble → FirstTrouble → Type 0
 KeepsFirst old new = (new.is_told ≡ old.is_told) × IfSome old.trouble (λ first. new.trouble ≡ Some first)
 
--- a trouble is noted; or another process had the store, which is none
+-- a trouble is noted
+abbrev pub HasNoted : FirstTrouble → Type 0
+HasNoted noted = IsTrue (is_some noted.trouble)
+
+-- the same; or another process had the store, which is no trouble
 abbrev pub IsNoted : (Unavailable → Type 0) → FirstTrouble → Type 0
-IsNoted Denied noted = IsTrue (is_some noted.trouble) ⊎ Denied Busy
+IsNoted Denied noted = HasNoted noted ⊎ Denied Busy
 
 -- so much was told of a trouble: its lines were written, or writing broke off in them
 abbrev pub IsTold : Option (List ℕ) → Option (List ℕ) → Type 0
@@ -236,8 +253,8 @@ pub record Serves (Stopped : Client → Type 0) (Given : Type 0) (in_old in_new 
   pub none : old.schema ≡ no_schema → new.schema ≡ no_schema
 
 -- the same of a reader, a writer and a keeper, by what is still to be read of the one, what was written to the other, and the tables of the third, which
--- says by `refuses` that it refused the lock or the store at the path, by `gives` that it gave the store out there, and by `waits` whether it waited. Of what
--- was given up there is this
-abbrev pub ServesBy : {A B C : Type 0} → (A → Option (List ℕ)) → A → A → (B → Option (List ℕ)) → B → B → (C → List ℕ → Unavailable → Type 0) → (C → List ℕ → Type 0) → (C → Bool) → StoreLocation → (C → Database) → C → C → Type 0 → Result (Unit {0}) Fault → Type 0
-ServesBy remaining in_old in_new contents out_old out_new refuses gives waits location holds old new Told result =
-    Serves (Stops refuses waits location Told) (HasGiven gives waits location) (remaining in_old) (remaining in_new) (contents out_old) (contents out_new) (holds old) (holds new) result
+-- says by `refuses` that it refused the lock or the store at the path, by `gives` that it gave the store out there, by `waits` whether it waited, and by
+-- `closes` what came of closing it. Of what was given up, and of a store that couldn't be closed, there is this
+abbrev pub ServesBy : {A B C S : Type 0} → (A → Option (List ℕ)) → A → A → (B → Option (List ℕ)) → B → B → (C → List ℕ → Unavailable → Type 0) → (C → List ℕ → Type 0) → (C → Bool) → (C → S → Option Refusal → Type 0) → StoreLocation → (C → Database) → C → C → Type 0 → Result (Unit {0}) Fault → Type 0
+ServesBy remaining in_old in_new contents out_old out_new refuses gives waits closes location holds old new Told result =
+    Serves (Stops refuses waits location Told) (WasOut gives waits closes location Told) (remaining in_old) (remaining in_new) (contents out_old) (contents out_new) (holds old) (holds new) result

@@ -12,8 +12,9 @@ ghost use Rattle.sievedrun.specs.declared.fault.Fault.{Fault};
 ghost use Rattle.sievedrun.specs.declared.fault.Fault.TheVariants.{Stream};
 ghost use Rattle.sievedrun.specs.Faults.{IsCutShort, store_failed};
 ghost use Rattle.sievedrun.specs.Promise.{status_after};
-ghost use Rattle.sievedrun.specs.Serving.{Answered, AreSeen, Converses, HasGiven, Hinders, IsDenied, IsDeniedBy, IsNoted, IsTold, KeepsFirst, PresentsSeen};
-ghost use Rattle.sievedrun.specs.Serving.{Served, ServesBy, StepsOn, Stops, StopsAt, TellsEnding, TellsOne, Unstopped, WritesAll, WritesFirst, database_seen};
+ghost use Rattle.sievedrun.specs.Serving.{Answered, AreSeen, Converses, HasGiven, HasNoted, HasOpen, Hinders, IsDenied, IsDeniedBy, IsNoted, IsTold, KeepsFirst};
+ghost use Rattle.sievedrun.specs.Serving.{PresentsSeen, Served, ServesBy, StepsOn, Stops, StopsAt, TellsEnding, TellsOne, Unstopped, WasOut, WritesAll};
+ghost use Rattle.sievedrun.specs.Serving.{WritesFirst, database_seen};
 ghost use Rattle.sievedrun.specs.Streams.{OutputFailed, ReadsOn, ReadsToEnd};
 
 use crate::fault::{Fault, refuse};
@@ -55,8 +56,8 @@ pub fn serve_one<R: Read, W: Write, K: Keeper>(
 ) -> Result<(), Fault>
     ensures back { K.is_out keeper.old ≡ false → K.is_out keeper.new ≡ false }
     ensures serves { IsTrue K.tells → K.is_out keeper.old ≡ false
-        → ServesBy R.remaining input.old input.new W.contents output.old output.new K.refuses K.gives K.will_wait location.entry K.holds keeper.old keeper.new (Unit {0})
-        result }
+        → ServesBy R.remaining input.old input.new W.contents output.old output.new K.refuses K.gives K.will_wait K.closes
+        location.entry K.holds keeper.old keeper.new (Unit {0}) result }
     ensures reads { OnOk result (ReadsToEnd R.remaining input.old input.new ⊎ ReadsOn R.remaining input.old input.new) }
     ensures fault { IfErr result IsCutShort }
 {
@@ -76,8 +77,8 @@ pub fn serve_client<R: Read, W: Write, E: Write, K: Keeper>(
 ) -> Result<(), Fault>
     ensures back { K.is_out keeper.old ≡ false → K.is_out keeper.new ≡ false }
     ensures serves { IsTrue K.tells → K.is_out keeper.old ≡ false
-        → ServesBy R.remaining input.old input.new W.contents output.old output.new K.refuses K.gives K.will_wait location.entry K.holds keeper.old keeper.new
-        (IsTold (E.contents errors.old) (E.contents errors.new)) result }
+        → ServesBy R.remaining input.old input.new W.contents output.old output.new K.refuses K.gives K.will_wait K.closes
+        location.entry K.holds keeper.old keeper.new (IsTold (E.contents errors.old) (E.contents errors.new)) result }
     ensures told { TellsOne (E.contents errors.old) (E.contents errors.new) }
     ensures reads { OnOk result (ReadsToEnd R.remaining input.old input.new ⊎ ReadsOn R.remaining input.old input.new) }
     ensures fault { IfErr result IsCutShort }
@@ -101,8 +102,8 @@ pub fn run_session<R: Read, W: Write, E: Write, K: Keeper>(
     ensures reads { result ≡ 0 → ReadsToEnd R.remaining input.old input.new ⊎ ReadsOn R.remaining input.old input.new }
     ensures serves { IsTrue K.tells → K.is_out keeper.old ≡ false → (ending : Result (Unit {0}) Fault) × (told : Option (List ℕ))
         × (result ≡ status_after ending) × IfErr ending IsCutShort × TellsOne (E.contents errors.old) told × TellsEnding ending told (E.contents errors.new)
-        × ServesBy R.remaining input.old input.new W.contents output.old output.new K.refuses K.gives K.will_wait location.entry K.holds keeper.old keeper.new
-        (IsTold (E.contents errors.old) told) ending }
+        × ServesBy R.remaining input.old input.new W.contents output.old output.new K.refuses K.gives K.will_wait K.closes
+        location.entry K.holds keeper.old keeper.new (IsTold (E.contents errors.old) told) ending }
 {
     match serve_client(alloc, location, input, output, errors, keeper) {
         Ok(()) => 0,
@@ -125,10 +126,11 @@ fn converse<R: Read, W: Write, E: Write, K: Keeper>(
         ⊎ ((session.new.client.closed ≡ true) × ReadsOn R.remaining input.old input.new)) }
     ensures back { K.is_out keeper.old ≡ false → K.is_out keeper.new ≡ false }
     ensures serves { IsTrue K.tells → K.is_out keeper.old ≡ false → (accounts : Accounts) (first_in first_out : Option (List ℕ))
-        → Served Unstopped (HasGiven K.gives K.will_wait location.entry) accounts first_in (R.remaining input.old) first_out
+        → Served Unstopped ⊥ accounts first_in (R.remaining input.old) first_out
         (W.contents output.old) session.old.client
         (K.holds keeper.old)
-        → Converses (Stops K.refuses K.will_wait location.entry (IsTold (E.contents errors.old) (E.contents errors.new))) (HasGiven K.gives K.will_wait location.entry)
+        → Converses (Stops K.refuses K.will_wait location.entry (IsTold (E.contents errors.old) (E.contents errors.new)))
+        (WasOut K.gives K.will_wait K.closes location.entry (IsTold (E.contents errors.old) (E.contents errors.new)))
         accounts first_in (R.remaining input.new) first_out (W.contents output.new) (K.holds keeper.new) result }
     ensures told { TellsOne (E.contents errors.old) (E.contents errors.new) }
     ensures none { IsTrue K.tells → (K.holds keeper.old).schema ≡ no_schema → (K.holds keeper.new).schema ≡ no_schema }
@@ -164,7 +166,8 @@ fn answer_all<W: Write, K: Keeper>(
     ensures kept { KeepsFirst trouble.old trouble.new }
     ensures back { K.is_out keeper.old ≡ false → K.is_out keeper.new ≡ false }
     ensures answers { IsTrue K.tells → K.is_out keeper.old ≡ false → (accounts : Accounts) → Offers (K.holds keeper.old) accounts
-        → WritesAll (Stops K.refuses K.will_wait location.entry (IsTrue (is_some trouble.new.trouble))) (HasGiven K.gives K.will_wait location.entry)
+        → WritesAll (Stops K.refuses K.will_wait location.entry (HasNoted trouble.new))
+        (WasOut K.gives K.will_wait K.closes location.entry (HasNoted trouble.new))
         accounts session.old.client (W.contents output.old) (W.contents output.new) session.new.client (K.holds keeper.new) result }
     ensures none { IsTrue K.tells → (K.holds keeper.old).schema ≡ no_schema → (K.holds keeper.new).schema ≡ no_schema }
     ensures fault { IfErr result (λ fault. (fault ≡ Stream) × OutputFailed) }
@@ -192,7 +195,8 @@ fn answer_some<W: Write, K: Keeper>(
     ensures kept { KeepsFirst trouble.old trouble.new }
     ensures back { K.is_out keeper.old ≡ false → K.is_out keeper.new ≡ false }
     ensures answers { IsTrue K.tells → K.is_out keeper.old ≡ false → (accounts : Accounts) → Offers (K.holds keeper.old) accounts
-        → WritesFirst (Stops K.refuses K.will_wait location.entry (IsTrue (is_some trouble.new.trouble))) (HasGiven K.gives K.will_wait location.entry)
+        → WritesFirst (Stops K.refuses K.will_wait location.entry (HasNoted trouble.new))
+        (WasOut K.gives K.will_wait K.closes location.entry (HasNoted trouble.new))
         accounts session.old.client (W.contents output.old) (W.contents output.new) session.new.client (K.holds keeper.new) result }
     ensures none { IsTrue K.tells → (K.holds keeper.old).schema ≡ no_schema → (K.holds keeper.new).schema ≡ no_schema }
     ensures fault { IfErr result (λ fault. (fault ≡ Stream) × OutputFailed) }
@@ -218,7 +222,8 @@ fn answer_under_lock<K: Keeper>(
     requires { is_ready session.old.client ≡ true }
     ensures back { K.is_out keeper.old ≡ false → K.is_out keeper.new ≡ false }
     ensures answers { IsTrue K.tells → (accounts : Accounts) → Offers (K.holds keeper.old) accounts
-        → Answered Unstopped (HasGiven K.gives K.will_wait location.entry) accounts session.old.client answers.old answers.new session.new.client
+        → Answered Unstopped (WasOut K.gives K.will_wait K.closes location.entry (HasNoted trouble.new))
+        accounts session.old.client answers.old answers.new session.new.client
         (Offers (K.holds keeper.new)) }
     ensures whole { IsTrue result → StopsAt session.old.client answers.new session.new.client }
     ensures stopped { result ≡ false → is_ready session.new.client ≡ true }
@@ -243,6 +248,7 @@ fn answer_under_lock<K: Keeper>(
         }
         Err(denial) => {
             note_denial(trouble, denial, keeper);
+            note_refusal(trouble, unclosed, keeper);
             false
         }
     }
@@ -279,7 +285,7 @@ fn answer_ready<K: Keeper>(
 ) -> Result<(), Unavailable>
     ensures answers { IsTrue K.tells → (accounts : Accounts)
         → AreSeen (HasGiven K.gives K.will_wait location.entry) (λ s. (state K.S.Store s).now) (K.holds keeper.old) store.old accounts
-        → Answered Unstopped (HasGiven K.gives K.will_wait location.entry) accounts session.old.client answers.old answers.new session.new.client
+        → Answered Unstopped (HasOpen K.gives K.will_wait location.entry store.new) accounts session.old.client answers.old answers.new session.new.client
         (AreSeen (HasGiven K.gives K.will_wait location.entry) (λ s. (state K.S.Store s).now) (K.holds keeper.new) store.new) }
     ensures whole { OnOk result (StopsAt session.old.client answers.new session.new.client) }
     ensures stopped { OnErr result (is_ready session.new.client ≡ true) }
@@ -309,9 +315,10 @@ fn answer_first<K: Keeper>(
 ) -> Result<(), Unavailable>
     ensures steps { IsTrue K.tells → (accounts : Accounts)
         → AreSeen (HasGiven K.gives K.will_wait location.entry) (λ s. (state K.S.Store s).now) (K.holds keeper.old) store.old accounts
-        → StepsOn (HasGiven K.gives K.will_wait location.entry) accounts session.old.client answers.old answers.new session.new.client
+        → StepsOn (HasOpen K.gives K.will_wait location.entry store.new) accounts session.old.client answers.old answers.new session.new.client
         (AreSeen (HasGiven K.gives K.will_wait location.entry) (λ s. (state K.S.Store s).now) (K.holds keeper.new) store.new) (is_ok result) }
     ensures same { OnErr result ((session.new ≡ session.old) × (answers.new ≡ answers.old)) }
+    ensures open { IsTrue (is_some store.old) → IsTrue (is_some store.new) }
     ensures cause { OnErr result (Hinders (IsDenied K.refuses K.will_wait location.entry) session.new.client) }
     ensures busy { result ≡ Err Busy → IsDeniedBy K.refuses K.will_wait location.entry Busy }
     ensures none { IsTrue K.tells → (K.holds keeper.old).schema ≡ no_schema → store.old ≡ None
@@ -339,9 +346,10 @@ fn answer_over_store<K: Keeper>(
     requires { Asked session.old.client order.now }
     ensures steps { IsTrue K.tells → (accounts : Accounts)
         → AreSeen (HasGiven K.gives K.will_wait location.entry) (λ s. (state K.S.Store s).now) (K.holds keeper.old) store.old accounts
-        → StepsOn (HasGiven K.gives K.will_wait location.entry) accounts session.old.client answers.old answers.new session.new.client
+        → StepsOn (HasOpen K.gives K.will_wait location.entry store.new) accounts session.old.client answers.old answers.new session.new.client
         (AreSeen (HasGiven K.gives K.will_wait location.entry) (λ s. (state K.S.Store s).now) (K.holds keeper.new) store.new) (is_ok result) }
     ensures same { OnErr result ((session.new ≡ session.old) × (answers.new ≡ answers.old)) }
+    ensures open { IsTrue (is_some store.old) → IsTrue (is_some store.new) }
     ensures cause { OnErr result (Hinders (IsDenied K.refuses K.will_wait location.entry) session.new.client) }
     ensures busy { result ≡ Err Busy → IsDeniedBy K.refuses K.will_wait location.entry Busy }
     ensures none { IsTrue K.tells → (K.holds keeper.old).schema ≡ no_schema → store.old ≡ None

@@ -3,14 +3,14 @@ use Rattle.std.proofs.Common.{◌≡◌, None, IsTrue}
 use Rattle.sqlite.specs.Held.{state}
 use Rattle.mailstore.specs.Account.{Accounts}
 use Rattle.mailstore.specs.Schema.{no_schema}
-use Rattle.sievedrun.specs.Serving.{Answered, AreSeen, HasGiven, Unstopped, StoodReady}
+use Rattle.sievedrun.specs.Serving.{Answered, AreSeen, HasGiven, HasOpen, Unstopped, StoodReady}
 use Rattle.sievedrun.specs.Streams.{InTurn}
 use Rattle.sievedrun.proofs.session.answer_ready.Given as goal
 
 abbrev pub invariant-loop : goal.invariant-loop
 invariant-loop g l = record {
   answered : IsTrue g.K.Keeper.tells → (accounts : Accounts) → AreSeen (HasGiven g.K.Keeper.gives g.K.Keeper.will_wait l.location) (λ s. (state g.K.S.Store s).now) (g.K.Keeper.holds l.initial.keeper) l.initial.store accounts
-      → Answered Unstopped (HasGiven g.K.Keeper.gives g.K.Keeper.will_wait l.location) accounts l.initial.session.client l.initial.answers l.answers l.session.client (AreSeen (HasGiven g.K.Keeper.gives g.K.Keeper.will_wait l.location) (λ s. (state g.K.S.Store s).now) (g.K.Keeper.holds l.keeper) l.store);
+      → Answered Unstopped (HasOpen g.K.Keeper.gives g.K.Keeper.will_wait l.location l.store) accounts l.initial.session.client l.initial.answers l.answers l.session.client (AreSeen (HasGiven g.K.Keeper.gives g.K.Keeper.will_wait l.location) (λ s. (state g.K.S.Store s).now) (g.K.Keeper.holds l.keeper) l.store);
   none : IsTrue g.K.Keeper.tells → (g.K.Keeper.holds l.initial.keeper).schema ≡ no_schema → l.initial.store ≡ None → (g.K.Keeper.holds l.keeper ≡ g.K.Keeper.holds l.initial.keeper) × (l.store ≡ None);
   turns : InTurn StoodReady l.initial.session.client l.counter l.session.client;
   closed : g.K.Keeper.unclosed l.keeper ≡ g.K.Keeper.unclosed l.initial.keeper;

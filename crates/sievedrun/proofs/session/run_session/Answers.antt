@@ -1,7 +1,5 @@
 -- A session that ended has status 0, which is that of no fault; of one that broke off it is told why, after its trouble.
-use Rattle.std.proofs.Common.{Ok, Err, refl, subst, arith}
-use Rattle.sievedrun.specs.Faults.{IsCutShort}
-use Rattle.sievedrun.specs.Serving.{IsTold, ServesBy}
+use Rattle.std.proofs.Common.{Ok, Err, refl, arith}
 use Rattle.sievedrun.proofs.StatusLemmas.{status_some}
 use Rattle.sievedrun.proofs.session.run_session.Goals as goal
 

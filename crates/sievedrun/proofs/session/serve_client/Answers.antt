@@ -5,7 +5,7 @@ use Rattle.sessions.specs.Clients.{new_client}
 use Rattle.sessions.specs.Counts.{SessionView}
 use Rattle.sessions.specs.Replies.{capabilities}
 use Rattle.sievedrun.specs.Faults.{memory}
-use Rattle.sievedrun.specs.Serving.{HasGiven, IsTold, Serves, Stops, Unstopped}
+use Rattle.sievedrun.specs.Serving.{IsTold, Serves, Stops, Unstopped, WasOut}
 use Rattle.sievedrun.proofs.StreamLemmas.{nothing_written}
 use Rattle.sievedrun.proofs.ServingLemmas.{broken_first, reads_out, served_first}
 use Rattle.sievedrun.proofs.session.serve_client.Goals as goal
@@ -15,8 +15,8 @@ returns-in_err-session-clause-serves g c tells idle =
     let input = g.R.Read.remaining c.args.input.now in
     let out = g.W.Write.contents c.args.output.now in
     let is : c.from_residual.result ≡ Err memory = search rules in
-    subst (Serves (Stops g.K.Keeper.refuses g.K.Keeper.will_wait c.args.location (IsTold (g.E.Write.contents c.args.errors.now) (g.E.Write.contents c.args.errors.now))) (HasGiven g.K.Keeper.gives g.K.Keeper.will_wait c.args.location) input input out out (g.K.Keeper.holds c.args.keeper.now) (g.K.Keeper.holds c.args.keeper.now)) (sym is)
-    (record { talks = λ accounts shown. broken_first (Stops g.K.Keeper.refuses g.K.Keeper.will_wait c.args.location (IsTold (g.E.Write.contents c.args.errors.now) (g.E.Write.contents c.args.errors.now))) (HasGiven g.K.Keeper.gives g.K.Keeper.will_wait c.args.location) accounts input out out (spelled (capabilities None)) (g.K.Keeper.holds c.args.keeper.now) shown refl (0, nothing_written out); none = λ h. h })
+    subst (Serves (Stops g.K.Keeper.refuses g.K.Keeper.will_wait c.args.location (IsTold (g.E.Write.contents c.args.errors.now) (g.E.Write.contents c.args.errors.now))) (WasOut g.K.Keeper.gives g.K.Keeper.will_wait g.K.Keeper.closes c.args.location (IsTold (g.E.Write.contents c.args.errors.now) (g.E.Write.contents c.args.errors.now))) input input out out (g.K.Keeper.holds c.args.keeper.now) (g.K.Keeper.holds c.args.keeper.now)) (sym is)
+    (record { talks = λ accounts shown. broken_first (Stops g.K.Keeper.refuses g.K.Keeper.will_wait c.args.location (IsTold (g.E.Write.contents c.args.errors.now) (g.E.Write.contents c.args.errors.now))) (WasOut g.K.Keeper.gives g.K.Keeper.will_wait g.K.Keeper.closes c.args.location (IsTold (g.E.Write.contents c.args.errors.now) (g.E.Write.contents c.args.errors.now))) accounts input out out (spelled (capabilities None)) (g.K.Keeper.holds c.args.keeper.now) shown refl (0, nothing_written out); none = λ h. h })
 
 pub returns-in_err-write_all-clause-serves : goal.returns-in_err-write_all-clause-serves
 returns-in_err-write_all-clause-serves g c tells idle =
@@ -25,8 +25,8 @@ returns-in_err-write_all-clause-serves g c tells idle =
     let out2 = g.W.Write.contents c.write_all.new.output in
     let is : c.from_residual-in_err-write_all.result ≡ Err c.in_err-write_all.field-0.0 = search rules in
     let greets : c.as_slice.result.now ≡ spelled (capabilities None) = search rules in
-    subst (Serves (Stops g.K.Keeper.refuses g.K.Keeper.will_wait c.args.location (IsTold (g.E.Write.contents c.args.errors.now) (g.E.Write.contents c.args.errors.now))) (HasGiven g.K.Keeper.gives g.K.Keeper.will_wait c.args.location) input input out out2 (g.K.Keeper.holds c.args.keeper.now) (g.K.Keeper.holds c.args.keeper.now)) (sym is)
-    (record { talks = λ accounts shown. broken_first (Stops g.K.Keeper.refuses g.K.Keeper.will_wait c.args.location (IsTold (g.E.Write.contents c.args.errors.now) (g.E.Write.contents c.args.errors.now))) (HasGiven g.K.Keeper.gives g.K.Keeper.will_wait c.args.location) accounts input out out2 c.as_slice.result.now (g.K.Keeper.holds c.args.keeper.now) shown greets c.in_err-write_all.ensures.1.0; none = λ h. h })
+    subst (Serves (Stops g.K.Keeper.refuses g.K.Keeper.will_wait c.args.location (IsTold (g.E.Write.contents c.args.errors.now) (g.E.Write.contents c.args.errors.now))) (WasOut g.K.Keeper.gives g.K.Keeper.will_wait g.K.Keeper.closes c.args.location (IsTold (g.E.Write.contents c.args.errors.now) (g.E.Write.contents c.args.errors.now))) input input out out2 (g.K.Keeper.holds c.args.keeper.now) (g.K.Keeper.holds c.args.keeper.now)) (sym is)
+    (record { talks = λ accounts shown. broken_first (Stops g.K.Keeper.refuses g.K.Keeper.will_wait c.args.location (IsTold (g.E.Write.contents c.args.errors.now) (g.E.Write.contents c.args.errors.now))) (WasOut g.K.Keeper.gives g.K.Keeper.will_wait g.K.Keeper.closes c.args.location (IsTold (g.E.Write.contents c.args.errors.now) (g.E.Write.contents c.args.errors.now))) accounts input out out2 c.as_slice.result.now (g.K.Keeper.holds c.args.keeper.now) shown greets c.in_err-write_all.ensures.1.0; none = λ h. h })
 
 pub returns-clause-serves : goal.returns-clause-serves
 returns-clause-serves g c tells idle =
@@ -37,7 +37,7 @@ returns-clause-serves g c tells idle =
     let begins : c.in_ok-session.session.client ≡ new_client = ap (λ (s : SessionView). s.client) c.in_ok-session.ensures.begins in
     record {
       talks = λ accounts shown. c.converse.ensures.serves tells idle accounts input out
-          (served_first Unstopped (HasGiven g.K.Keeper.gives g.K.Keeper.will_wait c.args.location) accounts input out out2 c.in_ok-session.session.client c.as_slice.result.now (g.K.Keeper.holds c.args.keeper.now) shown begins greets c.in_ok-write_all.ensures.0);
+          (served_first Unstopped ⊥ accounts input out out2 c.in_ok-session.session.client c.as_slice.result.now (g.K.Keeper.holds c.args.keeper.now) shown begins greets c.in_ok-write_all.ensures.0);
       none = c.converse.ensures.none tells;
     }
 
