@@ -49,7 +49,13 @@ pub fn serve_many<N: Net + Files + Clock, D: AsFd, W: Write, E: Write + Drop, K:
     match watch(system, alloc, listening, output) {
         Ok(sockets) => {
             let host = Host::new(
-                alloc, system, sockets, keeper, words.path, words.quiet, errors,
+                alloc,
+                system,
+                sockets,
+                keeper,
+                words.path,
+                words.quiet,
+                errors,
             );
             live(alloc, &asked, host)
         }
