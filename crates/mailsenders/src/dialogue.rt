@@ -86,8 +86,7 @@ fn step<S: Server>(server: &mut S, letter: Spelled<'_>, stage: Stage) -> Turn
 
 fn write_stage<S: Server>(server: &mut S, letter: Spelled<'_>, stage: Stage) -> Result<(), Lost>
     requires { s.IsSpelled letter }
-    ensures ok { OnOk result ((t : Talk) → S.said server.old t
-        → S.said server.new (s.wrote t (spelled letter.entry.offered (mail_of letter.entry.letter) stage))) }
+    ensures ok { OnOk result ((t : Talk) → S.said server.old t → S.said server.new (s.wrote t (spelled letter.entry.offered (mail_of letter.entry.letter) stage))) }
     ensures err { OnErr result ((t : Talk) → S.said server.old t → (u : Talk) × S.said server.new u
         × s.WritesFront (spelled letter.entry.offered (mail_of letter.entry.letter) stage) t u) }
 {

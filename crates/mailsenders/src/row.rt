@@ -75,8 +75,7 @@ fn take_out<Q: Queue, J: Journal>(
     journal: &mut J,
     row: &Row,
 ) -> Result<(), Unavailable>
-    ensures taken { OnOk result ((rows : Rows) → Q.shows queue.old rows
-        → (after : Rows) × TakesOut row.now.user row.now.id rows after × Q.shows queue.new after) }
+    ensures taken { OnOk result ((rows : Rows) → Q.shows queue.old rows → (after : Rows) × TakesOut row.now.user row.now.id rows after × Q.shows queue.new after) }
     ensures kept { OnErr result ((rows : Rows) → Q.shows queue.old rows → Q.shows queue.new rows) }
 {
     for _ in 0..TRIES {
