@@ -65,7 +65,10 @@ fn add(out: &mut Octets, asked: Subcommand<'_>) -> Result<(), AllocError> {
             let host = asked.host.unwrap_or("no host");
             let most = asked.most.unwrap_or("all");
             let send_8bit = if asked.send_8bit { "8bit" } else { "" };
-            add_texts(out, &["send", asked.path, asked.smtp, host, most, send_8bit])
+            add_texts(
+                out,
+                &["send", asked.path, asked.smtp, host, most, send_8bit],
+            )
         }
         Subcommand::Serve(asked) => add_at(
             out,
@@ -83,7 +86,16 @@ fn add(out: &mut Octets, asked: Subcommand<'_>) -> Result<(), AllocError> {
             let quiet = if asked.quiet { "quiet" } else { "" };
             add_texts(
                 out,
-                &["daemon", asked.path, check, managesieve, lmtp, names, host, quiet],
+                &[
+                    "daemon",
+                    asked.path,
+                    check,
+                    managesieve,
+                    lmtp,
+                    names,
+                    host,
+                    quiet,
+                ],
             )
         }
     }
