@@ -166,7 +166,8 @@ def dialogues():
 
 def names():
     """Under which names an account is looked for."""
-    store = new_store("alice", "Bob", "postmaster", "carol@example.net")
+    store = new_store("alice", "Bob", "postmaster")
+    store.run("adduser", "--salt", os.urandom(16).hex(), "carol@example.net", "carol@example.net", data=b"secret\n")
     server, port = daemon(store, "--lmtp", "0")
     peer = Peer(port)
     greet(peer)

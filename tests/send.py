@@ -115,7 +115,7 @@ class House:
         self.store.run("deliver", "--wait", *words, "--to", to or f"{user}@example.org", user, data=b"To: %s@example.org\r\nFrom: dora@example.com\r\n" % user.encode() + text)
 
     def queue(self, user):
-        return self.store.run("queue", "--wait", user).decode().splitlines()
+        return self.store.run("queue", "--wait", user).decode("latin-1").splitlines()
 
     def put(self, user, sender, target, message):
         """A row that no script makes."""
@@ -246,11 +246,10 @@ def mended(message):
     if not message:
         return b""
     lines = message.split(b"\n")
-    if lines[-1] == b"":
-        lines.pop()
+    last = lines.pop()
+    lines = [line[:-1] if line.endswith(b"\r") else line for line in lines] + [last] * bool(last)
     found = []
     for line in lines:
-        line = line[:-1] if line.endswith(b"\r") else line
         found.append((b"?" if line.startswith(b"\r") else line[:1]) + line[1:].replace(b"\r", b" ") + b"\r\n")
     return b"".join(found)
 
