@@ -30,6 +30,13 @@ fn add_answer(alloc: Global, out: &mut Octets, answer: &Answer) -> Result<(), Al
         Answer::Added => add_line(out, b"", b"added"),
         Answer::Taken(row) => add_row(out, row),
         Answer::MailTaken => add_line(out, b"", b"mail taken"),
+        Answer::Changed => add_line(out, b"", b"changed"),
+        Answer::Stored => add_line(out, b"", b"stored"),
+        Answer::Invalid(_) => add_line(out, b"", b"invalid"),
+        Answer::Closed => add_line(out, b"", b"closed"),
+        Answer::Opened => add_line(out, b"", b"opened"),
+        Answer::Removed => add_line(out, b"", b"removed"),
+        Answer::NoticesTaken => add_line(out, b"", b"notices taken"),
         Answer::Ignored => add_line(out, b"", b"ignored"),
         Answer::Refused(refusal) => add_refusal(alloc, out, *refusal),
     }

@@ -38,8 +38,25 @@ fn add(out: &mut Octets, asked: Subcommand<'_>) -> Result<(), AllocError> {
             out,
             "adduser",
             asked.location,
-            &[asked.salt, asked.name, asked.address],
+            &[asked.salt.unwrap_or("no salt"), asked.name, asked.address],
         ),
+        Subcommand::Passwd(asked) => add_at(
+            out,
+            "passwd",
+            asked.location,
+            &[asked.salt.unwrap_or("no salt"), asked.user],
+        ),
+        Subcommand::Address(asked) => add_at(
+            out,
+            "address",
+            asked.location,
+            &[asked.user, asked.address],
+        ),
+        Subcommand::Remove(asked) => {
+            let mail = if asked.mail { "mail" } else { "" };
+            add_at(out, "remove", asked.location, &[mail, asked.user])
+        }
+        Subcommand::Open(asked) => add_at(out, "open", asked.location, &[asked.user]),
         Subcommand::Deliver(asked) => {
             add_location(out, "deliver", asked.location)?;
             add_envelope(out, asked.from, asked.to)?;
@@ -82,6 +99,8 @@ fn add(out: &mut Octets, asked: Subcommand<'_>) -> Result<(), AllocError> {
             let managesieve = asked.managesieve.unwrap_or("no port");
             let lmtp = asked.lmtp.unwrap_or("no place");
             let names = asked.names.unwrap_or("no names");
+            let mail = asked.mail.unwrap_or("no mail");
+            let separator = asked.separator.unwrap_or("no separator");
             let host = asked.host.unwrap_or("no host");
             let quiet = if asked.quiet { "quiet" } else { "" };
             add_texts(
@@ -93,6 +112,8 @@ fn add(out: &mut Octets, asked: Subcommand<'_>) -> Result<(), AllocError> {
                     managesieve,
                     lmtp,
                     names,
+                    mail,
+                    separator,
                     host,
                     quiet,
                 ],

@@ -17,8 +17,11 @@ use std::format;
 /// What the clock says, in seconds since 1970-01-01 UTC.
 pub const CLOCK: Option<u64> = Some(1_700_000_000);
 
+/// What the system gives at random.
+const RANDOM: Option<[u8; 16]> = Some(*b"0123456789abcdef");
+
 /// What a run may tell, those too that no case can bring about.
-const FAULTS: [Fault; 16] = [
+const FAULTS: [Fault; 22] = [
     Fault::Refused(Refusal::Memory),
     Fault::Refused(Refusal::Store),
     Fault::Busy,
@@ -31,6 +34,12 @@ const FAULTS: [Fault; 16] = [
     Fault::Refused(Refusal::UserExists),
     Fault::Refused(Refusal::BadUser),
     Fault::Refused(Refusal::NoRow),
+    Fault::Refused(Refusal::AccountClosed),
+    Fault::Refused(Refusal::UserIsOpen),
+    Fault::Refused(Refusal::UserHasMail),
+    Fault::Refused(Refusal::BadScriptName),
+    Fault::Refused(Refusal::ScriptTooLarge),
+    Fault::Refused(Refusal::TooManyScripts),
     Fault::NoMessage,
     Fault::NoMaildir,
     Fault::BadInput,
@@ -113,6 +122,7 @@ impl MemoryRuns {
             input: b"Subject: more\n\n",
             writes: NEVER,
             clock: CLOCK,
+            random: RANDOM,
             shows_words: false,
         };
         let mut out = Octets::new(alloc);
@@ -165,6 +175,7 @@ pub fn answer<K: Keeper, T: MailSink>(
                 input,
                 writes: if call == "full" { 0 } else { NEVER },
                 clock: if call == "timeless" { None } else { CLOCK },
+                random: if call == "timeless" { None } else { RANDOM },
                 shows_words: call == "said",
             };
             add_run(alloc, out, keeper, sink, run)
@@ -186,6 +197,8 @@ pub struct Run<'a> {
     pub writes: u64,
     /// The moment in seconds since 1970; none where the clock can't be read.
     pub clock: Option<u64>,
+    /// What the system gives at random; none where it gives nothing.
+    pub random: Option<[u8; 16]>,
     /// Whether all is shown of what is told of wrong words.
     pub shows_words: bool,
 }
@@ -210,6 +223,7 @@ pub fn add_run<K: Keeper, T: MailSink>(
         &mut errors,
         keeper,
         run.clock,
+        run.random,
         sink,
     );
     let told = errors.as_slice();

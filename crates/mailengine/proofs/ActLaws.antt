@@ -1,5 +1,5 @@
 -- The same acts of a user leave the user with the same account.
-use Rattle.std.proofs.Common.{◌≡◌, ℕ, Bool, true, false, cond, List, [], ◌∷◌, Option, Some, None, option_map, refl, sym, ◌∙◌, ap, subst, inl, inr}
+use Rattle.std.proofs.Common.{◌≡◌, ℕ, Bool, true, false, cond, List, [], ◌∷◌, Option, Some, None, MatchBool, option_map, refl, sym, ◌∙◌, ap, subst, inl, inr}
 use Rattle.addrparts.proofs.Outbounds.{bare-found}
 use Rattle.sieveexec.specs.Mails.{mail_of}
 use Rattle.sieveexec.specs.declared.envelope.Envelope.{Envelope}
@@ -7,7 +7,7 @@ use Rattle.msproto.specs.declared.commands.Command.{Command}
 use Rattle.msproto.specs.declared.commands.Command.TheVariants.{Capability, Noop, Logout, Authenticate, Unauthenticate, HaveSpace, PutScript, CheckScript, ListScripts, SetActive, GetScript, DeleteScript, RenameScript}
 use Rattle.msproto.specs.declared.commands.Command.TheVariants as verb
 use Rattle.msproto.specs.declared.replies.Reply.{Reply}
-use Rattle.mailstore.specs.Account.{Account, messages_in}
+use Rattle.mailstore.specs.Account.{Account, is_closed, open_one, has_mail, messages_in}
 use Rattle.mailstore.specs.declared.queue.Outgoing.{Outgoing}
 use Rattle.mailstore.specs.declared.report.Report.{Report}
 use Rattle.mailstore.specs.declared.refusal.Refusal.{Refusal}
@@ -18,9 +18,13 @@ use Rattle.deliverplan.proofs.DeliveryLaws.{one_delivery}
 use Rattle.mailengine.specs.declared.answer.Answer.{Answer}
 use Rattle.mailengine.specs.Limits.{limit_refusal}
 use Rattle.mailstore.specs.Account.{row_with}
-use Rattle.mailengine.specs.AccountEvents.{DeliversTo, active_text}
+use Rattle.mailengine.specs.AccountEvents.{DeliversTo, active_text, Refuses}
+use Rattle.sessions.specs.Table.{RepliesOf}
+use Rattle.mailengine.specs.Upkeep.{instead}
+use Rattle.mailengine.proofs.UpkeepLemmas.{keeps_one}
+use Rattle.mailstore.specs.declared.refusal.Refusal.TheVariants.{UserExists, UserHasMail}
 use Rattle.mailengine.specs.OwnActs as own
-use Rattle.mailengine.specs.OwnActs.{Act, ActsAlone, Alone, CommandsAlone, RepliesAlone, ReceivesIn, JoinsIn, TakesRowAlone, TakesAloneIn, TakesFirstAlone, TakesMailAloneIn}
+use Rattle.mailengine.specs.OwnActs.{Act, ActsAlone, Alone, CommandsAlone, RepliesAlone, ReceivesOpen, ReceivesIn, RenewsAlone, JoinsIn, TakesRowAlone, TakesOpen, TakesFirstAlone, TakesMailOpen}
 
 -- any two replies that a row allows agree in whether the word is OK
 AreAlike : (Reply → Type 0) → Type 0
@@ -95,22 +99,27 @@ commands_one account command octets one two is was = is.changed ∙ (go account 
     still a false true = refl
     still a false false = refl
 
+    -- to an account that is closed the command is early, whatever it is
+    shown : (a : Account) (c : Command) (closed : Bool) → RepliesOf (cond closed None (Some a)) c is.reply → RepliesOf (cond closed None (Some a)) c was.reply → obeyed c is.reply.word a ≡ obeyed c was.reply.word a
+    shown a c true h k = ap (λ (r : Reply). obeyed c r.word a) (h ∙ sym k)
+    shown a c false h k = changes_one a c is.reply was.reply h k
+
     go : (o : Option Account) (c : Command) → RepliesAlone o c is.reply → RepliesAlone o c was.reply → option_map (obeyed c is.reply.word) o ≡ option_map (obeyed c was.reply.word) o
     go None c h k = refl
     go (Some a) Unauthenticate h k = still a (is_ok is.reply.word) (is_ok was.reply.word)
     go (Some a) (CheckScript text) h k = still a (is_ok is.reply.word) (is_ok was.reply.word)
-    go (Some a) Capability h k = absurd h
-    go (Some a) (Noop tag) h k = absurd h
-    go (Some a) Logout h k = absurd h
-    go (Some a) (Authenticate mechanism response) h k = absurd h
-    go (Some a) (verb.Response text) h k = absurd h
-    go (Some a) (HaveSpace name size) h k = ap (λ b. Some b) (changes_one a (HaveSpace name size) is.reply was.reply h k)
-    go (Some a) (PutScript name text) h k = ap (λ b. Some b) (changes_one a (PutScript name text) is.reply was.reply h k)
-    go (Some a) ListScripts h k = ap (λ b. Some b) (changes_one a ListScripts is.reply was.reply h k)
-    go (Some a) (SetActive name) h k = ap (λ b. Some b) (changes_one a (SetActive name) is.reply was.reply h k)
-    go (Some a) (GetScript name) h k = ap (λ b. Some b) (changes_one a (GetScript name) is.reply was.reply h k)
-    go (Some a) (DeleteScript name) h k = ap (λ b. Some b) (changes_one a (DeleteScript name) is.reply was.reply h k)
-    go (Some a) (RenameScript old new) h k = ap (λ b. Some b) (changes_one a (RenameScript old new) is.reply was.reply h k)
+    go (Some a) Capability h k = ap (λ b. Some b) (shown a Capability (is_closed a) h k)
+    go (Some a) (Noop tag) h k = ap (λ b. Some b) (shown a (Noop tag) (is_closed a) h k)
+    go (Some a) Logout h k = ap (λ b. Some b) (shown a Logout (is_closed a) h k)
+    go (Some a) (Authenticate mechanism response) h k = ap (λ b. Some b) (shown a (Authenticate mechanism response) (is_closed a) h k)
+    go (Some a) (verb.Response text) h k = ap (λ b. Some b) (shown a (verb.Response text) (is_closed a) h k)
+    go (Some a) (HaveSpace name size) h k = ap (λ b. Some b) (shown a (HaveSpace name size) (is_closed a) h k)
+    go (Some a) (PutScript name text) h k = ap (λ b. Some b) (shown a (PutScript name text) (is_closed a) h k)
+    go (Some a) ListScripts h k = ap (λ b. Some b) (shown a ListScripts (is_closed a) h k)
+    go (Some a) (SetActive name) h k = ap (λ b. Some b) (shown a (SetActive name) (is_closed a) h k)
+    go (Some a) (GetScript name) h k = ap (λ b. Some b) (shown a (GetScript name) (is_closed a) h k)
+    go (Some a) (DeleteScript name) h k = ap (λ b. Some b) (shown a (DeleteScript name) (is_closed a) h k)
+    go (Some a) (RenameScript old new) h k = ap (λ b. Some b) (shown a (RenameScript old new) (is_closed a) h k)
 
 -- ---- deliveries
 
@@ -123,9 +132,11 @@ delivered_one moment envelope message a r1 r2 one two is was =
 receives_one : (o : Option Refusal) (account : Option Account) (envelope : Envelope) (message : List ℕ) (moment : ℕ) (answer : Answer) (one two : Option Account)
     → ReceivesIn o account envelope message moment answer one → ReceivesIn o account envelope message moment answer two → one ≡ two
 receives_one (Some refusal) account envelope message moment answer one two is was = is.stays ∙ sym was.stays
-receives_one None None envelope message moment answer one two is was = is.stays ∙ sym was.stays
-receives_one None (Some a) envelope message moment answer one two is was =
-    is.changed ∙ (ap (λ b. Some b) (delivered_one moment envelope message a is.report was.report is.after was.after is.delivers was.delivers) ∙ sym was.changed)
+receives_one None account envelope message moment answer one two is was = go (open_one account) is was
+  where
+    go : (o : Option Account) → ReceivesOpen account o envelope message moment answer one → ReceivesOpen account o envelope message moment answer two → one ≡ two
+    go None is was = is.stays ∙ sym was.stays
+    go (Some a) is was = is.changed ∙ (ap (λ b. Some b) (delivered_one moment envelope message a is.report was.report is.after was.after is.delivers was.delivers) ∙ sym was.changed)
 
 -- ---- acts
 
@@ -135,30 +146,37 @@ act_one user account (own.LogsIn password succeeds) one two is was = is.stays �
 act_one user account (own.Receives envelope message moment answer) one two is was = receives_one (limit_refusal envelope message moment) account envelope message moment answer one two is was
 act_one user account (own.Joins address salt password answer) one two (inl (new, is)) (inl (too, was)) = go account is was
   where
+    over : (a : Account) (closed full : Bool) → MatchBool closed (MatchBool full (Refuses UserHasMail (Some a) answer one) (RenewsAlone a address salt password answer one)) (Refuses UserExists (Some a) answer one)
+        → MatchBool closed (MatchBool full (Refuses UserHasMail (Some a) answer two) (RenewsAlone a address salt password answer two)) (Refuses UserExists (Some a) answer two) → one ≡ two
+    over a true true is was = is.stays ∙ sym was.stays
+    over a true false is was = is.changed ∙ sym was.changed
+    over a false full is was = is.stays ∙ sym was.stays
+
     go : (o : Option Account) → JoinsIn o address salt password answer one → JoinsIn o address salt password answer two → one ≡ two
     go None is was = is.changed ∙ sym was.changed
-    go (Some a) is was = is.stays ∙ sym was.stays
+    go (Some a) is was = over a (is_closed a) (has_mail a) is was
 act_one user account (own.Joins address salt password answer) one two (inr (bad, is)) (inr (too, was)) = is.stays ∙ sym was.stays
 act_one user account (own.Joins address salt password answer) one two (inl (new, is)) (inr (bad, was)) = absurd (bad new)
 act_one user account (own.Joins address salt password answer) one two (inr (bad, is)) (inl (new, was)) = absurd (bad new)
-act_one user account (own.TakesOut id answer) one two is was = go account is was
+act_one user account (own.TakesOut id answer) one two is was = go (open_one account) is was
   where
     row : (a : Account) (o : Option Outgoing) → TakesRowAlone a o answer one → TakesRowAlone a o answer two → one ≡ two
     row a None is was = is.stays ∙ sym was.stays
     row a (Some out) is was = is.changed ∙ sym was.changed
 
-    go : (o : Option Account) → TakesAloneIn o id answer one → TakesAloneIn o id answer two → one ≡ two
+    go : (o : Option Account) → TakesOpen account o id answer one → TakesOpen account o id answer two → one ≡ two
     go None is was = is.stays ∙ sym was.stays
     go (Some a) is was = row a (row_with id a.queue) is was
-act_one user account (own.TakesMail folder answer) one two is was = go account is was
+act_one user account (own.TakesMail folder answer) one two is was = go (open_one account) is was
   where
     row : (a : Account) (messages : List (List ℕ)) → TakesFirstAlone a folder messages answer one → TakesFirstAlone a folder messages answer two → one ≡ two
     row a [] is was = is.stays ∙ sym was.stays
     row a (message ∷ more) is was = is.changed ∙ sym was.changed
 
-    go : (o : Option Account) → TakesMailAloneIn o folder answer one → TakesMailAloneIn o folder answer two → one ≡ two
+    go : (o : Option Account) → TakesMailOpen account o folder answer one → TakesMailOpen account o folder answer two → one ≡ two
     go None is was = is.stays ∙ sym was.stays
     go (Some a) is was = row a (messages_in a.folders folder) is was
+act_one user account (own.IsKept upkeep answer) one two is was = is.2 ∙ (ap (λ o. instead o account) (keeps_one answer is.0 was.0 upkeep account is.1 was.1) ∙ sym was.2)
 
 pub alone_ends : (user : List ℕ) (acts : List Act) (account one two : Option Account) → Alone user account acts one → Alone user account acts two → one ≡ two
 alone_ends user [] account one two is was = is ∙ sym was

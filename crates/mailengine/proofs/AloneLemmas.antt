@@ -12,11 +12,12 @@ use Rattle.msproto.specs.declared.replies.Status.{Status}
 use Rattle.msproto.specs.Replies.{spelled}
 use Rattle.saslplain.specs.Parts.{login_of}
 use Rattle.sieveexec.specs.declared.envelope.Envelope.{Envelope}
-use Rattle.mailstore.specs.Account.{Account, Accounts, in_place, with_user, messages_in, takes_out, takes_mail}
+use Rattle.mailstore.specs.Account.{Account, Accounts, is_closed, open_one, open_of, has_mail, renews, in_place, with_user, messages_in, takes_out, takes_mail}
+use Rattle.mailstore.proofs.StandingLemmas.{open_there}
 use Rattle.sqlite_typed.proofs.TestLemmas.{bytes_eq_refl, same_bytes}
 use Rattle.mailstore.specs.declared.queue.Outgoing.{Outgoing}
 use Rattle.mailstore.specs.declared.refusal.Refusal.{Refusal}
-use Rattle.mailstore.specs.declared.refusal.Refusal.TheVariants.{Memory, Store, NotOurs, NoUser, TooLarge, BadEnvelope, BadMoment, UserExists, BadUser, NoRow}
+use Rattle.mailstore.specs.declared.refusal.Refusal.TheVariants.{Memory, Store, NotOurs, NoUser, TooLarge, BadEnvelope, BadMoment, UserExists, BadUser, NoRow, AccountClosed, UserIsOpen, UserHasMail, BadScriptName, ScriptTooLarge, TooManyScripts}
 use Rattle.sessions.specs.Clients.{Client, item_in, past}
 use Rattle.sessions.specs.Logins.{admitted, admitted_by, checked_by, has_password, is_plain, is_star, login_reply}
 use Rattle.sessions.specs.Replies.{is_ok, declined, farewell}
@@ -27,13 +28,16 @@ use Rattle.sessions.specs.Turns.{login_text}
 use Rattle.sessions.specs.declared.progress.Progress.{Progress}
 use Rattle.sessions.specs.declared.progress.Progress.TheVariants as p
 use Rattle.mailengine.specs.declared.event.Event.{Event}
-use Rattle.mailengine.specs.declared.event.Event.TheVariants.{Open, Give, Step, GiveUp, Close, Deliver, AddUser, TakeOut, TakeMail}
+use Rattle.mailengine.specs.declared.event.Event.TheVariants.{Open, Give, Step, GiveUp, Close, Deliver, AddUser, TakeOut, TakeMail, Keep}
 use Rattle.mailengine.specs.declared.answer.Answer.{Answer}
 use Rattle.mailengine.specs.declared.answer.Answer.TheVariants.{Delivered, Added, Taken, Refused, MailTaken}
 use Rattle.mailengine.specs.Limits.{limit_refusal}
 use Rattle.mailstore.specs.Account.{row_with}
-use Rattle.mailengine.specs.AccountEvents.{Refuses, DeliversIn, DeliversUnder, Delivery, AddsUnder, Addition, TakesRow, TakesIn, Taking, TakesFirst, TakesMailIn, MailTaking}
-use Rattle.mailengine.specs.OwnActs.{Act, Commands, LogsIn, Receives, Joins, TakesOut, TakesMail, TakesFirstAlone, TakesMailAloneIn, RepliesAlone, CommandsAlone, admits, ReceivesIn, JoinsIn, TakesRowAlone, TakesAloneIn, ActsAlone, Alone, is_user, when_of, is_welcome, login_acts, text_acts, command_acts, item_acts, step_acts, is_lost, event_acts, acts_in, acts, IsAlone}
+use Rattle.mailengine.specs.AccountEvents.{Refuses, Renews, absence, DeliversIn, DeliversUnder, Delivery, AddsUnder, Addition, TakesRow, TakesIn, Taking, TakesFirst, TakesMailIn, MailTaking}
+use Rattle.mailengine.specs.declared.upkeep.Upkeep.{Upkeep}
+use Rattle.mailengine.specs.Upkeep.{kept_password, instead, put_instead, Keeping}
+use Rattle.mailengine.proofs.UpkeepLemmas.{lost_stays}
+use Rattle.mailengine.specs.OwnActs.{Act, Commands, LogsIn, Receives, Joins, TakesOut, TakesMail, IsKept, TakesFirstAlone, TakesMailOpen, RepliesAlone, CommandsAlone, admits, ReceivesOpen, ReceivesIn, RenewsAlone, JoinsIn, TakesRowAlone, TakesOpen, ActsAlone, Alone, is_user, when_of, is_welcome, login_acts, text_acts, command_acts, item_acts, step_acts, is_lost, event_acts, acts_in, acts, IsAlone}
 use Rattle.mailengine.specs.World.{World, InSession, Opens, Steps, Happens, MayRefuse, IsRefused, Next, Runs}
 
 -- ---- accounts by name
@@ -114,7 +118,7 @@ module _ (user name : List ℕ) (accounts later : Accounts) (answer : Answer) wh
   delivery_other envelope message moment made why = go (limit_refusal envelope message moment) made
     where
       inserted : (o : Option Account) → DeliversIn accounts name moment envelope message o answer later → get later user ≡ get accounts user
-      inserted None is = refused_stays NoUser is
+      inserted None is = refused_stays (absence (get accounts name)) is
       inserted (Some a) is = by why
         where
           by : (is_user user name ≡ false) ⊎ (is_lost answer ≡ true) → get later user ≡ get accounts user
@@ -123,15 +127,24 @@ module _ (user name : List ℕ) (accounts later : Accounts) (answer : Answer) wh
 
       go : (o : Option Refusal) → DeliversUnder o accounts name moment envelope message answer later → get later user ≡ get accounts user
       go (Some refusal) is = refused_stays refusal is
-      go None is = inserted (get accounts name) is
+      go None is = inserted (open_of accounts name) is
 
   pub addition_other : (address salt password : List ℕ) → Addition accounts name address salt password answer later
       → (is_user user name ≡ false) ⊎ (is_lost answer ≡ true) → get later user ≡ get accounts user
   addition_other address salt password (inr (bad, is)) why = refused_stays BadUser is
   addition_other address salt password (inl (new, made)) why = go (get accounts name) made
     where
+      over : (closed full : Bool) → MatchBool closed (MatchBool full (Refuses UserHasMail accounts answer later) (Renews accounts name address salt password answer later)) (Refuses UserExists accounts answer later) → get later user ≡ get accounts user
+      over true true is = refused_stays UserHasMail is
+      over true false is = by why
+        where
+          by : (is_user user name ≡ false) ⊎ (is_lost answer ≡ true) → get later user ≡ get accounts user
+          by (inl other) = ap (λ all. get all user) is.changed ∙ changed_other accounts user name (renews address (kept_password salt password)) other
+          by (inr lost) = absurd (not_lost answer Added is.added refl lost)
+      over false full is = refused_stays UserExists is
+
       go : (o : Option Account) → AddsUnder accounts name address salt password o answer later → get later user ≡ get accounts user
-      go (Some a) is = refused_stays UserExists is
+      go (Some a) is = over (is_closed a) (has_mail a) is
       go None is = by why
         where
           by : (is_user user name ≡ false) ⊎ (is_lost answer ≡ true) → get later user ≡ get accounts user
@@ -139,7 +152,7 @@ module _ (user name : List ℕ) (accounts later : Accounts) (answer : Answer) wh
           by (inr lost) = absurd (not_lost answer Added is.added refl lost)
 
   pub taking_other : (id : ℕ) → Taking accounts name id answer later → (is_user user name ≡ false) ⊎ (is_lost answer ≡ true) → get later user ≡ get accounts user
-  taking_other id made why = go (get accounts name) made
+  taking_other id made why = go (open_of accounts name) made
     where
       row : (o : Option Outgoing) → TakesRow accounts name o answer later → get later user ≡ get accounts user
       row None is = refused_stays NoRow is
@@ -154,7 +167,7 @@ module _ (user name : List ℕ) (accounts later : Accounts) (answer : Answer) wh
       go (Some a) is = row (row_with id a.queue) is
 
   pub mail_taking_other : (folder : List ℕ) → MailTaking accounts name folder answer later → (is_user user name ≡ false) ⊎ (is_lost answer ≡ true) → get later user ≡ get accounts user
-  mail_taking_other folder made why = go (get accounts name) made
+  mail_taking_other folder made why = go (open_of accounts name) made
     where
       row : (messages : List (List ℕ)) → TakesFirst accounts name folder messages answer later → get later user ≡ get accounts user
       row [] is = refused_stays NoRow is
@@ -168,6 +181,15 @@ module _ (user name : List ℕ) (accounts later : Accounts) (answer : Answer) wh
       go None is = refused_stays NoUser is
       go (Some a) is = row (messages_in a.folders folder) is
 
+  pub keeping_other : (upkeep : Upkeep) → Keeping accounts name upkeep answer later → (is_user user name ≡ false) ⊎ (is_lost answer ≡ true) → get later user ≡ get accounts user
+  keeping_other upkeep (change, keeps, is) (inl other) = ap (λ all. get all user) is ∙ go change
+    where
+      go : (o : Option Account) → get (put_instead o name accounts) user ≡ get accounts user
+      go None = refl
+      go (Some a) = put_other accounts user name a other
+  keeping_other upkeep (change, keeps, is) (inr lost) =
+      ap (λ all. get all user) is ∙ ap (λ o. get (put_instead o name accounts) user) (lost_stays answer change (λ said same found. not_lost answer said same found lost) upkeep (get accounts name) keeps)
+
 module _ (user : List ℕ) (accounts later : Accounts) (answer : Answer) (itself : is_user user user ≡ true) where
   -- what the machine refuses changes nothing of the account
   refused_alone : (refusal : Refusal) (account : Option Account) → get accounts user ≡ account → Refuses refusal accounts answer later → Refuses refusal account answer (get later user)
@@ -177,45 +199,62 @@ module _ (user : List ℕ) (accounts later : Accounts) (answer : Answer) (itself
       → ActsAlone user (get accounts user) (Receives envelope message moment answer) (get later user)
   delivery_own envelope message moment made = go (limit_refusal envelope message moment) made
     where
-      inserted : (o : Option Account) → get accounts user ≡ o → DeliversIn accounts user moment envelope message o answer later → ReceivesIn None o envelope message moment answer (get later user)
-      inserted None has is = refused_alone NoUser None has is
-      inserted (Some a) has is = record { report = is.report; after = is.account; delivers = is.delivers; says = is.reported; changed = ap (λ all. get all user) is.changed ∙ put_own accounts user is.account itself }
+      inserted : (o : Option Account) → DeliversIn accounts user moment envelope message o answer later → ReceivesOpen (get accounts user) o envelope message moment answer (get later user)
+      inserted None is = refused_alone (absence (get accounts user)) (get accounts user) refl is
+      inserted (Some a) is = record { report = is.report; after = is.account; delivers = is.delivers; says = is.reported; changed = ap (λ all. get all user) is.changed ∙ put_own accounts user is.account itself }
 
       go : (o : Option Refusal) → DeliversUnder o accounts user moment envelope message answer later → ReceivesIn o (get accounts user) envelope message moment answer (get later user)
       go (Some refusal) is = refused_alone refusal (get accounts user) refl is
-      go None is = inserted (get accounts user) refl is
+      go None is = inserted (open_of accounts user) is
 
   pub addition_own : (address salt password : List ℕ) → Addition accounts user address salt password answer later → ActsAlone user (get accounts user) (Joins address salt password answer) (get later user)
   addition_own address salt password (inr (bad, is)) = inr (bad, refused_alone BadUser (get accounts user) refl is)
   addition_own address salt password (inl (new, made)) = inl (new, go (get accounts user) refl made)
     where
+      over : (a : Account) → get accounts user ≡ Some a → (closed full : Bool)
+          → MatchBool closed (MatchBool full (Refuses UserHasMail accounts answer later) (Renews accounts user address salt password answer later)) (Refuses UserExists accounts answer later)
+          → MatchBool closed (MatchBool full (Refuses UserHasMail (Some a) answer (get later user)) (RenewsAlone a address salt password answer (get later user))) (Refuses UserExists (Some a) answer (get later user))
+      over a has true true is = refused_alone UserHasMail (Some a) has is
+      over a has true false is = record {
+        says = is.added;
+        changed = ap (λ all. get all user) is.changed ∙ (changed_own accounts user (renews address (kept_password salt password)) itself ∙ ap (λ o. option_map (renews address (kept_password salt password)) o) has);
+      }
+      over a has false full is = refused_alone UserExists (Some a) has is
+
       go : (o : Option Account) → get accounts user ≡ o → AddsUnder accounts user address salt password o answer later → JoinsIn o address salt password answer (get later user)
-      go (Some a) has is = refused_alone UserExists (Some a) has is
+      go (Some a) has is = over a has (is_closed a) (has_mail a) is
       go None has is = record { says = is.added; changed = ap (λ all. get all user) is.changed ∙ put_own accounts user _ itself }
 
   pub taking_own : (id : ℕ) → Taking accounts user id answer later → ActsAlone user (get accounts user) (TakesOut id answer) (get later user)
-  taking_own id made = go (get accounts user) refl made
+  taking_own id made = go (open_of accounts user) refl made
     where
       row : (a : Account) (o : Option Outgoing) → get accounts user ≡ Some a → TakesRow accounts user o answer later → TakesRowAlone a o answer (get later user)
       row a None has is = refused_alone NoRow (Some a) has is
       row a (Some out) has is =
           record { says = is.taken; changed = ap (λ all. get all user) is.changed ∙ (changed_own accounts user (takes_out out.id) itself ∙ ap (λ o. option_map (takes_out out.id) o) has) }
 
-      go : (o : Option Account) → get accounts user ≡ o → TakesIn accounts user id o answer later → TakesAloneIn o id answer (get later user)
-      go None has is = refused_alone NoUser None has is
-      go (Some a) has is = row a (row_with id a.queue) has is
+      go : (o : Option Account) → open_of accounts user ≡ o → TakesIn accounts user id o answer later → TakesOpen (get accounts user) o id answer (get later user)
+      go None none is = refused_alone NoUser (get accounts user) refl is
+      go (Some a) has is = row a (row_with id a.queue) (open_there (get accounts user) a has) is
 
   pub mail_taking_own : (folder : List ℕ) → MailTaking accounts user folder answer later → ActsAlone user (get accounts user) (TakesMail folder answer) (get later user)
-  mail_taking_own folder made = go (get accounts user) refl made
+  mail_taking_own folder made = go (open_of accounts user) refl made
     where
       row : (a : Account) (messages : List (List ℕ)) → get accounts user ≡ Some a → TakesFirst accounts user folder messages answer later → TakesFirstAlone a folder messages answer (get later user)
       row a [] has is = refused_alone NoRow (Some a) has is
       row a (message ∷ more) has is =
           record { says = is.taken; changed = ap (λ all. get all user) is.changed ∙ (changed_own accounts user (takes_mail folder 1) itself ∙ ap (λ o. option_map (takes_mail folder 1) o) has) }
 
-      go : (o : Option Account) → get accounts user ≡ o → TakesMailIn accounts user folder o answer later → TakesMailAloneIn o folder answer (get later user)
-      go None has is = refused_alone NoUser None has is
-      go (Some a) has is = row a (messages_in a.folders folder) has is
+      go : (o : Option Account) → open_of accounts user ≡ o → TakesMailIn accounts user folder o answer later → TakesMailOpen (get accounts user) o folder answer (get later user)
+      go None none is = refused_alone NoUser (get accounts user) refl is
+      go (Some a) has is = row a (messages_in a.folders folder) (open_there (get accounts user) a has) is
+
+  pub keeping_own : (upkeep : Upkeep) → Keeping accounts user upkeep answer later → ActsAlone user (get accounts user) (IsKept upkeep answer) (get later user)
+  keeping_own upkeep (change, keeps, is) = (change, keeps, ap (λ all. get all user) is ∙ go change)
+    where
+      go : (o : Option Account) → get (put_instead o user accounts) user ≡ instead o (get accounts user)
+      go None = refl
+      go (Some a) = put_own accounts user a itself
 
 -- ---- commands
 
@@ -308,15 +347,15 @@ text_alone : (user : List ℕ) (accounts : Accounts) (later : Option Account) (t
     → Alone user (get accounts user) (text_acts user (Some text) octets) later
 text_alone user accounts later text octets failures stays told = go (login_of text) refl
   where
-    succeeds : (login : List ℕ × List ℕ) → login_of text ≡ Some login → is_welcome octets ≡ admits login.1 (get accounts login.0)
-    succeeds login has = ap is_welcome told ∙ (welcome_is (admitted accounts text) failures ∙ (ap (λ o. is_some (admitted_by accounts o)) has ∙ admitted_is login (get accounts login.0)))
+    succeeds : (login : List ℕ × List ℕ) → login_of text ≡ Some login → is_welcome octets ≡ admits login.1 (open_of accounts login.0)
+    succeeds login has = ap is_welcome told ∙ (welcome_is (admitted accounts text) failures ∙ (ap (λ o. is_some (admitted_by accounts o)) has ∙ admitted_is login (open_of accounts login.0)))
 
     go : (o : Option (List ℕ × List ℕ)) → login_of text ≡ o → Alone user (get accounts user) (login_acts user o octets) later
     go None has = stays
     go (Some login) has = by (is_user user login.0) refl
       where
         by : (b : Bool) → is_user user login.0 ≡ b → Alone user (get accounts user) (cond b (LogsIn login.1 (is_welcome octets) ∷ []) []) later
-        by true is = alone_one user (get accounts user) later (LogsIn login.1 (is_welcome octets)) (record { says = succeeds login has ∙ ap (λ n. admits login.1 (get accounts n)) (sym (same_name user login.0 is)); stays = stays })
+        by true is = alone_one user (get accounts user) later (LogsIn login.1 (is_welcome octets)) (record { says = succeeds login has ∙ ap (λ n. admits login.1 (open_of accounts n)) (sym (same_name user login.0 is)); stays = stays })
         by false is = stays
 
 -- a command that needs no login: a login, or nobody's act
@@ -444,6 +483,9 @@ happens_alone user w next (TakeOut name id) answer made =
 happens_alone user w next (TakeMail name folder) answer made =
     account_alone user name w next answer (TakesMail folder answer) made.0 made.2 (mail_taking_other user name w.accounts made.0 answer folder made.1)
     (λ is. mail_taking_own user w.accounts made.0 answer (bytes_eq_refl user) folder (subst (λ n. MailTaking w.accounts n folder answer made.0) (sym (same_name user name is)) made.1))
+happens_alone user w next (Keep name upkeep) answer made =
+    account_alone user name w next answer (IsKept upkeep answer) made.0 made.2 (keeping_other user name w.accounts made.0 answer upkeep made.1)
+    (λ is. keeping_own user w.accounts made.0 answer (bytes_eq_refl user) upkeep (subst (λ n. Keeping w.accounts n upkeep answer made.0) (sym (same_name user name is)) made.1))
 
 -- a refusal for memory or by the store is no act
 refused_alone_of : (user : List ℕ) (w next : World) (event : Event) (answer : Answer) → IsRefused w event answer next → Alone user (get w.accounts user) (acts_in user w event answer) (get next.accounts user)
@@ -460,6 +502,12 @@ refused_alone_of user w next event answer is = subst (λ b. Alone user (get w.ac
     go UserExists may = absurd may
     go BadUser may = absurd may
     go NoRow may = absurd may
+    go AccountClosed may = absurd may
+    go UserIsOpen may = absurd may
+    go UserHasMail may = absurd may
+    go BadScriptName may = absurd may
+    go ScriptTooLarge may = absurd may
+    go TooManyScripts may = absurd may
 
 pub next_alone : (user : List ℕ) (w next : World) (event : Event) (answer : Answer) → Next w event answer next → Alone user (get w.accounts user) (acts_in user w event answer) (get next.accounts user)
 next_alone user w next event answer (inl made) = happens_alone user w next event answer made

@@ -1,7 +1,8 @@
 -- A delivery: the limits, the reads, and then the write.
-use Rattle.std.proofs.Common.{◌≡◌, ◌≤◌, ◌⊎◌, ℕ, Bool, true, false, cond, not, nat_lt, length, List, Option, Some, None, Ok, Err, Result, OnOk, IfOk, IfErr, IsSome, refl, sym, subst, inl, inr}
+use Rattle.std.proofs.Common.{◌≡◌, ◌≤◌, ◌⊎◌, ℕ, Bool, true, false, cond, not, nat_lt, length, List, Option, Some, None, Ok, Err, Result, OnOk, IfOk, IfErr, IsSome, IsTrue, refl, sym, ap, subst, inl, inr}
 use Rattle.std.specs.FinMap.{get}
 use Rattle.std.proofs.lemmas.Bool.{ltb-false}
+use Rattle.mailtables.proofs.WriteLemmas.{clean_before}
 use Rattle.sqlite.specs.State.{State, HasCleanDisk}
 use Rattle.sieveexec.specs.declared.envelope.Envelope.{Envelope}
 use Rattle.sieveexec.specs.Mails.{MailSpec, mail_of}
@@ -9,19 +10,20 @@ use Rattle.deliverplan.specs.Delivered.{Delivers}
 use Rattle.deliverplan.specs.declared.view.View.{View}
 use Rattle.deliverplan.specs.Views.{IsViewOf}
 use Rattle.mailstore.specs.declared.refusal.Refusal.{Refusal}
-use Rattle.mailstore.specs.declared.refusal.Refusal.TheVariants.{NoUser, TooLarge, BadEnvelope, BadMoment}
+use Rattle.mailstore.specs.declared.refusal.Refusal.TheVariants.{NoUser, TooLarge, BadEnvelope, BadMoment, AccountClosed}
 use Rattle.mailstore.specs.declared.report.Plan.{Plan}
 use Rattle.mailstore.specs.declared.report.Report.{Report}
-use Rattle.mailstore.specs.Account.{Account, Accounts, in_place, with_user, delivers}
-use Rattle.mailstore.specs.Promises.{HasUser, IsFree, OfUser, WritesAccount}
+use Rattle.mailstore.specs.Account.{Account, Accounts, is_removed, open_of, in_place, with_user, delivers}
+use Rattle.mailstore.specs.Promises.{HasUser, HasNoOpen, OfOpen, HasOurTables, WritesAccount}
+use Rattle.mailstore.proofs.StandingLemmas.{open_there, has_there}
 use Rattle.mailstore.specs.Refusals.{IsTransient}
 use Rattle.mailstore.specs.Shows.{Presents}
-use Rattle.sessions.specs.Acts.{HasAccounts}
-use Rattle.sessions.proofs.ActLemmas.{no_glance, glanced, acts_read, acts_made, acts_undone}
+use Rattle.sessions.specs.Acts.{HasAccounts, Glances, ReadsAccounts}
+use Rattle.sessions.proofs.ActLemmas.{no_glance, glanced, glances_then, accounts_stay, acts_read, acts_made, acts_undone}
 use Rattle.mailengine.specs.declared.answer.Answer.{Answer}
 use Rattle.mailengine.specs.declared.answer.Answer.TheVariants.{Delivered, Refused}
 use Rattle.mailengine.specs.declared.delivery.Lookup.{Lookup}
-use Rattle.mailengine.specs.AccountEvents.{DeliversIn, DeliversUnder, Delivery}
+use Rattle.mailengine.specs.AccountEvents.{absence, DeliversIn, DeliversUnder, Delivery}
 use Rattle.mailengine.specs.Hosts.{TurnsBy, MayTurnBy, MayRefuseDelivery, RefusesDelivery, ActsDelivery}
 use Rattle.mailengine.specs.Limits.{limit_refusal, message_limit, is_envelope, moment_limit}
 use Rattle.mailengine.specs.Lookups.{LooksUp, IsLookup}
@@ -42,7 +44,13 @@ moment_fits envelope message moment none = ltb-false moment_limit moment (moment
 -- the refusals of a write that asks for the account, after the limits
 pub transient_refuses : {X : Type 0} (envelope : Envelope) (message : List ℕ) (moment : ℕ) (q : Result X Refusal) → limit_refusal envelope message moment ≡ None → IfErr q IsTransient → IfErr q (RefusesDelivery envelope message moment)
 transient_refuses envelope message moment (Ok x) none transient = tt
-transient_refuses envelope message moment (Err e) none transient = inr (none, inr transient)
+transient_refuses envelope message moment (Err e) none transient = inr (none, inr (inr transient))
+
+-- the refusals of a user without an open account, after the limits
+pub absent_refuses : {X : Type 0} (envelope : Envelope) (message : List ℕ) (moment : ℕ) (q : Result X Refusal) (refusal : Refusal) → limit_refusal envelope message moment ≡ None → q ≡ Err refusal → (refusal ≡ NoUser) ⊎ (refusal ≡ AccountClosed)
+    → IfErr q (RefusesDelivery envelope message moment)
+absent_refuses envelope message moment q refusal none is (inl absent) = subst (λ o. IfErr o (RefusesDelivery envelope message moment)) (sym is) (inr (none, inl absent))
+absent_refuses envelope message moment q refusal none is (inr shut) = subst (λ o. IfErr o (RefusesDelivery envelope message moment)) (sym is) (inr (none, inr (inl shut)))
 
 -- what the plan says of the mail that was read, of the message under the envelope
 pub planned_at : (view : View) (text active : Option (List ℕ)) (mail : MailSpec) (envelope : Envelope) (message : List ℕ) (moment : ℕ) (plan : Plan) → mail ≡ mail_of message envelope → active ≡ text
@@ -74,23 +82,43 @@ module _ (user : List ℕ) (envelope : Envelope) (message : List ℕ) (moment : 
     delivery_lacks a (Ok report) undone transient = absurd undone
     delivery_lacks a (Err e) undone transient = acts_read a a (TurnsBy Row May (Refused e)) (MayTurnBy Row) (Err e) (λ clean open_before. tt) (no_glance a) (λ clean accounts shown. transient_turn e accounts transient)
 
-    in_row : (accounts later : Accounts) (answer : Answer) → DeliversIn accounts user moment envelope message (get accounts user) answer later → Row accounts answer later
+    in_row : (accounts later : Accounts) (answer : Answer) → DeliversIn accounts user moment envelope message (open_of accounts user) answer later → Row accounts answer later
     in_row accounts later answer is = subst (λ o. DeliversUnder o accounts user moment envelope message answer later) (sym none) is
 
-    -- the user has no account
-    absent_turn : (accounts : Accounts) → IsFree user accounts → TurnsBy Row May (Refused NoUser) accounts accounts
-    absent_turn accounts free =
-        inl (in_row accounts accounts (Refused NoUser) (subst (λ o. DeliversIn accounts user moment envelope message o (Refused NoUser) accounts) (sym free) (record { refused = refl; stays = refl })))
-
-    -- the account couldn't be read
-    pub delivery_unread : (a b : State) (e : Refusal) (q : Result Report Refusal) → q ≡ Err e → LooksUp user (IsLookup envelope.from) a b (Err e) → ActsDelivery user envelope message moment a b q
-    delivery_unread a b e q is look = subst (λ o. ActsDelivery user envelope message moment a b o) (sym is)
-        (acts_read a b (TurnsBy Row May (Refused e)) (MayTurnBy Row) (Err e) (λ clean open_before. tt) (glanced a b (Err e) look.reads.keeps) (λ clean accounts shown. turn clean accounts shown look.reads.named))
+    -- the account couldn't be read, without visible cause
+    pub delivery_unread : (a b : State) (e : Refusal) (q : Result Report Refusal) → q ≡ Err e → (e ≡ NoUser → ⊥) → LooksUp user (IsLookup envelope.from) a b (Err e) → ActsDelivery user envelope message moment a b q
+    delivery_unread a b e q is there look = subst (λ o. ActsDelivery user envelope message moment a b o) (sym is)
+        (acts_read a b (TurnsBy Row May (Refused e)) (MayTurnBy Row) (Err e) (λ clean open_before. tt) (glanced a b (Err e) look.reads.keeps) (λ clean accounts shown. turn accounts look.reads.named))
       where
-        turn : HasCleanDisk b → (accounts : Accounts) → HasAccounts a accounts → (e ≡ NoUser) ⊎ IsTransient e → TurnsBy Row May (Refused e) accounts accounts
-        turn clean accounts shown (inl absent) =
-            subst (λ f. TurnsBy Row May (Refused f) accounts accounts) (sym absent) (absent_turn accounts (look.reads.absent clean accounts (shown (look.sure clean absent)) absent))
-        turn clean accounts shown (inr transient) = transient_turn e accounts transient
+        turn : (accounts : Accounts) → (e ≡ NoUser) ⊎ IsTransient e → TurnsBy Row May (Refused e) accounts accounts
+        turn accounts (inl absent) = absurd (there absent)
+        turn accounts (inr transient) = transient_turn e accounts transient
+
+    -- the user has no open account, and why is asked
+    module _ (a b c : State) (r : Result Lookup Refusal) (was : r ≡ Err NoUser) (look : LooksUp user (IsLookup envelope.from) a b r) (w : Result Refusal Refusal) (late : ReadsAccounts (λ refusal accounts. refusal ≡ absence (get accounts user)) b c w) where
+      clean_mid : HasCleanDisk c → HasCleanDisk b
+      clean_mid = clean_before b c _ late.glances.crash
+
+      asked : Glances a c
+      asked = glances_then a b c (λ clean. subst (λ q. IfErr q (λ e. e ≡ NoUser → IsTrue b.is_open)) was (look.reads.sure clean) refl) (glanced a b r look.reads.keeps) late.glances
+
+      none_open : HasCleanDisk c → (accounts : Accounts) → HasAccounts a accounts → HasNoOpen user accounts
+      none_open clean accounts shown =
+          let before = clean_mid clean in
+          let seen = shown (subst (λ q. IfErr q (λ e. e ≡ NoUser → IsTrue a.is_open)) was (look.sure before) refl) in
+          subst (λ q. IfErr q (λ e. e ≡ NoUser → HasNoOpen user accounts)) was (look.reads.absent before accounts seen) refl
+
+      pub delivery_absent : (refusal : Refusal) (q : Result Report Refusal) → w ≡ Ok refusal → q ≡ Err refusal → ActsDelivery user envelope message moment a c q
+      delivery_absent refusal q told is = subst (λ o. ActsDelivery user envelope message moment a c o) (sym is)
+          (acts_read a c (TurnsBy Row May (Refused refusal)) (MayTurnBy Row) (Err refusal) (λ clean open_before. tt) asked
+          (λ clean accounts shown.
+          let why : refusal ≡ absence (get accounts user) =
+          subst (λ o. IfOk o (λ f. f ≡ absence (get accounts user))) told (late.found clean accounts (accounts_stay a b (glanced a b r look.reads.keeps) (clean_mid clean) accounts shown)) in
+          inl (in_row accounts accounts (Refused refusal) (subst (λ o. DeliversIn accounts user moment envelope message o (Refused refusal) accounts) (sym (none_open clean accounts shown)) (record { refused = ap Refused why; stays = refl })))))
+
+      pub delivery_unasked : (q : Result Report Refusal) → OnOk q ⊥ → IfErr q IsTransient → ActsDelivery user envelope message moment a c q
+      delivery_unasked (Ok report) undone transient = absurd undone
+      delivery_unasked (Err e) undone transient = acts_read a c (TurnsBy Row May (Refused e)) (MayTurnBy Row) (Err e) (λ clean open_before. tt) asked (λ clean accounts shown. transient_turn e accounts transient)
 
     module _ (a b : State) (r : Result Lookup Refusal) (looked : Lookup) (was : r ≡ Ok looked) (look : LooksUp user (IsLookup envelope.from) a b r) where
       -- no memory for the mail or the plan
@@ -102,10 +130,10 @@ module _ (user : List ℕ) (envelope : Envelope) (message : List ℕ) (moment : 
       module _ (plan : Plan) (planned : (account : Account) → IsViewOf looked.view envelope.from account → Delivers looked.view.address moment (mail_of message envelope) looked.text account plan.report (delivers plan account))
           (c : State) (w : Result (Unit {0}) Refusal) (late : WritesAccount user (delivers plan) b c w) where
         -- what the plan does is the delivery
-        planned_row : (accounts : Accounts) → OfUser accounts user (IsLookup envelope.from looked) → Row accounts (Delivered plan.report) (with_user accounts user (delivers plan))
+        planned_row : (accounts : Accounts) → OfOpen accounts user (IsLookup envelope.from looked) → Row accounts (Delivered plan.report) (with_user accounts user (delivers plan))
         planned_row accounts own =
             in_row accounts (with_user accounts user (delivers plan)) (Delivered plan.report)
-            (subst (λ o. DeliversIn accounts user moment envelope message o (Delivered plan.report) (in_place accounts user (delivers plan) o)) (sym own.1)
+            (subst (λ o. DeliversIn accounts user moment envelope message o (Delivered plan.report) (with_user accounts user (delivers plan))) (sym own.1)
             (record {
               report = plan.report;
               account = delivers plan own.0;
@@ -115,16 +143,16 @@ module _ (user : List ℕ) (envelope : Envelope) (message : List ℕ) (moment : 
                 delivers = subst (λ text. Delivers looked.view.address moment (mail_of message envelope) text own.0 plan.report (delivers plan own.0)) own.2.text (planned own.0 own.2.view);
               };
               reported = refl;
-              changed = refl;
+              changed = ap (in_place accounts user (delivers plan)) (open_there (get accounts user) own.0 own.1);
             }))
 
-        found : HasCleanDisk b → (accounts : Accounts) → Presents a.now accounts → OfUser accounts user (IsLookup envelope.from looked)
-        found clean accounts p = subst (λ q. IfOk q (λ x. OfUser accounts user (IsLookup envelope.from x))) was (look.reads.found clean accounts p)
+        found : HasCleanDisk b → (accounts : Accounts) → Presents a.now accounts → OfOpen accounts user (IsLookup envelope.from looked)
+        found clean accounts p = subst (λ q. IfOk q (λ x. OfOpen accounts user (IsLookup envelope.from x))) was (look.reads.found clean accounts p)
 
         fits : HasCleanDisk b → (accounts : Accounts) → Presents a.now accounts → HasUser user accounts × Row accounts (Delivered plan.report) (with_user accounts user (delivers plan))
         fits clean accounts p =
             let own = found clean accounts p in
-            (subst IsSome (sym own.1) refl, planned_row accounts own)
+            (has_there accounts user (subst IsSome (sym own.1) refl), planned_row accounts own)
 
         pub delivery_made : (y : Unit {0}) → w ≡ Ok y → ActsDelivery user envelope message moment a c (Ok plan.report)
         delivery_made y is =

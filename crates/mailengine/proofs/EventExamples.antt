@@ -1,21 +1,21 @@
 -- The events of accounts on small cases: what is right, and beside it what nearly is.
-use Rattle.std.proofs.Common.{◌≡◌, ℕ, true, false, List, [], ◌∷◌, codes, Some, None, refl, sym, ap, ◌∙◌, subst, inl, inr}
+use Rattle.std.proofs.Common.{◌≡◌, ℕ, true, false, cond, List, [], ◌∷◌, codes, Some, None, MatchBool, refl, sym, ap, ◌∙◌, subst, inl, inr}
 use Rattle.std.specs.FinMap.{get, insert, get-empty}
 use Rattle.addrparts.specs.declared.address.Addr.{Addr}
 use Rattle.addrparts.specs.Outbound.{IsBareAddress}
 use Rattle.saslplain.specs.Password.{digest_of}
 use Rattle.sievesyntax.specs.RunState.{inbox}
 use Rattle.sieveexec.specs.declared.envelope.Envelope.{Envelope}
-use Rattle.mailstore.specs.Account.{bytes_cmp, Account, Accounts, no_accounts, files_copies, new_user, with_user, takes_out}
+use Rattle.mailstore.specs.Account.{bytes_cmp, Account, Accounts, no_accounts, is_closed, open_one, open_of, has_mail, files_copies, new_user, with_user, takes_out}
 use Rattle.mailtables.specs.declared.queue.Kind.TheVariants.{Redirect}
 use Rattle.mailstore.specs.declared.queue.Outgoing.{Outgoing}
-use Rattle.mailstore.specs.declared.refusal.Refusal.TheVariants.{NoUser, BadMoment, UserExists, BadUser, NoRow}
+use Rattle.mailstore.specs.declared.refusal.Refusal.TheVariants.{NoUser, BadMoment, UserExists, UserHasMail, BadUser, NoRow}
 use Rattle.deliverplan.specs.Delivered.{Acts, kept, Silent, report_of}
 use Rattle.mailengine.specs.declared.answer.Answer.{Answer}
 use Rattle.mailengine.specs.declared.answer.Answer.TheVariants.{Delivered, Added, Taken, Refused}
 use Rattle.mailengine.specs.Limits.{IsNewUser}
 use Rattle.mailstore.specs.Account.{row_with}
-use Rattle.mailengine.specs.AccountEvents.{DeliversIn, Delivery, AddsUnder, Addition, TakesIn, TakesRow, Taking}
+use Rattle.mailengine.specs.AccountEvents.{Refuses, Renews, absence, DeliversIn, Delivery, AddsUnder, Addition, TakesIn, TakesRow, Taking}
 use Rattle.mailengine.proofs.AloneLemmas.{put_own, put_other, delivery_other}
 
 abbrev alice : List ℕ
@@ -37,7 +37,7 @@ row id = record { id = id; kind = Redirect; sender = codes "bob@example.net"; ta
 there : (accounts : Accounts) (user : List ℕ) (a : Account) → get accounts user ≡ Some a → accounts ≡ no_accounts → ⊥
 there accounts user a has is = let no : Some a ≡ None = sym has ∙ (ap (λ all. get all user) is ∙ get-empty bytes_cmp user) in cc
 
-module _ (a : Account) where
+module _ (a : Account) (open_is : is_closed a ≡ false) where
   -- one account, alice's
   one : Accounts
   one = insert no_accounts alice a
@@ -46,16 +46,22 @@ module _ (a : Account) where
   unfolding one
   has_alice = put_own no_accounts alice a refl
 
+  open_alice : open_of one alice ≡ Some a
+  open_alice = ap open_one has_alice ∙ ap (λ b. cond b None (Some a)) open_is
+
   -- ---- a delivery
 
   -- a user without an account has none, and stays so; near miss: the delivery makes the account
   unknown_user : Delivery no_accounts alice envelope message 5 (Refused NoUser) no_accounts
-  unknown_user = subst (λ o. DeliversIn no_accounts alice 5 envelope message o (Refused NoUser) no_accounts) (sym (get-empty bytes_cmp alice)) (record { refused = refl; stays = refl })
+  unknown_user =
+      let none : open_of no_accounts alice ≡ None = ap open_one (get-empty bytes_cmp alice) in
+      let why : absence (get no_accounts alice) ≡ NoUser = ap absence (get-empty bytes_cmp alice) in
+      subst (λ o. DeliversIn no_accounts alice 5 envelope message o (Refused NoUser) no_accounts) (sym none) (record { refused = ap Refused (sym why); stays = refl })
 
   unknown_user_joins : Delivery no_accounts alice envelope message 5 (Refused NoUser) one → ⊥
   unfolding one
   unknown_user_joins is =
-      let made = subst (λ o. DeliversIn no_accounts alice 5 envelope message o (Refused NoUser) one) (get-empty bytes_cmp alice) is in
+      let made = subst (λ o. DeliversIn no_accounts alice 5 envelope message o (Refused NoUser) one) (ap open_one (get-empty bytes_cmp alice)) is in
       there one alice a has_alice made.stays
 
   -- the limit goes before the account
@@ -65,7 +71,7 @@ module _ (a : Account) where
   -- without an active script the message joins INBOX
   filed : (own : Addr) → IsBareAddress a.address own → a.active ≡ None → Delivery one alice envelope message 5 (Delivered (report_of kept Silent)) (insert one alice (files_copies (inbox ∷ []) message a))
   unfolding one
-  filed own address none = subst (λ o. DeliversIn one alice 5 envelope message o (Delivered (report_of kept Silent)) (insert one alice (files_copies (inbox ∷ []) message a))) (sym has_alice)
+  filed own address none = subst (λ o. DeliversIn one alice 5 envelope message o (Delivered (report_of kept Silent)) (insert one alice (files_copies (inbox ∷ []) message a))) (sym open_alice)
       (record {
         report = report_of kept Silent;
         account = files_copies (inbox ∷ []) message a;
@@ -102,7 +108,8 @@ module _ (a : Account) where
     unfolding one
     joined_twice later (inl (new, is)) =
         let made = subst (λ o. AddsUnder one alice address salt password o Added later) has_alice is in
-        let no : Added ≡ Refused UserExists = made.refused in
+        let row = subst (λ b. MatchBool b (MatchBool (has_mail a) (Refuses UserHasMail one Added later) (Renews one alice address salt password Added later)) (Refuses UserExists one Added later)) open_is made in
+        let no : Added ≡ Refused UserExists = row.refused in
         cc
     joined_twice later (inr (bad, is)) = let no : Added ≡ Refused BadUser = is.refused in cc
 
@@ -116,14 +123,14 @@ module _ (a : Account) where
     -- the row with the number is handed out, and leaves the queue
     taken : Taking one alice 2 (Taken (row 2)) (with_user one alice (takes_out 2))
     unfolding one
-    taken = subst (λ o. TakesIn one alice 2 o (Taken (row 2)) (with_user one alice (takes_out 2))) (sym has_alice)
+    taken = subst (λ o. TakesIn one alice 2 o (Taken (row 2)) (with_user one alice (takes_out 2))) (sym open_alice)
         (subst (λ rows. TakesRow one alice (row_with 2 rows) (Taken (row 2)) (with_user one alice (takes_out 2))) (sym queued) (record { taken = refl; changed = refl }))
 
     -- near miss: another row is handed out
     another_taken : (later : Accounts) → Taking one alice 2 (Taken (row 1)) later → ⊥
     unfolding one
     another_taken later is =
-        let made = subst (λ rows. TakesRow one alice (row_with 2 rows) (Taken (row 1)) later) queued (subst (λ o. TakesIn one alice 2 o (Taken (row 1)) later) has_alice is) in
+        let made = subst (λ rows. TakesRow one alice (row_with 2 rows) (Taken (row 1)) later) queued (subst (λ o. TakesIn one alice 2 o (Taken (row 1)) later) open_alice is) in
         let same : row 1 ≡ row 2 = let told : Taken (row 1) ≡ Taken (row 2) = made.taken in cc in
         let no : ◌≡◌ {A = ℕ} 1 2 = ap (λ r. r.id) same in
         cc
@@ -131,10 +138,10 @@ module _ (a : Account) where
     -- a number that isn't queued is no row's, and nothing changes; near miss: the account goes
     not_queued : Taking one alice 3 (Refused NoRow) one
     unfolding one
-    not_queued = subst (λ o. TakesIn one alice 3 o (Refused NoRow) one) (sym has_alice) (subst (λ rows. TakesRow one alice (row_with 3 rows) (Refused NoRow) one) (sym queued) (record { refused = refl; stays = refl }))
+    not_queued = subst (λ o. TakesIn one alice 3 o (Refused NoRow) one) (sym open_alice) (subst (λ rows. TakesRow one alice (row_with 3 rows) (Refused NoRow) one) (sym queued) (record { refused = refl; stays = refl }))
 
     not_queued_gone : Taking one alice 3 (Refused NoRow) no_accounts → ⊥
     unfolding one
     not_queued_gone is =
-        let made = subst (λ rows. TakesRow one alice (row_with 3 rows) (Refused NoRow) no_accounts) queued (subst (λ o. TakesIn one alice 3 o (Refused NoRow) no_accounts) has_alice is) in
+        let made = subst (λ rows. TakesRow one alice (row_with 3 rows) (Refused NoRow) no_accounts) queued (subst (λ o. TakesIn one alice 3 o (Refused NoRow) no_accounts) open_alice is) in
         there one alice a has_alice (sym made.stays)

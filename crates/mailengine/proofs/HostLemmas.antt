@@ -13,7 +13,7 @@ use Rattle.mailstore.specs.Account.{Accounts}
 use Rattle.mailstore.specs.Refusals.{IsTransient}
 use Rattle.sieveexec.specs.declared.envelope.Envelope.{Envelope}
 use Rattle.mailstore.specs.declared.refusal.Refusal.{Refusal}
-use Rattle.mailstore.specs.declared.refusal.Refusal.TheVariants.{Memory, Store, NotOurs, NoUser, TooLarge, BadEnvelope, BadMoment, UserExists, BadUser, NoRow}
+use Rattle.mailstore.specs.declared.refusal.Refusal.TheVariants.{Memory, Store, NotOurs, NoUser, TooLarge, BadEnvelope, BadMoment, UserExists, BadUser, NoRow, AccountClosed, UserIsOpen, UserHasMail, BadScriptName, ScriptTooLarge, TooManyScripts}
 use Rattle.sqlite.specs.State.{State, HasCleanDisk, Survives}
 use Rattle.sqlite.proofs.StateLemmas.{survives_weaker}
 use Rattle.mailstore.proofs.OneLemmas.{accounts_one}
@@ -31,11 +31,12 @@ use Rattle.sessions.specs.declared.progress.Progress.{Progress}
 use Rattle.sessions.specs.declared.sort.Order.{Order}
 use Rattle.sessions.specs.declared.progress.Progress.TheVariants as p
 use Rattle.mailengine.specs.declared.event.Event.{Event}
-use Rattle.mailengine.specs.declared.event.Event.TheVariants.{Open, Give, Step, GiveUp, Close, Deliver, AddUser, TakeOut, TakeMail}
+use Rattle.mailengine.specs.declared.event.Event.TheVariants.{Open, Give, Step, GiveUp, Close, Deliver, AddUser, TakeOut, TakeMail, Keep}
 use Rattle.mailengine.specs.declared.answer.Answer.{Answer}
 use Rattle.mailengine.specs.declared.answer.Answer.TheVariants.{Out, Ignored, Refused}
 use Rattle.mailengine.specs.World.{World, Clients, with_accounts, Ignores, Becomes, InSession, Opens, Steps, Happens, MayRefuse, with_session, without_session, MayLack, MayFail, if_open, is_closed}
-use Rattle.mailengine.specs.Hosts.{Kept, IsMade, clients_of, AsksStore, HasClients, host, IsSessionEvent, KeepsClients, IsEvent, Leads, EventCrashLeaves, answer_by, answer_of, TurnsBy, MayTurnBy, MayRefuseDelivery, MayRefuseAddition}
+use Rattle.mailengine.specs.Hosts.{Kept, IsMade, clients_of, AsksStore, HasClients, host, IsSessionEvent, KeepsClients, IsEvent, Leads, EventCrashLeaves, answer_by, answer_of, TurnsBy, MayTurnBy, MayRefuseDelivery, MayRefuseAddition, MayRefuseKeeping}
+use Rattle.mailengine.specs.declared.upkeep.Upkeep.{Upkeep}
 
 -- ---- maps
 
@@ -212,6 +213,12 @@ step_refused w n c BadMoment has may = absurd may
 step_refused w n c UserExists has may = absurd may
 step_refused w n c BadUser has may = absurd may
 step_refused w n c NoRow has may = absurd may
+step_refused w n c AccountClosed has may = absurd may
+step_refused w n c UserIsOpen has may = absurd may
+step_refused w n c UserHasMail has may = absurd may
+step_refused w n c BadScriptName has may = absurd may
+step_refused w n c ScriptTooLarge has may = absurd may
+step_refused w n c TooManyScripts has may = absurd may
 
 -- the step of one session is the machine's
 stepped : (w : World) (n : ℕ) (c d : Client) (progress : Progress) (octets : List ℕ) (later : Accounts) → get w.sessions n ≡ Some c → IsStep w.accounts c progress octets d later
@@ -389,3 +396,7 @@ crash_is event told_of old new kept is made = subst (λ e. Survives old new (Eve
 -- the same event of sessions alone
 pub session_is : (event told_of : Event) (answer told : Answer) (kept after : Kept) → event ≡ told_of → answer ≡ told → IsSessionEvent told_of told kept after → IsSessionEvent event answer kept after
 session_is event told_of answer told kept after is same made = subst (λ e. IsSessionEvent e answer kept after) (sym is) (subst (λ a. IsSessionEvent told_of a kept after) (sym same) made)
+
+pub keeping_may : (user : List ℕ) (upkeep : Upkeep) (w : World) (refusal : Refusal) → MayRefuseKeeping upkeep refusal → MayRefuse w (Keep user upkeep) refusal
+keeping_may user upkeep w refusal (inl (is, may)) = lacking_may w (Keep user upkeep) refusal is may
+keeping_may user upkeep w refusal (inr (is, fit)) = failing_may w (Keep user upkeep) refusal is fit

@@ -1,17 +1,21 @@
 pub mod ActLaws
 mod AloneExamples
+pub mod UpkeepLemmas
 pub mod AloneLemmas
 pub mod DeliveryLemmas
 mod EventExamples
 pub mod HostLemmas
+pub mod KeepingLemmas
 pub mod KeptLemmas
 mod LimitExamples
 pub mod LookupLemmas
 pub mod RunLemmas
 pub mod SoundLemmas
 pub mod SpacingLemmas
+pub mod StandingLemmas
 pub mod TakingLemmas
 mod MailTakingExamples
 pub mod MailTakingLemmas
+mod UpkeepExamples
 pub mod UserLemmas
 mod WorldExamples

@@ -7,7 +7,7 @@ use Rattle.mailstore.specs.declared.refusal.Refusal.{Refusal}
 use Rattle.mailstore.specs.declared.refusal.Refusal.TheVariants.{NoUser}
 use Rattle.mailstore.specs.Account.{Account, Accounts}
 use Rattle.mailstore.specs.AccountRows.{profile_of}
-use Rattle.mailstore.specs.Promises.{IsFree, OfUser, Reads, ReadsEntered, ReadsProfile}
+use Rattle.mailstore.specs.Promises.{IsFree, OfUser, HasNoOpen, OfOpen, Reads, ReadsEntered, ReadsProfile}
 use Rattle.mailstore.specs.Refusals.{IsTransient}
 use Rattle.mailstore.specs.Shows.{Presents}
 use Rattle.mailstore.proofs.KeepLemmas.{keeps_ok, keeps_refused, keeps_then, mid_shows, transient_other, reads_answer}
@@ -34,7 +34,7 @@ owned_by accounts user p is = go (get accounts user) refl is
     go (Some a) has e = let same : p ≡ profile_of a = cc in (a, has, same)
 
 -- what was found of one account, and of the same one
-both_of : (accounts : Accounts) (user : List ℕ) (P Q R : Account → Type 0) → ((a : Account) → P a → Q a → R a) → OfUser accounts user P → OfUser accounts user Q → OfUser accounts user R
+both_of : (accounts : Accounts) (user : List ℕ) (P Q R : Account → Type 0) → ((a : Account) → P a → Q a → R a) → OfOpen accounts user P → OfOpen accounts user Q → OfOpen accounts user R
 both_of accounts user P Q R both one two =
     let same : Some two.0 ≡ Some one.0 = sym two.1 ∙ one.1 in
     let is : two.0 ≡ one.0 = cc in
@@ -43,22 +43,14 @@ both_of accounts user P Q R both one two =
 sure_of_transient : {X : Type 0} (q : Result X Refusal) (P : Type 0) → IfErr q IsTransient → IfErr q (λ e. e ≡ NoUser → P)
 sure_of_transient q P transient = transient_other q P transient
 
--- ---- the profile
+-- ---- a read of the store
 
-module _ (user : List ℕ) (a b : State) (r : Result (Option Profile) Refusal) (read : ReadsProfile user a b r) where
-  found : (o : Option Profile) → r ≡ Ok o → HasCleanDisk b → (accounts : Accounts) → Presents a.now accounts → o ≡ option_map profile_of (get accounts user)
-  found o is clean accounts p = subst (λ q. IfOk q (λ profile. profile ≡ option_map profile_of (get accounts user))) is (read.found clean accounts p)
-
-  pub profile_there : (p : Profile) → r ≡ Ok (Some p) → LooksUp user (λ profile account. profile ≡ profile_of account) a b (Ok p)
-  profile_there p is = record {
-    reads = record {
-      found = λ clean accounts shows. owned_by accounts user p (found (Some p) is clean accounts shows);
-      absent = λ clean accounts shows. tt;
-      keeps = keeps_ok a b r (Some p) (Ok p) is read.keeps;
-      named = tt;
-    };
-    sure = λ clean. tt;
-  }
+pub looked : {X : Type 0} (user : List ℕ) (P : X → Account → Type 0) (a b : State) (r : Result X Refusal) → Reads user P a b r → LooksUp user P a b r
+looked {X} user P a b r reads = record { reads = reads; sure = λ clean. was_open clean r (reads.sure clean) }
+  where
+    was_open : HasCleanDisk b → (q : Result X Refusal) → IfErr q (λ e. e ≡ NoUser → IsTrue b.is_open) → IfErr q (λ e. e ≡ NoUser → IsTrue a.is_open)
+    was_open clean (Ok x) h = tt
+    was_open clean (Err e) h = λ is. reads.keeps.shut clean (h is)
 
 -- ---- another answer
 
@@ -73,8 +65,8 @@ looks_answer user P Q a b r x was q transient made look = record {
 -- ---- a second read
 
 module _ {X Y Z : Type 0} (user : List ℕ) (P : X → Account → Type 0) (Q : Y → Account → Type 0) (R : Z → Account → Type 0) (a b c : State) (r : Result X Refusal) (x : X) (was : r ≡ Ok x) (early : LooksUp user P a b r) where
-  first : HasCleanDisk b → (accounts : Accounts) → Presents a.now accounts → OfUser accounts user (P x)
-  first clean accounts p = subst (λ q. IfOk q (λ v. OfUser accounts user (P v))) was (early.reads.found clean accounts p)
+  first : HasCleanDisk b → (accounts : Accounts) → Presents a.now accounts → OfOpen accounts user (P x)
+  first clean accounts p = subst (λ q. IfOk q (λ v. OfOpen accounts user (P v))) was (early.reads.found clean accounts p)
 
   was_open : HasCleanDisk b → IsTrue a.is_open
   was_open clean = early.reads.keeps.shut clean (on_ok r x was (IsTrue b.is_open) (early.reads.keeps.live clean))
@@ -86,6 +78,7 @@ module _ {X Y Z : Type 0} (user : List ℕ) (P : X → Account → Type 0) (Q : 
           both_of accounts user (P x) (Q y) (R z) both (first (clean_before b c _ late.keeps.crash clean) accounts shows)
           (late.found clean accounts (mid_shows a b c r x was (Ok y) early.reads.keeps late.keeps clean accounts shows));
       absent = λ clean accounts shows. tt;
+      sure = λ clean. tt;
       keeps = keeps_ok a c (Ok y) y (Ok z) refl (keeps_then a b c r x was (Ok y) early.reads.keeps late.keeps);
       named = tt;
     };
@@ -95,9 +88,10 @@ module _ {X Y Z : Type 0} (user : List ℕ) (P : X → Account → Type 0) (Q : 
   pub looks_then_refused : (e : Refusal) (q : Result Z Refusal) → q ≡ Err e → Reads user Q b c (Err e) → LooksUp user R a c q
   looks_then_refused e q is late = record {
     reads = record {
-      found = λ clean accounts shows. subst (λ o. IfOk o (λ z. OfUser accounts user (R z))) (sym is) tt;
+      found = λ clean accounts shows. subst (λ o. IfOk o (λ z. OfOpen accounts user (R z))) (sym is) tt;
       absent = λ clean accounts shows.
-          subst (λ o. IfErr o (λ f. f ≡ NoUser → IsFree user accounts)) (sym is) (late.absent clean accounts (mid_shows a b c r x was (Err e) early.reads.keeps late.keeps clean accounts shows));
+          subst (λ o. IfErr o (λ f. f ≡ NoUser → HasNoOpen user accounts)) (sym is) (late.absent clean accounts (mid_shows a b c r x was (Err e) early.reads.keeps late.keeps clean accounts shows));
+      sure = λ clean. subst (λ o. IfErr o (λ f. f ≡ NoUser → IsTrue c.is_open)) (sym is) (late.sure clean);
       keeps = keeps_refused a c (Err e) e q is (keeps_then a b c r x was (Err e) early.reads.keeps late.keeps);
       named = subst (λ o. IfErr o (λ f. (f ≡ NoUser) ⊎ IsTransient f)) (sym is) late.named;
     };

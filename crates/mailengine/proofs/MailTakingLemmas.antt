@@ -6,7 +6,8 @@ use Rattle.mailstore.specs.declared.refusal.Refusal.{Refusal}
 use Rattle.mailstore.specs.declared.refusal.Refusal.TheVariants.{NoUser, NoRow}
 use Rattle.mailstore.specs.Account.{Account, Accounts, with_user, messages_in, takes_mail}
 use Rattle.mailstore.specs.CopyRows.{HasFirst}
-use Rattle.mailstore.specs.Promises.{HasUser, IsFree, OfUser, WritesAccount}
+use Rattle.mailstore.specs.Promises.{HasUser, HasNoOpen, OfOpen, WritesAccount}
+use Rattle.mailstore.proofs.StandingLemmas.{has_there}
 use Rattle.mailstore.specs.Refusals.{IsTransient}
 use Rattle.mailstore.specs.Shows.{Presents}
 use Rattle.sessions.specs.Acts.{HasAccounts}
@@ -27,7 +28,7 @@ module _ (user folder : List ℕ) where
   transient_turn : (e : Refusal) (accounts : Accounts) → IsTransient e → TurnsBy Row IsTransient (Refused e) accounts accounts
   transient_turn e accounts transient = inr (e, transient, refl, refl)
 
-  absent_turn : (accounts : Accounts) → IsFree user accounts → TurnsBy Row IsTransient (Refused NoUser) accounts accounts
+  absent_turn : (accounts : Accounts) → HasNoOpen user accounts → TurnsBy Row IsTransient (Refused NoUser) accounts accounts
   absent_turn accounts free = inl (subst (λ o. TakesMailIn accounts user folder o (Refused NoUser) accounts) (sym free) (record { refused = refl; stays = refl }))
 
   -- the message couldn't be read
@@ -50,8 +51,8 @@ module _ (user folder : List ℕ) where
   some_first accounts first (message ∷ more) is = record { taken = refl; changed = refl }
 
   module _ (a b : State) (r : Result (Option NumberedMessage) Refusal) (first : Option NumberedMessage) (was : r ≡ Ok first) (look : LooksUp user First a b r) where
-    found : HasCleanDisk b → (accounts : Accounts) → Presents a.now accounts → OfUser accounts user (First first)
-    found clean accounts p = subst (λ q. IfOk q (λ x. OfUser accounts user (First x))) was (look.reads.found clean accounts p)
+    found : HasCleanDisk b → (accounts : Accounts) → Presents a.now accounts → OfOpen accounts user (First first)
+    found clean accounts p = subst (λ q. IfOk q (λ x. OfOpen accounts user (First x))) was (look.reads.found clean accounts p)
 
     -- the folder has no message
     pub mail_none : first ≡ None → ActsMailTaking user folder a b (Err NoRow)
@@ -64,7 +65,7 @@ module _ (user folder : List ℕ) where
       fits : HasCleanDisk b → (accounts : Accounts) → Presents a.now accounts → HasUser user accounts × Row accounts MailTaken (with_user accounts user (takes_mail folder 1))
       fits clean accounts p =
           let own = found clean accounts p in (
-            subst IsSome (sym own.1) refl,
+            has_there accounts user (subst IsSome (sym own.1) refl),
             subst (λ o. TakesMailIn accounts user folder o MailTaken (with_user accounts user (takes_mail folder 1))) (sym own.1)
                 (some_first accounts message (messages_in own.0.folders folder) (subst (λ f. HasFirst f (messages_in own.0.folders folder)) is own.2)),
           )

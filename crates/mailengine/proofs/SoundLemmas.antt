@@ -1,5 +1,5 @@
 -- Sound accounts stay sound, whatever happens to them.
-use Rattle.std.proofs.Common.{◌≡◌, ◌≢◌, ◌⊎◌, ℕ, ◌+◌, ◌-◌, ◌<◌, ◌≤◌, Bool, true, false, cond, List, [], ◌∷◌, ◌++◌, drop, Option, Some, None, IsSome, IfSome, option_map, refl, sym, ◌∙◌, ap, subst, inl, inr, arith, true≢false}
+use Rattle.std.proofs.Common.{◌≡◌, ◌≢◌, ◌⊎◌, ℕ, ◌+◌, ◌-◌, ◌<◌, ◌≤◌, Bool, true, false, cond, List, [], ◌∷◌, ◌++◌, drop, Option, Some, None, IsSome, IfSome, MatchBool, option_map, refl, sym, ◌∙◌, ap, subst, inl, inr, arith, true≢false}
 use Rattle.std.specs.declared.cmp.Ordering.{Ordering}
 use Rattle.std.specs.declared.cmp.Ordering.TheVariants.{Less, Equal, Greater}
 use Rattle.std.specs.Ordering.{is_eq}
@@ -14,7 +14,7 @@ use Rattle.msproto.specs.declared.commands.Command.{Command}
 use Rattle.msproto.specs.declared.commands.Command.TheVariants.{Capability, Noop, Logout, Authenticate, Unauthenticate, HaveSpace, PutScript, CheckScript, ListScripts, SetActive, GetScript, DeleteScript, RenameScript}
 use Rattle.msproto.specs.declared.commands.Command.TheVariants as verb
 use Rattle.msproto.specs.declared.replies.Reply.{Reply}
-use Rattle.mailstore.specs.Account.{bytes_cmp, Account, Accounts, Folders, keeps_script, activates, deletes_script, renames_script, moved, other_name, messages_in, holding, filed, filed_in, files_copies, queues}
+use Rattle.mailstore.specs.Account.{bytes_cmp, Account, Accounts, Folders, is_closed, open_one, has_mail, addresses, empties, removes, renews, keeps_script, activates, deletes_script, renames_script, moved, other_name, messages_in, holding, filed, filed_in, files_copies, queues}
 use Rattle.mailtables.specs.declared.queue.Kind.TheVariants as kind
 use Rattle.mailstore.specs.declared.queue.Outgoing.{Outgoing}
 use Rattle.mailstore.specs.declared.report.Report.{Report}
@@ -26,10 +26,16 @@ use Rattle.sessions.specs.Scripts.{HasRoom, RepliesToPut, RepliesToSet, RepliesT
 use Rattle.deliverplan.specs.Delivered.{Disposition, Acts, Tells, Response, Silent, Quiet, Sent, acts, redirects, responds, DeliversAs}
 use Rattle.mailengine.specs.declared.event.Event.{Event}
 use Rattle.mailengine.specs.declared.answer.Answer.{Answer}
-use Rattle.mailengine.specs.Limits.{limit_refusal, IsNewUser}
+use Rattle.mailengine.specs.Limits.{limit_refusal, IsNewUser, IsOwnAddress}
+use Rattle.mailengine.specs.AccountEvents.{Refuses}
+use Rattle.mailengine.specs.Upkeep.{kept_password, stores, instead}
+use Rattle.mailengine.proofs.UpkeepLemmas.{LastsThrough, keeps_holds}
+use Rattle.mailstore.specs.declared.refusal.Refusal.TheVariants.{UserExists, UserHasMail}
+use Rattle.mailstore.proofs.StandingLemmas.{open_there}
+use Rattle.sessions.specs.Table.{RepliesOf, early_reply}
 use Rattle.mailstore.specs.Account.{row_with}
 use Rattle.mailengine.specs.OwnActs as own
-use Rattle.mailengine.specs.OwnActs.{Act, ActsAlone, Alone, CommandsAlone, RepliesAlone, ReceivesIn, JoinsIn, TakesRowAlone, TakesAloneIn, TakesFirstAlone, TakesMailAloneIn, fresh}
+use Rattle.mailengine.specs.OwnActs.{Act, ActsAlone, Alone, CommandsAlone, RepliesAlone, ReceivesOpen, ReceivesIn, RenewsAlone, JoinsIn, TakesRowAlone, TakesOpen, TakesFirstAlone, TakesMailOpen, fresh}
 use Rattle.mailengine.specs.Sound.{IsSoundScript, IsSound, AreSound}
 use Rattle.mailengine.specs.World.{World, Next, Runs}
 use Rattle.mailengine.proofs.AloneLemmas.{next_alone, projection}
@@ -257,12 +263,12 @@ delivers_sound addr moment mail (Tells text) a a2 report own is =
 
 -- ---- the acts of one user
 
--- an account that was just added
-sound_fresh : (name address salt password : List ℕ) → IsNewUser name address password → IsSound (fresh address salt password)
-sound_fresh name address salt password new = record {
-  address = new.addressed;
+-- an account without scripts and folders
+sound_bare : (address : List ℕ) (a : Account) → IsOwnAddress address → IsSound (addresses address (empties a))
+sound_bare address a own = record {
+  address = own;
   scripts = λ script text is. absurd (none_some text (sym (get-empty bytes_cmp script) ∙ is));
-  few = let none : len (fresh address salt password).scripts ≡ 0 = len-empty bytes_cmp (List ℕ) in omega arith;
+  few = let none : len (empties a).scripts ≡ 0 = len-empty bytes_cmp (List ℕ) in omega arith;
   active = tt;
   filled = λ folder is. none_some {X = List (List ℕ)} [] (sym (get-empty bytes_cmp folder) ∙ is);
 }
@@ -270,9 +276,50 @@ sound_fresh name address salt password new = record {
     none_some : {X : Type 0} (x : X) → None ≡ Some x → ⊥
     none_some x is = cc
 
+-- an account that was just added, or opened anew, and one that was removed
+sound_fresh : (name address salt password : List ℕ) → IsNewUser name address password → IsSound (fresh address salt password)
+sound_fresh name address salt password new =
+    let bare = sound_bare address (fresh address salt password) new.addressed in
+    record { address = bare.address; scripts = bare.scripts; few = bare.few; active = bare.active; filled = bare.filled }
+
+sound_renewed : (name address salt password : List ℕ) (a : Account) → IsNewUser name address password → IsSound (renews address (kept_password salt password) a)
+sound_renewed name address salt password a new =
+    let bare = sound_bare address a new.addressed in
+    record { address = bare.address; scripts = bare.scripts; few = bare.few; active = bare.active; filled = bare.filled }
+
+sound_removed : (a : Account) → IsSound a → IsSound (removes a)
+sound_removed a own =
+    let bare = sound_bare a.address a own.address in
+    record { address = bare.address; scripts = bare.scripts; few = bare.few; active = bare.active; filled = bare.filled }
+
+-- and whatever else an administrator makes of one
+sound_stored : (a : Account) → IsSound a → (name text : List ℕ) → IsSoundScript name text → HasRoom a name → (activate : Bool) → IsSound (stores name text activate a)
+sound_stored a own name text new room true =
+    let put = sound_put a own name text new room in
+    record { address = put.address; scripts = put.scripts; few = put.few; active = there; filled = put.filled }
+  where
+    there : IsSome (get (insert a.scripts name text) name)
+    there = subst IsSome (sym (get-insert nat_list_cmp_total a.scripts name text name ∙ ap (λ b. cond b (Some text) (get a.scripts name)) (bytes_eq_refl name))) refl
+sound_stored a own name text new room false = sound_put a own name text new room
+
+sound_lasts : LastsThrough IsSound
+sound_lasts = record {
+  guarded = λ a password own. record { address = own.address; scripts = own.scripts; few = own.few; active = own.active; filled = own.filled };
+  addressed = λ a address new own. record { address = new; scripts = own.scripts; few = own.few; active = own.active; filled = own.filled };
+  stored = λ a name text activate named short valid room own. sound_stored a own name text (record { named = named; short = short; valid = valid }) room activate;
+  counted = λ a rounds own. record { address = own.address; scripts = own.scripts; few = own.few; active = own.active; filled = own.filled };
+  removed = λ a own. sound_removed a own;
+  noticed = λ a until own. record { address = own.address; scripts = own.scripts; few = own.few; active = own.active; filled = own.filled };
+}
+
 commands_sound : (account later : Option Account) (command : Command) (octets : List ℕ) → IfSome account IsSound → CommandsAlone account command octets later → IfSome later IsSound
 commands_sound account later command octets own is = subst (λ o. IfSome o IsSound) (sym is.changed) (go account command own is.replies)
   where
+    -- to an account that is closed the command is early, and changes nothing
+    shown : (a : Account) → IsSound a → (c : Command) (closed : Bool) → RepliesOf (cond closed None (Some a)) c is.reply → IsSound (obeyed c is.reply.word a)
+    shown a sound c true told = subst (λ (r : Reply). IsSound (obeyed c r.word a)) (sym told) sound
+    shown a sound c false told = sound_obeyed a sound c is.reply told
+
     go : (o : Option Account) (c : Command) → IfSome o IsSound → RepliesAlone o c is.reply → IfSome (option_map (obeyed c is.reply.word) o) IsSound
     go None c sound told = tt
     go (Some a) Unauthenticate sound told = quiet (is_ok is.reply.word)
@@ -285,18 +332,18 @@ commands_sound account later command octets own is = subst (λ o. IfSome o IsSou
         quiet : (b : Bool) → IsSound (cond b a a)
         quiet true = sound
         quiet false = sound
-    go (Some a) Capability sound told = sound_obeyed a sound Capability is.reply told
-    go (Some a) (Noop tag) sound told = sound_obeyed a sound (Noop tag) is.reply told
-    go (Some a) Logout sound told = sound_obeyed a sound Logout is.reply told
-    go (Some a) (Authenticate mechanism response) sound told = sound_obeyed a sound (Authenticate mechanism response) is.reply told
-    go (Some a) (verb.Response text) sound told = sound_obeyed a sound (verb.Response text) is.reply told
-    go (Some a) (HaveSpace name size) sound told = sound_obeyed a sound (HaveSpace name size) is.reply told
-    go (Some a) (PutScript name text) sound told = sound_obeyed a sound (PutScript name text) is.reply told
-    go (Some a) ListScripts sound told = sound_obeyed a sound ListScripts is.reply told
-    go (Some a) (SetActive name) sound told = sound_obeyed a sound (SetActive name) is.reply told
-    go (Some a) (GetScript name) sound told = sound_obeyed a sound (GetScript name) is.reply told
-    go (Some a) (DeleteScript name) sound told = sound_obeyed a sound (DeleteScript name) is.reply told
-    go (Some a) (RenameScript old new) sound told = sound_obeyed a sound (RenameScript old new) is.reply told
+    go (Some a) Capability sound told = shown a sound Capability (is_closed a) told
+    go (Some a) (Noop tag) sound told = shown a sound (Noop tag) (is_closed a) told
+    go (Some a) Logout sound told = shown a sound Logout (is_closed a) told
+    go (Some a) (Authenticate mechanism response) sound told = shown a sound (Authenticate mechanism response) (is_closed a) told
+    go (Some a) (verb.Response text) sound told = shown a sound (verb.Response text) (is_closed a) told
+    go (Some a) (HaveSpace name size) sound told = shown a sound (HaveSpace name size) (is_closed a) told
+    go (Some a) (PutScript name text) sound told = shown a sound (PutScript name text) (is_closed a) told
+    go (Some a) ListScripts sound told = shown a sound ListScripts (is_closed a) told
+    go (Some a) (SetActive name) sound told = shown a sound (SetActive name) (is_closed a) told
+    go (Some a) (GetScript name) sound told = shown a sound (GetScript name) (is_closed a) told
+    go (Some a) (DeleteScript name) sound told = shown a sound (DeleteScript name) (is_closed a) told
+    go (Some a) (RenameScript old new) sound told = shown a sound (RenameScript old new) (is_closed a) told
 
 -- a folder that keeps no message goes
 filled_left : (folder : List ℕ) (left : List (List ℕ)) (folders : Folders) → ((f : List ℕ) → get folders f ≢ Some []) → (f : List ℕ) → get (holding folders folder left) f ≢ Some []
@@ -317,24 +364,34 @@ act_sound user account later (own.Receives envelope message moment answer) sound
   where
     go : (o : Option Refusal) (account : Option Account) → IfSome account IsSound → ReceivesIn o account envelope message moment answer later → IfSome later IsSound
     go (Some refusal) account sound is = subst (λ o. IfSome o IsSound) (sym is.stays) sound
-    go None None sound is = subst (λ o. IfSome o IsSound) (sym is.stays) tt
-    go None (Some a) sound is = subst (λ o. IfSome o IsSound) (sym is.changed) (delivers_sound is.delivers.own moment (mail_of message envelope) is.delivers.delivers.disposition a is.after is.report sound is.delivers.delivers.delivers)
+    go None account sound is = opened (open_one account) refl is
+      where
+        opened : (o : Option Account) → open_one account ≡ o → ReceivesOpen account o envelope message moment answer later → IfSome later IsSound
+        opened None none is = subst (λ o. IfSome o IsSound) (sym is.stays) sound
+        opened (Some a) has is =
+            subst (λ o. IfSome o IsSound) (sym is.changed)
+            (delivers_sound is.delivers.own moment (mail_of message envelope) is.delivers.delivers.disposition a is.after is.report (subst (λ o. IfSome o IsSound) (open_there account a has) sound) is.delivers.delivers.delivers)
 act_sound user account later (own.Joins address salt password answer) sound (inl (new, is)) = go account sound is
   where
+    over : (a : Account) → IsSound a → (closed full : Bool) → MatchBool closed (MatchBool full (Refuses UserHasMail (Some a) answer later) (RenewsAlone a address salt password answer later)) (Refuses UserExists (Some a) answer later) → IfSome later IsSound
+    over a sound true true is = subst (λ o. IfSome o IsSound) (sym is.stays) sound
+    over a sound true false is = subst (λ o. IfSome o IsSound) (sym is.changed) (sound_renewed user address salt password a new)
+    over a sound false full is = subst (λ o. IfSome o IsSound) (sym is.stays) sound
+
     go : (account : Option Account) → IfSome account IsSound → JoinsIn account address salt password answer later → IfSome later IsSound
     go None sound is = subst (λ o. IfSome o IsSound) (sym is.changed) (sound_fresh user address salt password new)
-    go (Some a) sound is = subst (λ o. IfSome o IsSound) (sym is.stays) sound
+    go (Some a) sound is = over a sound (is_closed a) (has_mail a) is
 act_sound user account later (own.Joins address salt password answer) sound (inr (bad, is)) = subst (λ o. IfSome o IsSound) (sym is.stays) sound
-act_sound user account later (own.TakesOut id answer) sound is = go account sound is
+act_sound user account later (own.TakesOut id answer) sound is = go (open_one account) refl is
   where
     row : (a : Account) (o : Option Outgoing) → IsSound a → TakesRowAlone a o answer later → IfSome later IsSound
     row a None sound is = subst (λ o. IfSome o IsSound) (sym is.stays) sound
     row a (Some out) sound is = subst (λ o. IfSome o IsSound) (sym is.changed) (record { address = sound.address; scripts = sound.scripts; few = sound.few; active = sound.active; filled = sound.filled })
 
-    go : (account : Option Account) → IfSome account IsSound → TakesAloneIn account id answer later → IfSome later IsSound
-    go None sound is = subst (λ o. IfSome o IsSound) (sym is.stays) tt
-    go (Some a) sound is = row a (row_with id a.queue) sound is
-act_sound user account later (own.TakesMail folder answer) sound is = go account sound is
+    go : (o : Option Account) → open_one account ≡ o → TakesOpen account o id answer later → IfSome later IsSound
+    go None none is = subst (λ o. IfSome o IsSound) (sym is.stays) sound
+    go (Some a) has is = row a (row_with id a.queue) (subst (λ o. IfSome o IsSound) (open_there account a has) sound) is
+act_sound user account later (own.TakesMail folder answer) sound is = go (open_one account) refl is
   where
     row : (a : Account) (messages : List (List ℕ)) → IsSound a → TakesFirstAlone a folder messages answer later → IfSome later IsSound
     row a [] sound is = subst (λ o. IfSome o IsSound) (sym is.stays) sound
@@ -342,9 +399,14 @@ act_sound user account later (own.TakesMail folder answer) sound is = go account
         subst (λ o. IfSome o IsSound) (sym is.changed)
         (record { address = sound.address; scripts = sound.scripts; few = sound.few; active = sound.active; filled = filled_left folder (drop 1 (messages_in a.folders folder)) a.folders sound.filled })
 
-    go : (account : Option Account) → IfSome account IsSound → TakesMailAloneIn account folder answer later → IfSome later IsSound
-    go None sound is = subst (λ o. IfSome o IsSound) (sym is.stays) tt
-    go (Some a) sound is = row a (messages_in a.folders folder) sound is
+    go : (o : Option Account) → open_one account ≡ o → TakesMailOpen account o folder answer later → IfSome later IsSound
+    go None none is = subst (λ o. IfSome o IsSound) (sym is.stays) sound
+    go (Some a) has is = row a (messages_in a.folders folder) (subst (λ o. IfSome o IsSound) (open_there account a has) sound) is
+act_sound user account later (own.IsKept upkeep answer) sound (change, keeps, is) = subst (λ o. IfSome o IsSound) (sym is) (go change (keeps_holds IsSound sound_lasts answer change upkeep account sound keeps))
+  where
+    go : (o : Option Account) → IfSome o IsSound → IfSome (instead o account) IsSound
+    go None holds = sound
+    go (Some b) holds = holds
 
 alone_sound : (user : List ℕ) (acts : List Act) (account end : Option Account) → IfSome account IsSound → Alone user account acts end → IfSome end IsSound
 alone_sound user [] account end sound is = subst (λ o. IfSome o IsSound) (sym is) sound

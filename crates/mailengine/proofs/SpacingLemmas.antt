@@ -1,5 +1,5 @@
 -- Answers to one sender under one handle are spaced by their periods.
-use Rattle.std.proofs.Common.{◌≡◌, ℕ, ◌+◌, ◌<◌, ◌≤◌, Bool, true, false, cond, List, [], ◌∷◌, ◌++◌, Option, Some, None, option_map, refl, sym, ◌∙◌, ap, subst, inl, inr, arith}
+use Rattle.std.proofs.Common.{◌≡◌, ℕ, ◌+◌, ◌<◌, ◌≤◌, Bool, true, false, cond, List, [], ◌∷◌, ◌++◌, Option, Some, None, IfSome, MatchBool, option_map, refl, sym, ◌∙◌, ap, subst, inl, inr, arith}
 use Rattle.std.specs.declared.cmp.Ordering.{Ordering}
 use Rattle.std.specs.declared.cmp.Ordering.TheVariants.{Less, Equal, Greater}
 use Rattle.std.specs.FinMap.{get, get-insert}
@@ -25,7 +25,8 @@ use Rattle.vacreply.specs.declared.reason.Reason.{Reason}
 use Rattle.vacreply.specs.declared.reason.Reason.TheVariants as R
 use Rattle.vacreply.specs.declared.reason.Decision.{Decision}
 use Rattle.vacreply.specs.declared.reason.Decision.TheVariants as D
-use Rattle.mailstore.specs.Account.{bytes_cmp, reply_cmp, Account, Accounts, files_copies, remembers, queues, messages_in}
+use Rattle.mailstore.specs.Account.{bytes_cmp, reply_cmp, Account, Accounts, Replies, is_closed, open_one, open_of, has_mail, files_copies, remembers, queues, messages_in}
+use Rattle.mailstore.proofs.StandingLemmas.{open_there}
 use Rattle.mailtables.specs.declared.queue.Kind.TheVariants as kind
 use Rattle.mailstore.specs.declared.report.Report.{Report}
 use Rattle.mailstore.specs.declared.report.VacationReport.{VacationReport}
@@ -35,13 +36,16 @@ use Rattle.sessions.specs.Scripts.{carried_out, obeyed}
 use Rattle.deliverplan.specs.Views.{last_reply}
 use Rattle.deliverplan.specs.Delivered.{Disposition, Acts, Tells, Response, Silent, Quiet, Sent, latest, Follows, Responds, acts, redirects, responds, vacation_report, DeliversAs}
 use Rattle.mailengine.specs.declared.event.Event.{Event}
-use Rattle.mailengine.specs.declared.event.Event.TheVariants.{Open, Give, Step, GiveUp, Close, Deliver, AddUser, TakeOut, TakeMail}
+use Rattle.mailengine.specs.declared.event.Event.TheVariants.{Open, Give, Step, GiveUp, Close, Deliver, AddUser, TakeOut, TakeMail, Keep}
 use Rattle.mailengine.specs.declared.answer.Answer.{Answer}
 use Rattle.mailengine.specs.Limits.{limit_refusal}
 use Rattle.mailstore.specs.Account.{row_with}
-use Rattle.mailengine.specs.AccountEvents.{DeliversIn, DeliversUnder}
+use Rattle.mailengine.specs.AccountEvents.{Refuses, DeliversIn, DeliversUnder}
+use Rattle.mailengine.specs.Upkeep.{stores, instead}
+use Rattle.mailengine.proofs.UpkeepLemmas.{LastsThrough, keeps_holds}
+use Rattle.mailstore.specs.declared.refusal.Refusal.TheVariants.{UserExists, UserHasMail}
 use Rattle.mailengine.specs.OwnActs as own
-use Rattle.mailengine.specs.OwnActs.{Act, ActsAlone, Alone, ReceivesIn, JoinsIn, TakesRowAlone, TakesAloneIn, TakesFirstAlone, TakesMailAloneIn}
+use Rattle.mailengine.specs.OwnActs.{Act, ActsAlone, Alone, ReceivesOpen, ReceivesIn, RenewsAlone, JoinsIn, TakesRowAlone, TakesOpen, TakesFirstAlone, TakesMailOpen}
 use Rattle.mailengine.specs.World.{World, Next, Runs}
 use Rattle.mailengine.specs.Spacing.{Thread, Entry, entry_of, entries_if, vacation_in, sent_in, sent_under, sent_by, sent_at, sent, kept_in, kept, IsPast, ComeAfter, Follow, IsAtLeast, IsSpacing}
 use Rattle.mailengine.proofs.AloneLemmas.{put_own, next_alone, projection}
@@ -235,6 +239,26 @@ mapped_keeps : (account : Option Account) (change : Account → Account) (thread
 mapped_keeps None change thread same = tt
 mapped_keeps (Some a) change thread same = no_sooner_is (kept_in (Some a) thread) (kept_in (Some (change a)) thread) (ap (λ m. get m (place thread)) (same a))
 
+-- what an administrator does leaves what is remembered
+replies_last : (r : Replies) → LastsThrough (λ a. a.replies ≡ r)
+replies_last r = record {
+  guarded = λ a password is. is;
+  addressed = λ a address own is. is;
+  stored = λ a name text activate named short valid room is. go a name text activate is;
+  counted = λ a rounds is. is;
+  removed = λ a is. is;
+  noticed = λ a until is. is;
+}
+  where
+    go : (a : Account) (name text : List ℕ) (activate : Bool) → a.replies ≡ r → (stores name text activate a).replies ≡ r
+    go a name text true is = is
+    go a name text false is = is
+
+kept_keeps : (account change : Option Account) (thread : Thread) → ((r : Replies) → IfSome account (λ a. a.replies ≡ r) → IfSome change (λ a. a.replies ≡ r)) → IsNoSooner (kept_in account thread) (kept_in (instead change account) thread)
+kept_keeps account None thread lasts = no_sooner_same (kept_in account thread)
+kept_keeps None (Some b) thread lasts = tt
+kept_keeps (Some a) (Some b) thread lasts = no_sooner_is (kept_in (Some a) thread) (kept_in (Some b) thread) (ap (λ m. get m (place thread)) (lasts a.replies refl))
+
 -- an act never makes a kept moment sooner
 act_keeps : (user : List ℕ) (account later : Option Account) (act : Act) (thread : Thread) → ActsAlone user account act later → IsNoSooner (kept_in account thread) (kept_in later thread)
 act_keeps user account later (own.Commands command octets) thread is =
@@ -244,32 +268,45 @@ act_keeps user account later (own.Receives envelope message moment answer) threa
   where
     go : (o : Option Refusal) (account : Option Account) → ReceivesIn o account envelope message moment answer later → IsNoSooner (kept_in account thread) (kept_in later thread)
     go (Some refusal) account is = no_sooner_is (kept_in account thread) (kept_in later thread) (ap (λ o. kept_in o thread) is.stays)
-    go None None is = tt
-    go None (Some a) is = subst (λ o. IsNoSooner (kept_in (Some a) thread) (kept_in o thread)) (sym is.changed) (delivers_keeps is.delivers.own moment (mail_of message envelope) is.delivers.delivers.disposition a is.after is.report thread is.delivers.delivers.delivers)
+    go None account is = opened (open_one account) refl is
+      where
+        opened : (o : Option Account) → open_one account ≡ o → ReceivesOpen account o envelope message moment answer later → IsNoSooner (kept_in account thread) (kept_in later thread)
+        opened None none is = no_sooner_is (kept_in account thread) (kept_in later thread) (ap (λ o. kept_in o thread) is.stays)
+        opened (Some a) has is =
+            subst (λ b. IsNoSooner (kept_in b thread) (kept_in later thread)) (sym (open_there account a has))
+            (subst (λ o. IsNoSooner (kept_in (Some a) thread) (kept_in o thread)) (sym is.changed) (delivers_keeps is.delivers.own moment (mail_of message envelope) is.delivers.delivers.disposition a is.after is.report thread is.delivers.delivers.delivers))
 act_keeps user account later (own.Joins address salt password answer) thread (inl (new, is)) = go account is
   where
+    -- an account that is opened anew keeps what it remembers
+    over : (a : Account) (closed full : Bool) → MatchBool closed (MatchBool full (Refuses UserHasMail (Some a) answer later) (RenewsAlone a address salt password answer later)) (Refuses UserExists (Some a) answer later)
+        → IsNoSooner (kept_in (Some a) thread) (kept_in later thread)
+    over a true true is = no_sooner_is (kept_in (Some a) thread) (kept_in later thread) (ap (λ o. kept_in o thread) is.stays)
+    over a true false is = no_sooner_is (kept_in (Some a) thread) (kept_in later thread) (ap (λ o. kept_in o thread) is.changed)
+    over a false full is = no_sooner_is (kept_in (Some a) thread) (kept_in later thread) (ap (λ o. kept_in o thread) is.stays)
+
     go : (account : Option Account) → JoinsIn account address salt password answer later → IsNoSooner (kept_in account thread) (kept_in later thread)
     go None is = tt
-    go (Some a) is = no_sooner_is (kept_in (Some a) thread) (kept_in later thread) (ap (λ o. kept_in o thread) is.stays)
+    go (Some a) is = over a (is_closed a) (has_mail a) is
 act_keeps user account later (own.Joins address salt password answer) thread (inr (bad, is)) = no_sooner_is (kept_in account thread) (kept_in later thread) (ap (λ o. kept_in o thread) is.stays)
-act_keeps user account later (own.TakesOut id answer) thread is = go account is
+act_keeps user account later (own.TakesOut id answer) thread is = go (open_one account) refl is
   where
     row : (a : Account) (o : Option Outgoing) → TakesRowAlone a o answer later → IsNoSooner (kept_in (Some a) thread) (kept_in later thread)
     row a None is = no_sooner_is (kept_in (Some a) thread) (kept_in later thread) (ap (λ o. kept_in o thread) is.stays)
     row a (Some out) is = no_sooner_is (kept_in (Some a) thread) (kept_in later thread) (ap (λ o. kept_in o thread) is.changed)
 
-    go : (account : Option Account) → TakesAloneIn account id answer later → IsNoSooner (kept_in account thread) (kept_in later thread)
-    go None is = tt
-    go (Some a) is = row a (row_with id a.queue) is
-act_keeps user account later (own.TakesMail folder answer) thread is = go account is
+    go : (o : Option Account) → open_one account ≡ o → TakesOpen account o id answer later → IsNoSooner (kept_in account thread) (kept_in later thread)
+    go None none is = no_sooner_is (kept_in account thread) (kept_in later thread) (ap (λ o. kept_in o thread) is.stays)
+    go (Some a) has is = subst (λ b. IsNoSooner (kept_in b thread) (kept_in later thread)) (sym (open_there account a has)) (row a (row_with id a.queue) is)
+act_keeps user account later (own.TakesMail folder answer) thread is = go (open_one account) refl is
   where
     row : (a : Account) (messages : List (List ℕ)) → TakesFirstAlone a folder messages answer later → IsNoSooner (kept_in (Some a) thread) (kept_in later thread)
     row a [] is = no_sooner_is (kept_in (Some a) thread) (kept_in later thread) (ap (λ o. kept_in o thread) is.stays)
     row a (message ∷ more) is = no_sooner_is (kept_in (Some a) thread) (kept_in later thread) (ap (λ o. kept_in o thread) is.changed)
 
-    go : (account : Option Account) → TakesMailAloneIn account folder answer later → IsNoSooner (kept_in account thread) (kept_in later thread)
-    go None is = no_sooner_is (kept_in None thread) (kept_in later thread) (ap (λ o. kept_in o thread) is.stays)
-    go (Some a) is = row a (messages_in a.folders folder) is
+    go : (o : Option Account) → open_one account ≡ o → TakesMailOpen account o folder answer later → IsNoSooner (kept_in account thread) (kept_in later thread)
+    go None none is = no_sooner_is (kept_in account thread) (kept_in later thread) (ap (λ o. kept_in o thread) is.stays)
+    go (Some a) has is = subst (λ b. IsNoSooner (kept_in b thread) (kept_in later thread)) (sym (open_there account a has)) (row a (messages_in a.folders folder) is)
+act_keeps user account later (own.IsKept upkeep answer) thread (change, keeps, is) = subst (λ o. IsNoSooner (kept_in account thread) (kept_in o thread)) (sym is) (kept_keeps account change thread (λ r fits. keeps_holds (λ a. a.replies ≡ r) (replies_last r) answer change upkeep account fits keeps))
 
 alone_keeps : (user : List ℕ) (acts : List Act) (account end : Option Account) (thread : Thread) → Alone user account acts end → IsNoSooner (kept_in account thread) (kept_in end thread)
 alone_keeps user [] account end thread is = no_sooner_is (kept_in account thread) (kept_in end thread) (ap (λ o. kept_in o thread) is)
@@ -344,20 +381,21 @@ sent_one w next (Close s) answer (inl made) = tt
 sent_one w next (AddUser name address salt password) answer (inl made) = tt
 sent_one w next (TakeOut name id) answer (inl made) = tt
 sent_one w next (TakeMail name folder) answer (inl made) = tt
+sent_one w next (Keep name upkeep) answer (inl made) = tt
 sent_one w next (Deliver user envelope message moment) answer (inl made) = subst (λ v. IsOneAnswer w.accounts v.accounts (sent_by w (Deliver user envelope message moment) answer next made)) (sym made.2) (go (limit_refusal envelope message moment) made.1)
   where
     later : Accounts
     later = made.0
 
-    inserted : (o : Option Account) → get w.accounts user ≡ o → (is : DeliversIn w.accounts user moment envelope message o answer later) → IsOneAnswer w.accounts later (sent_in w.accounts user moment envelope message o answer later is)
+    inserted : (o : Option Account) → open_of w.accounts user ≡ o → (is : DeliversIn w.accounts user moment envelope message o answer later) → IsOneAnswer w.accounts later (sent_in w.accounts user moment envelope message o answer later is)
     inserted None has is = tt
     inserted (Some a) has is =
-        named_one w.accounts later user (Some a) (Some is.account) envelope.from moment is.report.vacation (vacation_in is.delivers.delivers.disposition) has (ap (λ all. get all user) is.changed ∙ put_own w.accounts user is.account (bytes_eq_refl user))
+        named_one w.accounts later user (Some a) (Some is.account) envelope.from moment is.report.vacation (vacation_in is.delivers.delivers.disposition) (open_there (get w.accounts user) a has) (ap (λ all. get all user) is.changed ∙ put_own w.accounts user is.account (bytes_eq_refl user))
         (delivered_one is.delivers.own user moment (mail_of message envelope) is.delivers.delivers.disposition a is.account is.report is.delivers.delivers.delivers)
 
     go : (o : Option Refusal) → (is : DeliversUnder o w.accounts user moment envelope message answer later) → IsOneAnswer w.accounts later (sent_under o w.accounts user moment envelope message answer later is)
     go (Some refusal) is = tt
-    go None is = inserted (get w.accounts user) refl is
+    go None is = inserted (open_of w.accounts user) refl is
 
 -- ---- runs
 

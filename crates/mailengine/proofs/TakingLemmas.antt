@@ -5,7 +5,8 @@ use Rattle.mailstore.specs.declared.queue.Outgoing.{Outgoing}
 use Rattle.mailstore.specs.declared.refusal.Refusal.{Refusal}
 use Rattle.mailstore.specs.declared.refusal.Refusal.TheVariants.{NoUser, NoRow}
 use Rattle.mailstore.specs.Account.{Account, Accounts, with_user, takes_out}
-use Rattle.mailstore.specs.Promises.{HasUser, IsFree, OfUser, WritesUser}
+use Rattle.mailstore.specs.Promises.{HasUser, HasNoOpen, OfOpen, WritesUser}
+use Rattle.mailstore.proofs.StandingLemmas.{has_there}
 use Rattle.mailstore.specs.Refusals.{IsTransient}
 use Rattle.mailstore.specs.Shows.{Presents}
 use Rattle.sessions.specs.Acts.{HasAccounts}
@@ -36,7 +37,7 @@ module _ (user : List ℕ) (id : ℕ) where
   transient_turn : (e : Refusal) (accounts : Accounts) → IsTransient e → TurnsBy Row IsTransient (Refused e) accounts accounts
   transient_turn e accounts transient = inr (e, transient, refl, refl)
 
-  absent_turn : (accounts : Accounts) → IsFree user accounts → TurnsBy Row IsTransient (Refused NoUser) accounts accounts
+  absent_turn : (accounts : Accounts) → HasNoOpen user accounts → TurnsBy Row IsTransient (Refused NoUser) accounts accounts
   absent_turn accounts free = inl (subst (λ o. TakesIn accounts user id o (Refused NoUser) accounts) (sym free) (record { refused = refl; stays = refl }))
 
   -- the row couldn't be read
@@ -50,11 +51,11 @@ module _ (user : List ℕ) (id : ℕ) where
       turn clean accounts shown (inr transient) = transient_turn e accounts transient
 
   module _ (a b : State) (r : Result (Option Outgoing) Refusal) (o : Option Outgoing) (was : r ≡ Ok o) (look : LooksUp user Found a b r) where
-    found : HasCleanDisk b → (accounts : Accounts) → Presents a.now accounts → OfUser accounts user (Found o)
-    found clean accounts p = subst (λ q. IfOk q (λ x. OfUser accounts user (Found x))) was (look.reads.found clean accounts p)
+    found : HasCleanDisk b → (accounts : Accounts) → Presents a.now accounts → OfOpen accounts user (Found o)
+    found clean accounts p = subst (λ q. IfOk q (λ x. OfOpen accounts user (Found x))) was (look.reads.found clean accounts p)
 
     -- what the row of the event is, by the row that was found
-    by_row : (answer : Answer) (later accounts : Accounts) → OfUser accounts user (Found o) → TakesRow accounts user o answer later → Row accounts answer later
+    by_row : (answer : Answer) (later accounts : Accounts) → OfOpen accounts user (Found o) → TakesRow accounts user o answer later → Row accounts answer later
     by_row answer later accounts own takes = subst (λ x. TakesIn accounts user id x answer later) (sym own.1) (subst (λ x. TakesRow accounts user x answer later) own.2 takes)
 
     -- no row has the number
@@ -69,7 +70,7 @@ module _ (user : List ℕ) (id : ℕ) where
       fits clean accounts p =
           let own = found clean accounts p in
           let numbered : row.id ≡ id = row_numbered id own.0.queue row (sym own.2 ∙ is) in (
-            subst IsSome (sym own.1) refl,
+            has_there accounts user (subst IsSome (sym own.1) refl),
             by_row (Taken row) (with_user accounts user (takes_out id)) accounts own
                 (subst (λ x. TakesRow accounts user x (Taken row) (with_user accounts user (takes_out id))) (sym is) (record { taken = refl; changed = ap (λ n. with_user accounts user (takes_out n)) (sym numbered) })),
           )

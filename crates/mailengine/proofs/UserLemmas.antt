@@ -1,23 +1,42 @@
--- A new user: the tests, the read of the account, and then the write.
-use Rattle.std.proofs.Common.{◌≡◌, ℕ, List, Option, Some, None, option_map, Ok, Err, Result, OnOk, IfOk, IfErr, refl, sym, subst, inl, inr}
+-- A new user: the tests, how an account of the name stands, and then the write.
+use Rattle.std.proofs.Common.{◌≡◌, ℕ, Bool, true, false, cond, is_some, List, Option, Some, None, option_map, Ok, Err, Result, MatchBool, OnOk, IfOk, IfErr, IsSome, refl, sym, ap, ◌∙◌, subst, inl, inr}
 use Rattle.std.specs.FinMap.{get}
 use Rattle.sqlite.specs.State.{State, HasCleanDisk}
 use Rattle.saslplain.specs.Password.{digest_of}
-use Rattle.mailstore.specs.declared.profile.Profile.{Profile}
 use Rattle.mailstore.specs.declared.refusal.Refusal.{Refusal}
-use Rattle.mailstore.specs.declared.refusal.Refusal.TheVariants.{Memory, UserExists, BadUser}
-use Rattle.mailstore.specs.Account.{Accounts, new_user}
-use Rattle.mailstore.specs.AccountRows.{profile_of}
-use Rattle.mailstore.specs.Promises.{IsFree, ReadsProfile, Writes}
+use Rattle.mailstore.specs.declared.refusal.Refusal.TheVariants.{Memory, UserExists, UserHasMail, BadUser}
+use Rattle.mailstore.specs.Account.{Account, Accounts, is_closed, has_mail, new_user, renews, with_user}
+use Rattle.mailstore.specs.Promises.{HasUser, IsFree, Writes, WritesUser}
 use Rattle.mailstore.specs.Refusals.{IsTransient}
 use Rattle.mailstore.specs.Shows.{Presents}
 use Rattle.sessions.proofs.ActLemmas.{no_glance, glanced, read_shows, acts_read, acts_made, acts_undone}
 use Rattle.mailengine.specs.declared.answer.Answer.{Answer}
 use Rattle.mailengine.specs.declared.answer.Answer.TheVariants.{Added, Refused}
-use Rattle.mailengine.specs.AccountEvents.{rounds, AddsUnder, Addition}
-use Rattle.mailengine.specs.Hosts.{TurnsBy, MayTurnBy, MayRefuseAddition, ActsAddition}
+use Rattle.mailengine.specs.declared.standing.Standing.{Standing}
+use Rattle.mailengine.specs.AccountEvents.{Refuses, Renews, AddsUnder, Addition}
+use Rattle.mailengine.specs.Hosts.{TurnsBy, MayTurnBy, MayRefuseAddition, RefusesAddition, ActsAddition}
 use Rattle.mailengine.specs.Limits.{IsNewUser}
-use Rattle.mailengine.proofs.LookupLemmas.{free_of, owned_by}
+use Rattle.mailengine.specs.Lookups.{standing_of, over_standing, ReadsStanding}
+use Rattle.mailengine.specs.Upkeep.{rounds, kept_password}
+
+-- which refusals an account of the name gives
+over_named : (o : Option Standing) (refusal : Refusal) (P : Refusal → Type 0) → P UserExists → P UserHasMail → over_standing o ≡ Some refusal → P refusal
+over_named None refusal P there mail is = absurd (let no = is in cc)
+over_named (Some standing) refusal P there mail is = go standing.is_closed standing.has_mail is
+  where
+    go : (closed full : Bool) → cond closed (cond full (Some UserHasMail) None) (Some UserExists) ≡ Some refusal → P refusal
+    go true true e = let same : UserHasMail ≡ refusal = cc in subst P same mail
+    go true false e = absurd (let no = e in cc)
+    go false full e = let same : UserExists ≡ refusal = cc in subst P same there
+
+pub over_refuses : (name address password : List ℕ) (o : Option Standing) (refusal : Refusal) → IsNewUser name address password → over_standing o ≡ Some refusal → RefusesAddition name address password refusal
+over_refuses name address password o refusal new is = over_named o refusal (RefusesAddition name address password) (inr (inl (refl, new))) (inr (inr (inl (refl, new)))) is
+
+-- the refusals of the write, and of what is read before it
+pub transient_refuses : {X : Type 0} (name address password : List ℕ) (q : Result X Refusal) → IsNewUser name address password → IfErr q IsTransient → IfErr q (RefusesAddition name address password)
+transient_refuses name address password (Ok x) new transient = tt
+transient_refuses name address password (Err e) new (inl memory) = inr (inr (inr (inl memory)))
+transient_refuses name address password (Err e) new (inr store) = inr (inr (inr (inr (store, new))))
 
 module _ (name address salt password : List ℕ) where
   abbrev Row : Accounts → Answer → Accounts → Type 0
@@ -35,7 +54,7 @@ module _ (name address salt password : List ℕ) where
   addition_lacks a (Ok done) undone lack = absurd undone
   addition_lacks a (Err e) undone lack = acts_read a a (TurnsBy Row May (Refused e)) (MayTurnBy Row) (Err e) (λ clean open_before. tt) (no_glance a) (λ clean accounts shown. inr (e, inl lack, refl, refl))
 
-  module _ (new : IsNewUser name address password) (a b : State) (r : Result (Option Profile) Refusal) (read : ReadsProfile name a b r) where
+  module _ (new : IsNewUser name address password) (a b : State) (r : Result (Option Standing) Refusal) (read : ReadsStanding name a b r) where
     may : (e : Refusal) → IsTransient e → May e
     may e (inl memory) = inl memory
     may e (inr store) = inr (store, new)
@@ -43,39 +62,72 @@ module _ (name address salt password : List ℕ) where
     transient_turn : (e : Refusal) (accounts : Accounts) → IsTransient e → TurnsBy Row May (Refused e) accounts accounts
     transient_turn e accounts transient = inr (e, may e transient, refl, refl)
 
-    found : (o : Option Profile) → r ≡ Ok o → HasCleanDisk b → (accounts : Accounts) → Presents a.now accounts → o ≡ option_map profile_of (get accounts name)
-    found o is clean accounts p = subst (λ q. IfOk q (λ profile. profile ≡ option_map profile_of (get accounts name))) is (read.found clean accounts p)
-
-    -- the account couldn't be read
+    -- how the account stands couldn't be read
     pub addition_unread : (q : Result (Unit {0}) Refusal) → OnOk q ⊥ → IfErr q IsTransient → ActsAddition name address salt password a b q
     addition_unread (Ok done) undone transient = absurd undone
     addition_unread (Err e) undone transient = acts_read a b (TurnsBy Row May (Refused e)) (MayTurnBy Row) (Err e) (λ clean open_before. tt) (glanced a b r read.keeps) (λ clean accounts shown. transient_turn e accounts transient)
 
-    -- the name has an account
-    pub addition_taken : (profile : Profile) → r ≡ Ok (Some profile) → ActsAddition name address salt password a b (Err UserExists)
-    addition_taken profile is = acts_read a b (TurnsBy Row May (Refused UserExists)) (MayTurnBy Row) (Err UserExists) (λ clean open_before. tt) (glanced a b r read.keeps)
-        (λ clean accounts shown.
-        let p = (read_shows a b r (Some profile) is read.keeps clean accounts shown).0 in
-        let own = owned_by accounts name profile (found (Some profile) is clean accounts p) in
-        inl (inl (new, subst (λ o. AddsUnder accounts name address salt password o (Refused UserExists) accounts) (sym own.1) (record { refused = refl; stays = refl }))))
+    module _ (o : Option Standing) (was : r ≡ Ok o) where
+      found : HasCleanDisk b → (accounts : Accounts) → Presents a.now accounts → o ≡ option_map standing_of (get accounts name)
+      found clean accounts p = subst (λ q. IfOk q (λ standing. standing ≡ option_map standing_of (get accounts name))) was (read.found clean accounts p)
 
-    -- the name has none, and the account is written
-    module _ (is : r ≡ Ok None) (c : State) (w : Result (Unit {0}) Refusal) (late : Writes (IsFree name) (new_user name address salt rounds (digest_of salt password rounds)) b c w) where
-      abbrev added : Accounts → Accounts
-      added = new_user name address salt rounds (digest_of salt password rounds)
-
-      fits : HasCleanDisk b → (accounts : Accounts) → Presents a.now accounts → IsFree name accounts × Row accounts Added (added accounts)
-      fits clean accounts p =
-          let free = free_of accounts name (found None is clean accounts p) in
-          (free, inl (new, subst (λ o. AddsUnder accounts name address salt password o Added (added accounts)) (sym free) (record { added = refl; changed = refl })))
-
-      pub addition_written : (q : Result (Unit {0}) Refusal) → q ≡ w → ActsAddition name address salt password a c q
-      addition_written q same = subst (λ o. ActsAddition name address salt password a c o) (sym same) (go w refl late.named)
+      -- the name has an account that stands against it
+      over_turn : (refusal : Refusal) (accounts : Accounts) (has : Option Account) → over_standing (option_map standing_of has) ≡ Some refusal → AddsUnder accounts name address salt password has (Refused refusal) accounts
+      over_turn refusal accounts None is = absurd (let no = is in cc)
+      over_turn refusal accounts (Some account) is = go (is_closed account) (has_mail account) is
         where
-          go : (o : Result (Unit {0}) Refusal) → w ≡ o → IfErr o IsTransient → ActsAddition name address salt password a c o
-          go (Ok y) done transient =
-              acts_made a b c r None is read.keeps (IsFree name) added w late.made late.settled (λ clean tables. late.same clean) late.crash (TurnsBy Row May Added) (MayTurnBy Row) y y done
-              (λ clean accounts p. let f = fits clean accounts p in (f.0, inl f.1, (Added, f.1)))
-          go (Err e) refused transient =
-              acts_undone a b c r None is read.keeps (IsFree name) added w late.made late.settled (λ clean tables. late.same clean) late.crash (TurnsBy Row May (Refused e)) (MayTurnBy Row) e (Err e) refused
-              (λ told. told transient) (λ accounts. transient_turn e accounts transient) (λ clean accounts p. let f = fits clean accounts p in (f.0, (Added, f.1)))
+          go : (closed full : Bool) → cond closed (cond full (Some UserHasMail) None) (Some UserExists) ≡ Some refusal
+              → MatchBool closed (MatchBool full (Refuses UserHasMail accounts (Refused refusal) accounts) (Renews accounts name address salt password (Refused refusal) accounts)) (Refuses UserExists accounts (Refused refusal) accounts)
+          go true true e = let same : UserHasMail ≡ refusal = cc in record { refused = ap Refused (sym same); stays = refl }
+          go true false e = absurd (let no = e in cc)
+          go false full e = let same : UserExists ≡ refusal = cc in record { refused = ap Refused (sym same); stays = refl }
+
+      pub addition_over : (refusal : Refusal) → over_standing o ≡ Some refusal → ActsAddition name address salt password a b (Err refusal)
+      addition_over refusal is = acts_read a b (TurnsBy Row May (Refused refusal)) (MayTurnBy Row) (Err refusal) (λ clean open_before. tt) (glanced a b r read.keeps)
+          (λ clean accounts shown.
+          let p = (read_shows a b r o was read.keeps clean accounts shown).0 in
+          inl (inl (new, over_turn refusal accounts (get accounts name) (sym (ap over_standing (found clean accounts p)) ∙ is))))
+
+      -- the write, whatever it is
+      module _ (Fit : Accounts → Type 0) (change : Accounts → Accounts) (fits : HasCleanDisk b → (accounts : Accounts) → Presents a.now accounts → Fit accounts × Row accounts Added (change accounts))
+          (c : State) (w : Result (Unit {0}) Refusal) (late : Writes Fit change b c w) where
+        written : (q : Result (Unit {0}) Refusal) → w ≡ q → IfErr q IsTransient → ActsAddition name address salt password a c q
+        written (Ok y) done transient =
+            acts_made a b c r o was read.keeps Fit change w late.made late.settled (λ clean tables. late.same clean) late.crash (TurnsBy Row May Added) (MayTurnBy Row) y y done
+            (λ clean accounts p. let f = fits clean accounts p in (f.0, inl f.1, (Added, f.1)))
+        written (Err e) refused transient =
+            acts_undone a b c r o was read.keeps Fit change w late.made late.settled (λ clean tables. late.same clean) late.crash (TurnsBy Row May (Refused e)) (MayTurnBy Row) e (Err e) refused
+            (λ told. told transient) (λ accounts. transient_turn e accounts transient) (λ clean accounts p. let f = fits clean accounts p in (f.0, (Added, f.1)))
+
+      -- the name has no account, and a new one is written
+      free : is_some o ≡ false → (has : Option Account) → o ≡ option_map standing_of has → has ≡ None
+      free none None is = refl
+      free none (Some account) is = absurd (let no : true ≡ false = sym (ap is_some is) ∙ none in cc)
+
+      pub addition_written : is_some o ≡ false → (c : State) (w : Result (Unit {0}) Refusal) → Writes (IsFree name) (new_user name address salt rounds (digest_of salt password rounds)) b c w → ActsAddition name address salt password a c w
+      addition_written none c w late = written (IsFree name) (new_user name address salt rounds (digest_of salt password rounds)) fits c w late w refl late.named
+        where
+          fits : HasCleanDisk b → (accounts : Accounts) → Presents a.now accounts → IsFree name accounts × Row accounts Added (new_user name address salt rounds (digest_of salt password rounds) accounts)
+          fits clean accounts p =
+              let is = free none (get accounts name) (found clean accounts p) in
+              (is, inl (new, subst (λ h. AddsUnder accounts name address salt password h Added (new_user name address salt rounds (digest_of salt password rounds) accounts)) (sym is) (record { added = refl; changed = refl })))
+
+      -- the name has a closed account without mail, which is opened anew
+      abbrev renewed : Accounts → Accounts
+      renewed accounts = with_user accounts name (renews address (kept_password salt password))
+
+      renew_turn : is_some o ≡ true → over_standing o ≡ None → (accounts : Accounts) (has : Option Account) → o ≡ option_map standing_of has → IsSome has × AddsUnder accounts name address salt password has Added (renewed accounts)
+      renew_turn some clear accounts None is = absurd (let no : false ≡ true = sym (ap is_some is) ∙ some in cc)
+      renew_turn some clear accounts (Some account) is = (refl, go (is_closed account) (has_mail account) (sym (ap over_standing is) ∙ clear))
+        where
+          go : (closed full : Bool) → cond closed (cond full (Some UserHasMail) None) (Some UserExists) ≡ None
+              → MatchBool closed (MatchBool full (Refuses UserHasMail accounts Added (renewed accounts)) (Renews accounts name address salt password Added (renewed accounts))) (Refuses UserExists accounts Added (renewed accounts))
+          go true true e = absurd (let no = e in cc)
+          go true false e = record { added = refl; changed = refl }
+          go false full e = absurd (let no = e in cc)
+
+      pub addition_renewed : is_some o ≡ true → over_standing o ≡ None → (c : State) (w : Result (Unit {0}) Refusal) → WritesUser name (renews address (kept_password salt password)) b c w → ActsAddition name address salt password a c w
+      addition_renewed some clear c w late = written (HasUser name) renewed fits c w late w refl late.named
+        where
+          fits : HasCleanDisk b → (accounts : Accounts) → Presents a.now accounts → HasUser name accounts × Row accounts Added (renewed accounts)
+          fits clean accounts p = let turn = renew_turn some clear accounts (get accounts name) (found clean accounts p) in (turn.0, inl (new, turn.1))

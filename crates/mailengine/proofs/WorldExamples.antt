@@ -8,9 +8,9 @@ use Rattle.std.specs.BTreeMap as tree
 use Rattle.std.specs.BTreeMap.{BTreeMap}
 use Rattle.msproto.specs.Machine.{rows}
 use Rattle.msproto.specs.Replies.{spelled}
-use Rattle.mailstore.specs.Account.{bytes_cmp, Account}
+use Rattle.mailstore.specs.Account.{bytes_cmp, Account, open_one}
 use Rattle.mailstore.specs.declared.refusal.Refusal.{Refusal}
-use Rattle.mailstore.specs.declared.refusal.Refusal.TheVariants.{Memory, Store, NotOurs, NoUser, TooLarge, BadEnvelope, BadMoment, UserExists, BadUser, NoRow}
+use Rattle.mailstore.specs.declared.refusal.Refusal.TheVariants.{Memory, Store, NotOurs, NoUser, TooLarge, BadEnvelope, BadMoment, UserExists, BadUser, NoRow, AccountClosed, UserIsOpen, UserHasMail, BadScriptName, ScriptTooLarge, TooManyScripts}
 use Rattle.sieveexec.specs.declared.envelope.Envelope.{Envelope}
 use Rattle.sessions.specs.Clients.{Client, new_client, client_given}
 use Rattle.sessions.specs.Counts.{SessionView}
@@ -171,6 +171,12 @@ refused_to_give_up w next answer is = never is.refusal is.may
     never UserExists may = may
     never BadUser may = may
     never NoRow may = may
+    never AccountClosed may = may
+    never UserIsOpen may = may
+    never UserHasMail may = may
+    never BadScriptName may = may
+    never ScriptTooLarge may = may
+    never TooManyScripts may = may
 
 -- ---- a client goes
 
@@ -191,7 +197,7 @@ envelope = record { from = []; to = codes "alice@example.org" }
 
 -- sessions stay as they are; near miss: one of them is gone
 row_of_none : (c : Client) → Happens (seven c) (TakeOut alice 1) (Refused NoUser) (seven c)
-row_of_none c = (empty, subst (λ o. TakesIn empty alice 1 o (Refused NoUser) empty) (sym (get-empty bytes_cmp alice)) (record { refused = refl; stays = refl }), refl)
+row_of_none c = (empty, subst (λ o. TakesIn empty alice 1 o (Refused NoUser) empty) (sym (ap open_one (get-empty bytes_cmp alice))) (record { refused = refl; stays = refl }), refl)
 
 delivered_and_closed : (c : Client) (message : List ℕ) (moment : ℕ) (answer : Answer) → Happens (seven c) (Deliver alice envelope message moment) answer nothing → ⊥
 delivered_and_closed c message moment answer is =

@@ -1,14 +1,15 @@
 -- Events of the accounts alone: a delivery, a new user, a row taken out of the queue, a message taken out of a folder (RFC 5228, 2.10).
-use Rattle.std.specs.Prelude.{◌≡◌, ℕ, List, [], ◌∷◌, Option, Some, None}
+-- What an administrator does to one account stands in `Upkeep`.
+use Rattle.std.specs.Prelude.{◌≡◌, ℕ, cond, List, [], ◌∷◌, Option, Some, None, MatchBool}
 use Rattle.std.specs.FinMap.{get, insert}
 use Rattle.addrparts.specs.declared.address.Addr.{Addr}
 use Rattle.addrparts.specs.Outbound.{IsBareAddress}
 use Rattle.saslplain.specs.Password.{digest_of}
-use Rattle.mailstore.specs.Account.{Account, Accounts, Scripts, new_user, with_user, messages_in, row_with, takes_out, takes_mail}
+use Rattle.mailstore.specs.Account.{Account, Accounts, Scripts, is_closed, is_removed, open_of, has_mail, renews, new_user, with_user, messages_in, row_with, takes_out, takes_mail}
 use Rattle.mailstore.specs.declared.queue.Outgoing.{Outgoing}
 use Rattle.mailstore.specs.declared.report.Report.{Report}
 use Rattle.mailstore.specs.declared.refusal.Refusal.{Refusal}
-use Rattle.mailstore.specs.declared.refusal.Refusal.TheVariants.{NoUser, UserExists, BadUser, NoRow}
+use Rattle.mailstore.specs.declared.refusal.Refusal.TheVariants.{NoUser, UserExists, BadUser, NoRow, AccountClosed, UserHasMail}
 use Rattle.sieveexec.specs.declared.envelope.Envelope.{Envelope}
 use Rattle.sieveexec.specs.Mails.{mail_of}
 use Rattle.deliverplan.specs.Delivered.{Delivers}
@@ -16,6 +17,7 @@ use Rattle.sessions.specs.Scripts.{Where}
 use Rattle.mailengine.specs.declared.answer.Answer.{Answer}
 use Rattle.mailengine.specs.declared.answer.Answer.TheVariants.{Delivered, Added, Taken, MailTaken, Refused}
 use Rattle.mailengine.specs.Limits.{limit_refusal, IsNewUser}
+use Rattle.mailengine.specs.Upkeep.{rounds, kept_password}
 
 -- the event is refused by the machine itself, and nothing changes
 pub record Refuses {X : Type 0} (refusal : Refusal) (x : X) (answer : Answer) (later : X) : Type 0 where
@@ -48,15 +50,20 @@ pub record DeliversUser (accounts : Accounts) (user : List ℕ) (moment : ℕ) (
   pub reported : answer ≡ Delivered report
   pub changed : later ≡ insert accounts user account
 
--- by the account of the user, if there is one
+-- why nothing is delivered where no account is open: one that is closed and not removed may be on its way to another machine
+abbrev pub absence : Option Account → Refusal
+absence None = NoUser
+absence (Some a) = cond (is_removed a) NoUser AccountClosed
+
+-- by the open account of the user, if there is one
 abbrev pub DeliversIn : Accounts → List ℕ → ℕ → Envelope → List ℕ → Option Account → Answer → Accounts → Type 0
-DeliversIn accounts user moment envelope message None answer later = Refuses NoUser accounts answer later
+DeliversIn accounts user moment envelope message None answer later = Refuses (absence (get accounts user)) accounts answer later
 DeliversIn accounts user moment envelope message (Some a) answer later = DeliversUser accounts user moment envelope message a answer later
 
 -- by the cause that stands against it, if there is one
 abbrev pub DeliversUnder : Option Refusal → Accounts → List ℕ → ℕ → Envelope → List ℕ → Answer → Accounts → Type 0
 DeliversUnder (Some refusal) accounts user moment envelope message answer later = Refuses refusal accounts answer later
-DeliversUnder None accounts user moment envelope message answer later = DeliversIn accounts user moment envelope message (get accounts user) answer later
+DeliversUnder None accounts user moment envelope message answer later = DeliversIn accounts user moment envelope message (open_of accounts user) answer later
 
 abbrev pub Delivery : Accounts → List ℕ → Envelope → List ℕ → ℕ → Answer → Accounts → Type 0
 Delivery accounts user envelope message moment answer later =
@@ -64,19 +71,27 @@ Delivery accounts user envelope message moment answer later =
 
 -- ---- a new user
 
--- how often the digest of a new password is hashed again
-abbrev pub rounds : ℕ
-rounds = 10000
-
 -- the user is there with an empty account: the password is kept as its digest
 pub record Adds (accounts : Accounts) (name address salt password : List ℕ) (answer : Answer) (later : Accounts) : Type 0 where
   pub added : answer ≡ Added
   pub changed : later ≡ new_user name address salt rounds (digest_of salt password rounds) accounts
 
+-- a closed account is opened anew, empty but for the moments of its replies and its numbers
+pub record Renews (accounts : Accounts) (name address salt password : List ℕ) (answer : Answer) (later : Accounts) : Type 0 where
+  pub added : answer ≡ Added
+  pub changed : later ≡ with_user accounts name (renews address (kept_password salt password))
+
+-- over an account that has the name: one that is open stays, and so does one that is closed and has mail, so that nobody's mail goes or gets to another
+abbrev pub AddsOver : Accounts → List ℕ → List ℕ → List ℕ → List ℕ → Account → Answer → Accounts → Type 0
+AddsOver accounts name address salt password a answer later =
+    MatchBool (is_closed a)
+    (MatchBool (has_mail a) (Refuses UserHasMail accounts answer later) (Renews accounts name address salt password answer later))
+    (Refuses UserExists accounts answer later)
+
 -- by the account that has the name, if one has
 abbrev pub AddsUnder : Accounts → List ℕ → List ℕ → List ℕ → List ℕ → Option Account → Answer → Accounts → Type 0
 AddsUnder accounts name address salt password None answer later = Adds accounts name address salt password answer later
-AddsUnder accounts name address salt password (Some a) answer later = Refuses UserExists accounts answer later
+AddsUnder accounts name address salt password (Some a) answer later = AddsOver accounts name address salt password a answer later
 
 abbrev pub Addition : Accounts → List ℕ → List ℕ → List ℕ → List ℕ → Answer → Accounts → Type 0
 Addition accounts name address salt password answer later =
@@ -99,7 +114,7 @@ TakesIn accounts user id None answer later = Refuses NoUser accounts answer late
 TakesIn accounts user id (Some a) answer later = TakesRow accounts user (row_with id a.queue) answer later
 
 abbrev pub Taking : Accounts → List ℕ → ℕ → Answer → Accounts → Type 0
-Taking accounts user id answer later = TakesIn accounts user id (get accounts user) answer later
+Taking accounts user id answer later = TakesIn accounts user id (open_of accounts user) answer later
 
 -- ---- a message taken out of a folder
 
@@ -118,4 +133,4 @@ TakesMailIn accounts user folder None answer later = Refuses NoUser accounts ans
 TakesMailIn accounts user folder (Some a) answer later = TakesFirst accounts user folder (messages_in a.folders folder) answer later
 
 abbrev pub MailTaking : Accounts → List ℕ → List ℕ → Answer → Accounts → Type 0
-MailTaking accounts user folder answer later = TakesMailIn accounts user folder (get accounts user) answer later
+MailTaking accounts user folder answer later = TakesMailIn accounts user folder (open_of accounts user) answer later

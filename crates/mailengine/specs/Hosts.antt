@@ -15,7 +15,7 @@ use Rattle.sieveexec.specs.declared.envelope.Envelope.{Envelope}
 use Rattle.mailstore.specs.declared.queue.Outgoing.{Outgoing}
 use Rattle.mailstore.specs.declared.report.Report.{Report}
 use Rattle.mailstore.specs.declared.refusal.Refusal.{Refusal}
-use Rattle.mailstore.specs.declared.refusal.Refusal.TheVariants.{Memory, Store, NoUser, UserExists, BadUser, NoRow}
+use Rattle.mailstore.specs.declared.refusal.Refusal.TheVariants.{Memory, Store, NoUser, UserExists, BadUser, NoRow, AccountClosed, UserIsOpen, UserHasMail, BadScriptName, ScriptTooLarge, TooManyScripts}
 use Rattle.sessions.specs.Acts.{HasAccounts, Acts, Lasts}
 use Rattle.sessions.specs.Counts.{SessionView}
 use Rattle.sessions.specs.GivenUp.{text_given_up}
@@ -29,6 +29,9 @@ use Rattle.mailengine.specs.declared.machine.World.{World as Machine}
 use Rattle.mailengine.specs.declared.clients.Clients.{Clients as Sessions}
 use Rattle.mailengine.specs.declared.answer.Answer.TheVariants.{Delivered, Added, Taken, MailTaken, Refused}
 use Rattle.mailengine.specs.AccountEvents.{Delivery, Addition, Taking, MailTaking}
+use Rattle.mailengine.specs.declared.upkeep.Upkeep.{Upkeep}
+use Rattle.mailengine.specs.declared.upkeep.Upkeep.TheVariants.{SetPassword, SetAddress, StoreScript, OpenAccount, RemoveAccount}
+use Rattle.mailengine.specs.Upkeep.{Keeping, IsFit, MayLackFor}
 use Rattle.mailengine.specs.Limits.{limit_refusal, IsNewUser}
 use Rattle.mailengine.specs.World.{World, Clients, if_open, Next, Runs}
 
@@ -220,23 +223,45 @@ ActsTaking user id = ActsBy (λ accounts. Taking accounts user id) IsTransient T
 abbrev pub ActsMailTaking : List ℕ → List ℕ → State → State → Result (Unit {0}) Refusal → Type 0
 ActsMailTaking user folder = ActsBy (λ accounts. MailTaking accounts user folder) IsTransient (λ done. MailTaken)
 
+-- without visible cause an administrator's act is refused only where nothing that was handed in stands against it
+abbrev pub MayRefuseKeeping : Upkeep → Refusal → Type 0
+MayRefuseKeeping upkeep refusal = ((refusal ≡ Memory) × MayLackFor upkeep) ⊎ ((refusal ≡ Store) × IsFit upkeep)
+
+-- what such an act makes of it
+abbrev pub ActsKeeping : List ℕ → Upkeep → State → State → Result Answer Refusal → Type 0
+ActsKeeping user upkeep = ActsBy (λ accounts. Keeping accounts user upkeep) (MayRefuseKeeping upkeep) (λ answer. answer)
+
 -- ---- refusals, by name
 
--- a delivery is refused by the limit that stands against it; where none does, for want of an account, or without visible cause
+-- a delivery is refused by the limit that stands against it; where none does, for want of an open account, or without visible cause
 abbrev pub RefusesDelivery : Envelope → List ℕ → ℕ → Refusal → Type 0
 RefusesDelivery envelope message moment refusal =
     (limit_refusal envelope message moment ≡ Some refusal)
-    ⊎ ((limit_refusal envelope message moment ≡ None) × ((refusal ≡ NoUser) ⊎ IsTransient refusal))
+    ⊎ ((limit_refusal envelope message moment ≡ None) × ((refusal ≡ NoUser) ⊎ (refusal ≡ AccountClosed) ⊎ IsTransient refusal))
 
--- a new user is refused where the name, the address or the password isn't allowed, where the name has an account, or without visible
--- cause
+-- a new user is refused where the name, the address or the password isn't allowed, where the name has an open account, or a closed one
+-- with mail, or without visible cause
 abbrev pub RefusesAddition : List ℕ → List ℕ → List ℕ → Refusal → Type 0
 RefusesAddition name address password refusal =
     ((refusal ≡ BadUser) × (IsNewUser name address password → ⊥))
     ⊎ ((refusal ≡ UserExists) × IsNewUser name address password)
+    ⊎ ((refusal ≡ UserHasMail) × IsNewUser name address password)
     ⊎ MayRefuseAddition name address password refusal
 
--- a row is refused where the user has no account, where no row has the number, or without visible cause; a message so where the folder
+-- a row is refused where the user has no open account, where no row has the number, or without visible cause; a message so where the folder
 -- has none
 abbrev pub RefusesTaking : Refusal → Type 0
 RefusesTaking refusal = (refusal ≡ NoUser) ⊎ (refusal ≡ NoRow) ⊎ IsTransient refusal
+
+-- the refusals of an administrator's act, by what is handed in and by the account
+abbrev pub RefusesKept : Upkeep → Refusal → Type 0
+RefusesKept (SetPassword salt password) refusal = refusal ≡ BadUser
+RefusesKept (SetAddress address) refusal = refusal ≡ BadUser
+RefusesKept (StoreScript name text activate) refusal = (refusal ≡ BadScriptName) ⊎ (refusal ≡ ScriptTooLarge) ⊎ (refusal ≡ TooManyScripts)
+RefusesKept OpenAccount refusal = refusal ≡ UserIsOpen
+RefusesKept (RemoveAccount mail) refusal = refusal ≡ UserHasMail
+RefusesKept upkeep refusal = ⊥
+
+-- it is refused so, or for want of an account, or without visible cause
+abbrev pub RefusesKeeping : Upkeep → Refusal → Type 0
+RefusesKeeping upkeep refusal = RefusesKept upkeep refusal ⊎ (refusal ≡ NoUser) ⊎ MayRefuseKeeping upkeep refusal

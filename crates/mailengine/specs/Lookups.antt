@@ -1,17 +1,20 @@
 -- What the engine reads of one user's account.
-use Rattle.std.specs.Prelude.{◌≡◌, ℕ, List, Result, IfErr, IsTrue}
+use Rattle.std.specs.Prelude.{◌≡◌, ℕ, cond, List, Option, Some, None, option_map, Result, IfOk, IfErr, IsTrue}
+use Rattle.std.specs.FinMap.{get}
 use Rattle.sqlite.specs.State.{State, HasCleanDisk}
 use Rattle.deliverplan.specs.Views.{IsViewOf}
 use Rattle.mailstore.specs.declared.refusal.Refusal.{Refusal}
-use Rattle.mailstore.specs.declared.refusal.Refusal.TheVariants.{NoUser}
-use Rattle.mailstore.specs.Account.{Account}
+use Rattle.mailstore.specs.declared.refusal.Refusal.TheVariants.{NoUser, UserExists, UserHasMail}
+use Rattle.mailstore.specs.Account.{Account, is_closed, is_removed, has_mail}
 use Rattle.mailstore.specs.AccountRows.{profile_of}
-use Rattle.mailstore.specs.Promises.{Reads}
+use Rattle.mailstore.specs.Promises.{Keeps, OverAccounts, Reads}
+use Rattle.mailstore.specs.Refusals.{IsTransient}
 use Rattle.mailengine.specs.declared.account.ActiveScript.{ActiveScript}
 use Rattle.mailengine.specs.declared.delivery.Lookup.{Lookup}
+use Rattle.mailengine.specs.declared.standing.Standing.{Standing}
 use Rattle.mailengine.specs.AccountEvents.{active_text}
 
--- a read of one user's account; of a store that a fault of the disk has shut it isn't said that the user has none
+-- a read of one user's open account; of a store that a fault of the disk has shut it isn't said that the user has none
 pub record LooksUp {X : Type 0} (user : List ℕ) (Part : X → Account → Type 0) (old new : State) (result : Result X Refusal) : Type 0 where
   pub reads : Reads user Part old new result
   pub sure : HasCleanDisk new → IfErr result (λ e. e ≡ NoUser → IsTrue old.is_open)
@@ -25,3 +28,19 @@ pub record IsActiveScript (found : ActiveScript) (a : Account) : Type 0 where
 pub record IsLookup (sender : List ℕ) (lookup : Lookup) (a : Account) : Type 0 where
   pub view : IsViewOf lookup.view sender a
   pub text : lookup.text ≡ active_text a
+
+-- ---- how an account stands
+
+abbrev pub standing_of : Account → Standing
+standing_of a = record { is_closed = is_closed a; is_removed = is_removed a; has_mail = has_mail a }
+
+-- a read of how the user's account stands, open or closed; it answers none without an account
+pub record ReadsStanding (user : List ℕ) (old new : State) (result : Result (Option Standing) Refusal) : Type 0 where
+  pub found : HasCleanDisk new → OverAccounts old (λ accounts. IfOk result (λ standing. standing ≡ option_map standing_of (get accounts user)))
+  pub keeps : Keeps old new result
+  pub named : IfErr result IsTransient
+
+-- why no user can be added over an account that stands so, if it stands against it
+abbrev pub over_standing : Option Standing → Option Refusal
+over_standing None = None
+over_standing (Some standing) = cond standing.is_closed (cond standing.has_mail (Some UserHasMail) None) (Some UserExists)

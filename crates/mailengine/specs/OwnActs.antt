@@ -1,5 +1,5 @@
 -- What one user does and is answered among all events, and the machine of one user's account alone.
-use Rattle.std.specs.Prelude.{◌≡◌, ℕ, Bool, true, false, cond, nat_eq, List, [], ◌∷◌, ◌++◌, Option, Some, None, option_map, codes}
+use Rattle.std.specs.Prelude.{◌≡◌, ℕ, Bool, true, false, cond, nat_eq, List, [], ◌∷◌, ◌++◌, Option, Some, None, option_map, codes, MatchBool}
 use Rattle.std.specs.Cmp.Lexicographic.{pointwise}
 use Rattle.std.specs.FinMap.{get}
 use Rattle.std.specs.Ordering.{is_eq}
@@ -10,13 +10,12 @@ use Rattle.msproto.specs.declared.items.Item.TheVariants as item
 use Rattle.msproto.specs.declared.replies.Reply.{Reply}
 use Rattle.msproto.specs.Replies.{spelled}
 use Rattle.saslplain.specs.Parts.{login_of}
-use Rattle.saslplain.specs.Password.{digest_of}
 use Rattle.sieveexec.specs.declared.envelope.Envelope.{Envelope}
-use Rattle.mailstore.specs.Account.{bytes_cmp, Account, messages_in, new_account, takes_out, takes_mail}
+use Rattle.mailstore.specs.Account.{bytes_cmp, Account, is_closed, open_one, has_mail, renews, messages_in, new_account, takes_out, takes_mail}
 use Rattle.mailstore.specs.declared.queue.Outgoing.{Outgoing}
 use Rattle.mailstore.specs.declared.report.Report.{Report}
 use Rattle.mailstore.specs.declared.refusal.Refusal.{Refusal}
-use Rattle.mailstore.specs.declared.refusal.Refusal.TheVariants.{Memory, Store, NoUser, UserExists, BadUser, NoRow}
+use Rattle.mailstore.specs.declared.refusal.Refusal.TheVariants.{Memory, Store, NoUser, UserExists, BadUser, NoRow, UserHasMail}
 use Rattle.sessions.specs.Clients.{Client, item_in}
 use Rattle.sessions.specs.Logins.{has_password}
 use Rattle.sessions.specs.Replies.{accepted, done}
@@ -24,12 +23,14 @@ use Rattle.sessions.specs.Scripts.{Where, RepliesToCheck, obeyed}
 use Rattle.sessions.specs.Table.{needs_login, RepliesOf}
 use Rattle.sessions.specs.Turns.{login_text}
 use Rattle.mailengine.specs.declared.event.Event.{Event}
-use Rattle.mailengine.specs.declared.event.Event.TheVariants.{Step, Deliver, AddUser, TakeOut, TakeMail}
+use Rattle.mailengine.specs.declared.event.Event.TheVariants.{Step, Deliver, AddUser, TakeOut, TakeMail, Keep}
 use Rattle.mailengine.specs.declared.answer.Answer.{Answer}
 use Rattle.mailengine.specs.declared.answer.Answer.TheVariants.{Out, Delivered, Added, Taken, MailTaken, Refused}
 use Rattle.mailengine.specs.Limits.{limit_refusal, IsNewUser}
 use Rattle.mailstore.specs.Account.{row_with}
-use Rattle.mailengine.specs.AccountEvents.{Refuses, DeliversTo, rounds}
+use Rattle.mailengine.specs.AccountEvents.{Refuses, DeliversTo, absence}
+use Rattle.mailengine.specs.declared.upkeep.Upkeep.{Upkeep}
+use Rattle.mailengine.specs.Upkeep.{kept_password, KeepingAlone}
 use Rattle.mailengine.specs.World.{World, Runs}
 
 -- ---- acts
@@ -48,14 +49,16 @@ pub data Act : Type 0 where
   TakesOut : ℕ → Answer → Act
   -- the first message of a folder is to be taken out
   TakesMail : List ℕ → Answer → Act
+  -- an administrator does something to the account
+  IsKept : Upkeep → Answer → Act
 
--- ---- the machine of one account: there is one, or there is none
+-- ---- the machine of one account: there is one, open or closed, or there is none
 
--- what is answered to a command of the user; two of them look at no account
+-- what is answered to a command of the user; two of them look at no account, and of the others each is early where the account isn't open
 abbrev pub RepliesAlone : Option Account → Command → Reply → Type 0
 RepliesAlone account Unauthenticate reply = reply ≡ done
 RepliesAlone account (CheckScript text) reply = RepliesToCheck text reply
-RepliesAlone account command reply = RepliesOf account command reply
+RepliesAlone account command reply = RepliesOf (open_one account) command reply
 
 -- a command is answered by a reply of its row, and the account becomes what the reply's word says
 pub record CommandsAlone (account : Option Account) (command : Command) (octets : List ℕ) (later : Option Account) : Type 0 where
@@ -64,13 +67,13 @@ pub record CommandsAlone (account : Option Account) (command : Command) (octets 
   pub spells : octets ≡ spelled reply
   pub changed : later ≡ option_map (obeyed command reply.word) account
 
--- whether the password is the account's
+-- whether the password is that of the open account
 abbrev pub admits : List ℕ → Option Account → Bool
 admits password None = false
 admits password (Some a) = has_password password a.password
 
 pub record LogsInAlone (account : Option Account) (password : List ℕ) (succeeds : Bool) (later : Option Account) : Type 0 where
-  pub says : succeeds ≡ admits password account
+  pub says : succeeds ≡ admits password (open_one account)
   pub stays : later ≡ account
 
 -- a message that no limit stands against is delivered to the account
@@ -81,22 +84,37 @@ pub record ReceivesAlone (envelope : Envelope) (message : List ℕ) (moment : �
   pub says : answer ≡ Delivered report
   pub changed : later ≡ Some after
 
+-- by the open account, if there is one
+abbrev pub ReceivesOpen : Option Account → Option Account → Envelope → List ℕ → ℕ → Answer → Option Account → Type 0
+ReceivesOpen account None envelope message moment answer later = Refuses (absence account) account answer later
+ReceivesOpen account (Some a) envelope message moment answer later = ReceivesAlone envelope message moment a answer later
+
 abbrev pub ReceivesIn : Option Refusal → Option Account → Envelope → List ℕ → ℕ → Answer → Option Account → Type 0
 ReceivesIn (Some refusal) account envelope message moment answer later = Refuses refusal account answer later
-ReceivesIn None None envelope message moment answer later = Refuses NoUser None answer later
-ReceivesIn None (Some a) envelope message moment answer later = ReceivesAlone envelope message moment a answer later
+ReceivesIn None account envelope message moment answer later = ReceivesOpen account (open_one account) envelope message moment answer later
 
 -- the account of a user who was just added
 abbrev pub fresh : List ℕ → List ℕ → List ℕ → Account
-fresh address salt password = new_account address (record { salt = salt; rounds = rounds; digest = digest_of salt password rounds })
+fresh address salt password = new_account address (kept_password salt password)
 
 pub record JoinsAlone (address salt password : List ℕ) (answer : Answer) (later : Option Account) : Type 0 where
   pub says : answer ≡ Added
   pub changed : later ≡ Some (fresh address salt password)
 
+-- a closed account is opened anew over what it remembers
+pub record RenewsAlone (a : Account) (address salt password : List ℕ) (answer : Answer) (later : Option Account) : Type 0 where
+  pub says : answer ≡ Added
+  pub changed : later ≡ Some (renews address (kept_password salt password) a)
+
+abbrev pub JoinsOver : Account → List ℕ → List ℕ → List ℕ → Answer → Option Account → Type 0
+JoinsOver a address salt password answer later =
+    MatchBool (is_closed a)
+    (MatchBool (has_mail a) (Refuses UserHasMail (Some a) answer later) (RenewsAlone a address salt password answer later))
+    (Refuses UserExists (Some a) answer later)
+
 abbrev pub JoinsIn : Option Account → List ℕ → List ℕ → List ℕ → Answer → Option Account → Type 0
 JoinsIn None address salt password answer later = JoinsAlone address salt password answer later
-JoinsIn (Some a) address salt password answer later = Refuses UserExists (Some a) answer later
+JoinsIn (Some a) address salt password answer later = JoinsOver a address salt password answer later
 
 pub record TakesAlone (a : Account) (row : Outgoing) (answer : Answer) (later : Option Account) : Type 0 where
   pub says : answer ≡ Taken row
@@ -106,9 +124,13 @@ abbrev pub TakesRowAlone : Account → Option Outgoing → Answer → Option Acc
 TakesRowAlone a None answer later = Refuses NoRow (Some a) answer later
 TakesRowAlone a (Some row) answer later = TakesAlone a row answer later
 
+-- by the open account, if there is one
+abbrev pub TakesOpen : Option Account → Option Account → ℕ → Answer → Option Account → Type 0
+TakesOpen account None id answer later = Refuses NoUser account answer later
+TakesOpen account (Some a) id answer later = TakesRowAlone a (row_with id a.queue) answer later
+
 abbrev pub TakesAloneIn : Option Account → ℕ → Answer → Option Account → Type 0
-TakesAloneIn None id answer later = Refuses NoUser None answer later
-TakesAloneIn (Some a) id answer later = TakesRowAlone a (row_with id a.queue) answer later
+TakesAloneIn account id answer later = TakesOpen account (open_one account) id answer later
 
 pub record TakesMailAlone (a : Account) (folder : List ℕ) (answer : Answer) (later : Option Account) : Type 0 where
   pub says : answer ≡ MailTaken
@@ -118,9 +140,13 @@ abbrev pub TakesFirstAlone : Account → List ℕ → List (List ℕ) → Answer
 TakesFirstAlone a folder [] answer later = Refuses NoRow (Some a) answer later
 TakesFirstAlone a folder (message ∷ more) answer later = TakesMailAlone a folder answer later
 
+-- by the open account, if there is one
+abbrev pub TakesMailOpen : Option Account → Option Account → List ℕ → Answer → Option Account → Type 0
+TakesMailOpen account None folder answer later = Refuses NoUser account answer later
+TakesMailOpen account (Some a) folder answer later = TakesFirstAlone a folder (messages_in a.folders folder) answer later
+
 abbrev pub TakesMailAloneIn : Option Account → List ℕ → Answer → Option Account → Type 0
-TakesMailAloneIn None folder answer later = Refuses NoUser None answer later
-TakesMailAloneIn (Some a) folder answer later = TakesFirstAlone a folder (messages_in a.folders folder) answer later
+TakesMailAloneIn account folder answer later = TakesMailOpen account (open_one account) folder answer later
 
 -- an act of the user with this name turns the account into that
 abbrev pub ActsAlone : List ℕ → Option Account → Act → Option Account → Type 0
@@ -132,6 +158,7 @@ ActsAlone user account (Joins address salt password answer) later =
     Where (IsNewUser user address password) (JoinsIn account address salt password answer later) (Refuses BadUser account answer later)
 ActsAlone user account (TakesOut id answer) later = TakesAloneIn account id answer later
 ActsAlone user account (TakesMail folder answer) later = TakesMailAloneIn account folder answer later
+ActsAlone user account (IsKept upkeep answer) later = KeepingAlone account upkeep answer later
 
 -- acts in turn, from one account or none
 abbrev pub Alone : List ℕ → Option Account → List Act → Option Account → Type 0
@@ -190,6 +217,7 @@ event_acts user w (Deliver name envelope message moment) answer = when_of user (
 event_acts user w (AddUser name address salt password) answer = when_of user (Some name) (Joins address salt password answer)
 event_acts user w (TakeOut name id) answer = when_of user (Some name) (TakesOut id answer)
 event_acts user w (TakeMail name folder) answer = when_of user (Some name) (TakesMail folder answer)
+event_acts user w (Keep name upkeep) answer = when_of user (Some name) (IsKept upkeep answer)
 event_acts user w event answer = []
 
 abbrev pub acts_in : List ℕ → World → Event → Answer → List Act

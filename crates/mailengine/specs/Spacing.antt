@@ -7,7 +7,7 @@ use Rattle.sievesyntax.specs.declared.tree.vacation.VacArgs.{VacArgs}
 use Rattle.sieveexec.specs.declared.envelope.Envelope.{Envelope}
 use Rattle.vacreply.specs.Cases.{period_of}
 use Rattle.vacreply.specs.Handles.{Handle, handle_of, key_of}
-use Rattle.mailstore.specs.Account.{Account, Accounts}
+use Rattle.mailstore.specs.Account.{Account, Accounts, open_of}
 use Rattle.mailstore.specs.declared.report.Report.{Report}
 use Rattle.mailstore.specs.declared.report.VacationReport.{VacationReport}
 use Rattle.mailstore.specs.declared.report.VacationReport.TheVariants as V
@@ -65,7 +65,7 @@ abbrev pub sent_under : (refusal : Option Refusal) (accounts : Accounts) (user :
     (message : List ℕ) (answer : Answer) (later : Accounts)
     → DeliversUnder refusal accounts user moment envelope message answer later → List Entry
 sent_under (Some refusal) accounts user moment envelope message answer later made = []
-sent_under None accounts user moment envelope message answer later made = sent_in accounts user moment envelope message (get accounts user) answer later made
+sent_under None accounts user moment envelope message answer later made = sent_in accounts user moment envelope message (open_of accounts user) answer later made
 
 abbrev pub sent_by : (w : World) (event : Event) (answer : Answer) (next : World) → Happens w event answer next → List Entry
 sent_by w (Deliver user envelope message moment) answer next made =
@@ -86,7 +86,7 @@ sent w (event ∷ events) [] end run = []
 
 -- ---- how they are spaced
 
--- the moment that an account keeps of an answer, if one is kept
+-- the moment that an account keeps of an answer, if one is kept; a closed or removed one keeps it too
 abbrev pub kept_in : Option Account → Thread → Option ℕ
 kept_in None thread = None
 kept_in (Some a) thread = get a.replies (key_of thread.handle, thread.sender)

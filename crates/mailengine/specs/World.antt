@@ -13,11 +13,12 @@ use Rattle.sessions.specs.Steps.{IsStep, progress_of, may_lack, may_fail}
 use Rattle.sessions.specs.declared.progress.Progress.{Progress}
 use Rattle.sessions.specs.declared.progress.Progress.TheVariants as progress
 use Rattle.mailengine.specs.declared.event.Event.{Event}
-use Rattle.mailengine.specs.declared.event.Event.TheVariants.{Open, Give, Step, GiveUp, Close, Deliver, AddUser, TakeOut, TakeMail}
+use Rattle.mailengine.specs.declared.event.Event.TheVariants.{Open, Give, Step, GiveUp, Close, Deliver, AddUser, TakeOut, TakeMail, Keep}
 use Rattle.mailengine.specs.declared.answer.Answer.{Answer}
 use Rattle.mailengine.specs.declared.answer.Answer.TheVariants.{Out, Ignored, Refused}
 use Rattle.mailengine.specs.Limits.{limit_refusal, IsNewUser}
 use Rattle.mailengine.specs.AccountEvents.{Delivery, Addition, Taking, MailTaking}
+use Rattle.mailengine.specs.Upkeep.{Keeping, IsFit, MayLackFor}
 
 -- open sessions by their numbers
 abbrev pub Clients : Type 0
@@ -86,6 +87,7 @@ Happens w (Deliver user envelope message moment) answer next = with_accounts w (
 Happens w (AddUser name address salt password) answer next = with_accounts w (Addition w.accounts name address salt password) answer next
 Happens w (TakeOut user id) answer next = with_accounts w (Taking w.accounts user id) answer next
 Happens w (TakeMail user folder) answer next = with_accounts w (MailTaking w.accounts user folder) answer next
+Happens w (Keep user upkeep) answer next = with_accounts w (Keeping w.accounts user upkeep) answer next
 
 -- ---- refusals without a cause in the machine
 
@@ -115,6 +117,7 @@ MayLack w (Deliver user envelope message moment) = limit_refusal envelope messag
 MayLack w (AddUser name address salt password) = Unit {0}
 MayLack w (TakeOut user id) = Unit {0}
 MayLack w (TakeMail user folder) = Unit {0}
+MayLack w (Keep user upkeep) = MayLackFor upkeep
 
 -- whether the event may be refused by the store: only one that asks it
 abbrev pub MayFail : World → Event → Type 0
@@ -123,6 +126,7 @@ MayFail w (Deliver user envelope message moment) = limit_refusal envelope messag
 MayFail w (AddUser name address salt password) = IsNewUser name address password
 MayFail w (TakeOut user id) = Unit {0}
 MayFail w (TakeMail user folder) = Unit {0}
+MayFail w (Keep user upkeep) = IsFit upkeep
 MayFail w event = ⊥
 
 abbrev pub MayRefuse : World → Event → Refusal → Type 0

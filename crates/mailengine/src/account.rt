@@ -1,5 +1,6 @@
 //! What the engine reads of one user's account.
 ghost use Rattle.std.specs.Prelude.{◌≡◌};
+ghost use Rattle.std.specs.FinMap.{keys};
 ghost use Rattle.sqlite.specs.Held.{state};
 ghost use Rattle.mailstore.specs.AccountRows.{profile_of};
 ghost use Rattle.mailstore.specs.CopyRows.{IsFirstIn};
@@ -9,7 +10,7 @@ ghost use Rattle.mailstore.specs.Shows.{IsFirstOf};
 ghost use Rattle.mailengine.specs.Lookups.{LooksUp, IsActiveScript};
 
 use mailstore::{NumberedMessage, Outgoing, Profile, Refusal, Store};
-use octets::Octets;
+use octets::{Octets, Texts};
 use sqlite::Alter;
 
 /// What the store keeps of an account, with the text of its active script.
@@ -20,14 +21,18 @@ pub(crate) struct ActiveScript {
     pub text: Option<Octets>,
 }
 
-/// What the store keeps of the user's account.
+/// What the store keeps of the user's open account.
 pub(crate) fn profile<S: Alter>(store: &mut Store<S>, user: &[u8]) -> Result<Profile, Refusal>
     ensures { LooksUp user.now (λ profile a. profile ≡ profile_of a) (state S.Store store.old) (state S.Store store.new) result }
 {
-    match store.account(user)? {
-        Some(profile) => Ok(profile),
-        None => Err(Refusal::NoUser),
-    }
+    store.enter(user)
+}
+
+/// The names of the scripts of the user's open account, in the order of their octets.
+pub(crate) fn script_names<S: Alter>(store: &mut Store<S>, user: &[u8]) -> Result<Texts, Refusal>
+    ensures { LooksUp user.now (λ names a. names ≡ keys a.scripts) (state S.Store store.old) (state S.Store store.new) result }
+{
+    store.scripts(user)
 }
 
 /// The same, with the text of the active script. It is read by its key.

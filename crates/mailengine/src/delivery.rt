@@ -1,5 +1,5 @@
 //! The delivery of a message.
-ghost use Rattle.std.specs.Prelude.{◌≡◌, Err, OnOk, IfErr, IfSome};
+ghost use Rattle.std.specs.Prelude.{◌≡◌, ◌⊎◌, Err, OnOk, IfOk, IfErr, IfSome};
 ghost use Rattle.sqlite.specs.Held.{state};
 ghost use Rattle.sqlite.specs.State.{HasCleanDisk};
 ghost use Rattle.mailstore.specs.Account.{delivers};
@@ -7,6 +7,9 @@ ghost use Rattle.mailstore.specs.Cells.{contents};
 ghost use Rattle.mailstore.specs.Connection.{IsSettled};
 ghost use Rattle.mailstore.specs.Promises.{WritesAccount};
 ghost use Rattle.mailstore.specs.Refusals.{IsTransient};
+ghost use Rattle.sessions.specs.Acts.{ReadsAccounts};
+ghost use Rattle.std.specs.FinMap.{get};
+ghost use Rattle.mailengine.specs.AccountEvents.{absence as absence_of};
 ghost use Rattle.mailengine.specs.Hosts.{ActsDelivery, IsSpacedDelivery, RefusesDelivery};
 ghost use Rattle.mailengine.specs.Limits as limits;
 ghost use Rattle.mailengine.specs.Lookups.{LooksUp, IsLookup};
@@ -40,8 +43,9 @@ pub(crate) struct Lookup {
 ///
 /// In this order: [`Refusal::TooLarge`] for more than 33,554,432 octets, [`Refusal::BadEnvelope`] for an address of
 /// more than 1,024 octets or with CR, LF or NUL, [`Refusal::BadMoment`] past the year 9999: these come without
-/// memory and without the store. Then [`Refusal::NoUser`]. [`Refusal::Memory`] and [`Refusal::Store`] may come
-/// at any place after the first three. The store then stays as it was.
+/// memory and without the store. Then [`Refusal::NoUser`] without an account and where it is removed, and
+/// [`Refusal::AccountClosed`]. [`Refusal::Memory`] and [`Refusal::Store`] may come at any place after the first three. The
+/// store then stays as it was.
 pub fn deliver<S: Alter>(
     alloc: Global,
     store: &mut Store<S>,
@@ -59,14 +63,32 @@ pub fn deliver<S: Alter>(
     if let Some(refusal) = limit_refusal(&envelope, message, moment) {
         return Err(refusal);
     }
-    let found = look_up(alloc, store, user, envelope.from.as_slice())?;
+    let looked = look_up(alloc, store, user, envelope.from.as_slice());
+    if let Err(Refusal::NoUser) = looked {
+        return Err(absence(store, user)?);
+    }
+    let found = looked?;
     let mail = Mail::read(alloc, message, envelope)?;
     let plan = plan(alloc, &found.view, slice_of(&found.text), &mail, moment)?;
     commit(store, user, &plan)?;
     Ok(report_of(plan))
 }
 
-/// What a delivery has to know of the user's account. An account whose address is no addr-spec is refused as `Store`: no
+/// Why nothing is delivered to a user without an open account: it is closed, or there is none.
+fn absence<S: Alter>(store: &mut Store<S>, user: &[u8]) -> Result<Refusal, Refusal>
+    ensures reads { ReadsAccounts (λ refusal accounts. refusal ≡ absence_of (get accounts user.now)) (state S.Store store.old) (state S.Store store.new) result }
+    ensures told { IfOk result (λ refusal. (refusal ≡ Refusal.NoUser) ⊎ (refusal ≡ Refusal.AccountClosed)) }
+{
+    let Some(profile) = store.account(user)? else {
+        return Ok(Refusal::NoUser);
+    };
+    if profile.is_removed() {
+        return Ok(Refusal::NoUser);
+    }
+    Ok(Refusal::AccountClosed)
+}
+
+/// What a delivery has to know of the user's open account. An account whose address is no addr-spec is refused as `Store`: no
 /// delivery to it is defined.
 fn look_up<S: Alter>(
     alloc: Global,

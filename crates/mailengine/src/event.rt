@@ -1,4 +1,5 @@
 //! What happens to the accounts and the sessions, one event after the other.
+use crate::upkeep::Upkeep;
 use octets::Octets;
 use sieveexec::Envelope;
 
@@ -25,7 +26,7 @@ pub enum Event {
         /// When, in seconds since 1970-01-01 UTC.
         moment: u64,
     },
-    /// An account is made.
+    /// An account is made, or a closed one that has no mail is opened anew.
     AddUser {
         /// The user's name.
         name: Octets,
@@ -49,5 +50,11 @@ pub enum Event {
         user: Octets,
         /// The folder's name.
         folder: Octets,
+    },
+    /// Something is done to a user's account by an administrator.
+    Keep {
+        /// The user's name.
+        user: Octets,
+        upkeep: Upkeep,
     },
 }

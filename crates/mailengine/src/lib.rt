@@ -11,7 +11,9 @@ pub mod laws;
 mod limits;
 mod machine;
 mod replay;
+mod standing;
 mod taking;
+mod upkeep;
 mod user;
 
 pub use account::first_message;
@@ -26,4 +28,5 @@ pub use replay::{Ran, run};
 pub use sessions::Progress;
 pub use sieveexec::{Envelope, Failure, Outcome};
 pub use taking::{take_mail, take_out};
+pub use upkeep::{Upkeep, keep};
 pub use user::add_user;

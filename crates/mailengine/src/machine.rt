@@ -12,6 +12,7 @@ use crate::delivery::deliver;
 use crate::event::Event;
 use crate::limits::limit_refusal;
 use crate::taking::{take_mail, take_out};
+use crate::upkeep::keep;
 use crate::user::add_user;
 use mailstore::{Outgoing, Refusal, Report, Store};
 use octets::Octets;
@@ -174,6 +175,7 @@ fn carry_out<S: Alter>(
             let taken = take_mail(store, user.as_slice(), folder.as_slice());
             answer_of(taken.and(Ok(Answer::MailTaken)))
         }
+        Event::Keep { user, upkeep } => { answer_of(keep(alloc, store, user.as_slice(), upkeep)) }
     }
 }
 
@@ -200,7 +202,8 @@ fn carry_out_free(
         Event::Deliver { .. }
         | Event::AddUser { .. }
         | Event::TakeOut { .. }
-        | Event::TakeMail { .. } => None,
+        | Event::TakeMail { .. }
+        | Event::Keep { .. } => None,
     }
 }
 

@@ -6,9 +6,11 @@ ghost use Rattle.sqlite.specs.State.{HasCleanDisk};
 ghost use Rattle.mailstore.specs.Connection.{IsSettled};
 ghost use Rattle.mailstore.specs.declared.refusal.Refusal.TheVariants.{BadUser};
 ghost use Rattle.mailengine.specs.Hosts.{ActsAddition, RefusesAddition};
+ghost use Rattle.mailengine.specs.Lookups.{over_standing};
 ghost use Rattle.mailengine.specs.Limits as limits;
 ghost use Rattle.mailengine.specs.Limits.{IsNewUser, IsOwnAddress};
 
+use crate::standing::{Standing, read_standing};
 use addrparts::bare_address;
 use mailstore::{Refusal, Store};
 use octets::is_letter;
@@ -21,7 +23,8 @@ pub const MAX_USER_NAME: usize = 64;
 /// How many octets a password may have: each round of its digest hashes it whole.
 pub const MAX_PASSWORD: usize = 1_024;
 
-/// Makes an account without scripts, folders and replies, in one transaction, which is its last act.
+/// Makes an account without scripts, folders and replies, in one transaction, which is its last act. A closed account of the
+/// name that has no mail is opened anew: its scripts and notices go, and what it keeps of replies to senders stays.
 ///
 /// The password is kept as its digest after 10,000 rounds under the salt, some milliseconds of work. The salt is to be
 /// random, another one for each user.
@@ -30,7 +33,8 @@ pub const MAX_PASSWORD: usize = 1_024;
 ///
 /// In this order: [`Refusal::BadUser`] for a name that isn't 1 to 64 of letters, digits and `. _ - @`, an address that
 /// isn't an addr-spec alone (RFC 5322, 3.4.1), or a password that isn't 1 to 1,024 octets without NUL: the store isn't
-/// asked then. Then [`Refusal::UserExists`]. [`Refusal::Memory`] may come at any place, [`Refusal::Store`] at any
+/// asked then. Then [`Refusal::UserExists`] for a name whose account is open, and [`Refusal::UserHasMail`] for a closed one
+/// with messages, which would go or get to another person. [`Refusal::Memory`] may come at any place, [`Refusal::Store`] at any
 /// place after the first. The store then stays as it was.
 pub fn add_user<S: Alter>(
     alloc: Global,
@@ -49,11 +53,29 @@ pub fn add_user<S: Alter>(
     if !is_new_user(alloc, name, address, password)? {
         return Err(Refusal::BadUser);
     }
-    if let Some(_) = store.account(name)? {
-        return Err(Refusal::UserExists);
+    let found = read_standing(store, name)?;
+    if let Some(refusal) = refusal_over(found) {
+        return Err(refusal);
     }
     let digest = digest(&salt, ROUNDS, password);
+    if found.is_some() {
+        return store.renew_user(name, address, &salt, ROUNDS, &digest);
+    }
     store.add_user(name, address, &salt, ROUNDS, &digest)
+}
+
+/// Why no user can be added where an account stands so, if it stands against it.
+fn refusal_over(found: Option<Standing>) -> Option<Refusal>
+    ensures { result ≡ over_standing found }
+{
+    let standing = found?;
+    if !standing.is_closed {
+        return Some(Refusal::UserExists);
+    }
+    if standing.has_mail {
+        return Some(Refusal::UserHasMail);
+    }
+    None
 }
 
 /// Whether an account can be made of these.
@@ -72,7 +94,7 @@ fn is_new_user(
 }
 
 /// Whether a text is an addr-spec alone.
-fn is_own_address(alloc: Global, text: &[u8]) -> Result<bool, AllocError>
+pub(crate) fn is_own_address(alloc: Global, text: &[u8]) -> Result<bool, AllocError>
     ensures { IfOk result (λ holds. MatchBool holds (IsOwnAddress text.now) (IsOwnAddress text.now → ⊥)) }
 {
     if let Some(_) = bare_address(alloc, text)? {
@@ -104,7 +126,7 @@ fn is_name_octet(octet: u8) -> bool
         || octet == b'@'
 }
 
-fn is_password(password: &[u8]) -> bool
+pub(crate) fn is_password(password: &[u8]) -> bool
     ensures { result ≡ limits.is_password password.now }
 {
     1 <= password.len() && password.len() <= MAX_PASSWORD && !has_nul(password)

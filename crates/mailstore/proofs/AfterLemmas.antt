@@ -1,5 +1,5 @@
 -- A read after a read, and a write after a read, of one user's account.
-use Rattle.std.proofs.Common.{◌≡◌, ◌⊎◌, ℕ, List, Option, Some, None, Ok, Err, Result, OnOk, OnErr, IfOk, IfErr, IsTrue, inr, refl, sym, ap, ◌∙◌, subst, inl, option_map}
+use Rattle.std.proofs.Common.{◌≡◌, ◌⊎◌, ◌==◌, ℕ, true, false, List, Option, Some, None, Ok, Err, Result, OnOk, OnErr, IfOk, IfErr, IsTrue, inr, refl, sym, ap, ◌∙◌, subst, inl, option_map}
 use Rattle.std.specs.FinMap.{get}
 use Rattle.sqlite.specs.State.{State, HasCleanDisk, Survives}
 use Rattle.sqlite.proofs.StateLemmas.{survives_then, survives_weaker}
@@ -13,7 +13,8 @@ use Rattle.mailtables.specs.Changes.{made, CrashLeavesTables, MakesAll}
 use Rattle.mailstore.specs.Account.{Account, Accounts, with_user}
 use Rattle.mailstore.specs.Refusals.{IsTransient}
 use Rattle.mailstore.specs.Shows.{ShowsAccounts, Presents}
-use Rattle.mailstore.specs.Promises.{HasUser, IsFree, OfUser, Turns, CrashLeavesAccounts, HasOurTables, Keeps, Reads, ReadsProfile, WritesAccount, WritesKnown}
+use Rattle.mailstore.proofs.StandingLemmas.{open_there, open_with, shut_with, free_shut}
+use Rattle.mailstore.specs.Promises.{HasUser, HasNoOpen, OfUser, OfOpen, Turns, CrashLeavesAccounts, HasOurTables, Keeps, Reads, ReadsProfile, WritesAccount, WritesKnown}
 use Rattle.mailtables.proofs.ResultLemmas.{on_ok}
 use Rattle.mailtables.proofs.WriteLemmas.{clean_before}
 use Rattle.mailstore.proofs.KeepLemmas.{transient_named, transient_other, keeps_ok, keeps_refused, keeps_then, keeps_failed, none_if, mid_shows}
@@ -40,8 +41,8 @@ module _ {X Y : Type 0} (user : List ℕ) (Known : Account → Type 0) (change :
 
   known_then : HasCleanDisk c → (accounts : Accounts) → Presents a.now accounts → OfUser accounts user Known
   known_then clean accounts p =
-      let there = subst (λ o. IfOk o (λ w. OfUser accounts user (Part w))) ok (early.found (clean_then clean) accounts p) in
-      (there.0, there.1, fits there.0 there.2)
+      let there = subst (λ o. IfOk o (λ w. OfOpen accounts user (Part w))) ok (early.found (clean_then clean) accounts p) in
+      (there.0, open_there (get accounts user) there.0 there.1, fits there.0 there.2)
 
   turned : HasCleanDisk c → (o : Result Y Refusal) → OnOk o (Turns (λ all. OfUser all user Known) (λ all. with_user all user change) b.now c.now) → OnOk o (Turns (HasUser user) (λ all. with_user all user change) a.now c.now)
   turned clean (Err e) h = tt
@@ -58,7 +59,7 @@ module _ {X Y : Type 0} (user : List ℕ) (Known : Account → Type 0) (change :
     made = λ clean. turned clean q (late.made clean);
     settled = late.settled;
     same = λ clean ours. undone clean ours q (late.same clean);
-    absent = λ clean accounts p. transient_other q (IsFree user accounts) late.named;
+    absent = λ clean accounts p. transient_other q (HasNoOpen user accounts) late.named;
     crash = survives_then a b c _ _ _ (λ clean db none accounts p has. absurd (none (p.0, p.1))) (λ clean db may accounts p has. may accounts (shows_then clean accounts p) (known_then clean accounts p)) early.keeps.crash late.crash;
     named = transient_named q late.named;
   }
@@ -98,58 +99,83 @@ module _ {X Y E : Type 0} (a b c : State) (r : Result X E) (x : X) (ok : r ≡ O
     made = λ clean. made_then clean q wrote;
     settled = settled;
     same = λ clean ours. same_then clean ours q (same clean);
-    absent = λ clean accounts p. transient_other q (IsFree user accounts) named;
+    absent = λ clean accounts p. transient_other q (HasNoOpen user accounts) named;
     crash = crash_then;
     named = transient_named q named;
   }
 
 -- reads alone, and a refusal
 pub write_refused : {X Y : Type 0} (a b : State) (r : Result X Refusal) (user : List ℕ) (change : Account → Account) (e : Refusal) (q : Result Y Refusal) → q ≡ Err e → Keeps a b r
-    → (HasCleanDisk b → (accounts : Accounts) → Presents a.now accounts → e ≡ NoUser → IsFree user accounts) → (e ≡ NoUser) ⊎ IsTransient e → WritesAccount user change a b q
+    → (HasCleanDisk b → (accounts : Accounts) → Presents a.now accounts → e ≡ NoUser → HasNoOpen user accounts) → (e ≡ NoUser) ⊎ IsTransient e → WritesAccount user change a b q
 write_refused a b r user change e q is kept absent named = record {
   made = λ clean. subst (λ o. OnOk o (Turns (HasUser user) (λ all. with_user all user change) a.now b.now)) (sym is) tt;
   settled = λ clean. subst (λ o. OnOk o (IsSettled b)) (sym is) tt;
   same = λ clean ours. subst (λ o. OnErr o (StaysSame a b)) (sym is) (kept.same clean ours);
-  absent = λ clean accounts p. subst (λ o. IfErr o (λ f. f ≡ NoUser → IsFree user accounts)) (sym is) (absent clean accounts p);
+  absent = λ clean accounts p. subst (λ o. IfErr o (λ f. f ≡ NoUser → HasNoOpen user accounts)) (sym is) (absent clean accounts p);
   crash = survives_weaker a b _ (CrashLeavesAccounts (HasUser user) (λ all. with_user all user change) a) (λ clean db none accounts p has. absurd (none (p.0, p.1))) kept.crash;
   named = subst (λ o. IfErr o (λ f. (f ≡ NoUser) ⊎ IsTransient f)) (sym is) named;
 }
 
 -- and a refusal that may come without visible cause
 pub write_failed : {X Y : Type 0} (a b : State) (r : Result X Refusal) (user : List ℕ) (change : Account → Account) (e : Refusal) (q : Result Y Refusal) → q ≡ Err e → Keeps a b r → IsTransient e → WritesAccount user change a b q
-write_failed {Y = Y} a b r user change e q is kept transient = write_refused a b r user change e q is kept (λ clean accounts p. transient_other {Y = Y} (Err e) (IsFree user accounts) transient) (inr transient)
+write_failed {Y = Y} a b r user change e q is kept transient = write_refused a b r user change e q is kept (λ clean accounts p. transient_other {Y = Y} (Err e) (HasNoOpen user accounts) transient) (inr transient)
 
 -- ---- the account is entered
 
-profile_of_user : (accounts : Accounts) (user : List ℕ) (profile : Profile) → Some profile ≡ option_map profile_of (get accounts user) → OfUser accounts user (λ a. profile ≡ profile_of a)
-profile_of_user accounts user profile told = go (get accounts user) refl told
+profile_of_open : (accounts : Accounts) (user : List ℕ) (profile : Profile) → (profile.rounds == 0) ≡ false → Some profile ≡ option_map profile_of (get accounts user) → OfOpen accounts user (λ a. profile ≡ profile_of a)
+profile_of_open accounts user profile rounds told = go (get accounts user) refl told
   where
-    go : (o : Option Account) → get accounts user ≡ o → Some profile ≡ option_map profile_of o → OfUser accounts user (λ a. profile ≡ profile_of a)
+    go : (o : Option Account) → get accounts user ≡ o → Some profile ≡ option_map profile_of o → OfOpen accounts user (λ a. profile ≡ profile_of a)
     go None is told = absurd (let no = told in cc)
-    go (Some a) is told = (a, is, (let same : profile ≡ profile_of a = cc in same))
+    go (Some a) is told =
+        let same : profile ≡ profile_of a = cc in
+        (a, open_with accounts user a is (ap (λ (q : Profile). q.rounds == 0) (sym same) ∙ rounds), same)
 
-free_of : (accounts : Accounts) (user : List ℕ) → None ≡ option_map profile_of (get accounts user) → IsFree user accounts
+profile_of_shut : (accounts : Accounts) (user : List ℕ) (profile : Profile) → (profile.rounds == 0) ≡ true → Some profile ≡ option_map profile_of (get accounts user) → HasNoOpen user accounts
+profile_of_shut accounts user profile rounds told = go (get accounts user) refl told
+  where
+    go : (o : Option Account) → get accounts user ≡ o → Some profile ≡ option_map profile_of o → HasNoOpen user accounts
+    go None is told = absurd (let no = told in cc)
+    go (Some a) is told =
+        let same : profile ≡ profile_of a = cc in
+        shut_with accounts user a is (ap (λ (q : Profile). q.rounds == 0) (sym same) ∙ rounds)
+
+free_of : (accounts : Accounts) (user : List ℕ) → None ≡ option_map profile_of (get accounts user) → HasNoOpen user accounts
 free_of accounts user told = go (get accounts user) refl told
   where
-    go : (o : Option Account) → get accounts user ≡ o → None ≡ option_map profile_of o → IsFree user accounts
-    go None is told = is
+    go : (o : Option Account) → get accounts user ≡ o → None ≡ option_map profile_of o → HasNoOpen user accounts
+    go None is told = free_shut accounts user is
     go (Some a) is told = absurd (let no = told in cc)
 
 module _ (user : List ℕ) (a b : State) (r : Result (Option Profile) Refusal) (h : ReadsProfile user a b r) where
   found_of : (o : Option Profile) → r ≡ Ok o → HasCleanDisk b → (accounts : Accounts) → Presents a.now accounts → o ≡ option_map profile_of (get accounts user)
   found_of o is clean accounts p = subst (λ q. IfOk q (λ w. w ≡ option_map profile_of (get accounts user))) is (h.found clean accounts p)
 
-  pub account_entered : (profile : Profile) → r ≡ Ok (Some profile) → Reads user (λ profile a. profile ≡ profile_of a) a b (Ok profile)
-  account_entered profile is = record {
-    found = λ clean accounts p. profile_of_user accounts user profile (found_of (Some profile) is clean accounts p);
+  still_open : (o : Option Profile) → r ≡ Ok o → HasCleanDisk b → IsTrue b.is_open
+  still_open o is clean = on_ok r o is (IsTrue b.is_open) (h.keeps.live clean)
+
+  pub account_entered : (profile : Profile) → r ≡ Ok (Some profile) → (profile.rounds == 0) ≡ false → Reads user (λ profile a. profile ≡ profile_of a) a b (Ok profile)
+  account_entered profile is rounds = record {
+    found = λ clean accounts p. profile_of_open accounts user profile rounds (found_of (Some profile) is clean accounts p);
     absent = λ clean accounts p. tt;
+    sure = λ clean. tt;
     keeps = keeps_ok a b r (Some profile) (Ok profile) is h.keeps;
     named = tt;
+  }
+
+  pub account_shut : {X : Type 0} {Part : X → Account → Type 0} (profile : Profile) → r ≡ Ok (Some profile) → (profile.rounds == 0) ≡ true → Reads user Part a b (Err NoUser)
+  account_shut profile is rounds = record {
+    found = λ clean accounts p. tt;
+    sure = λ clean same. still_open (Some profile) is clean;
+    absent = λ clean accounts p same. profile_of_shut accounts user profile rounds (found_of (Some profile) is clean accounts p);
+    keeps = keeps_failed a b r (Err NoUser) tt h.keeps;
+    named = inl refl;
   }
 
   pub account_missing : {X : Type 0} {Part : X → Account → Type 0} → r ≡ Ok None → Reads user Part a b (Err NoUser)
   account_missing is = record {
     found = λ clean accounts p. tt;
+    sure = λ clean same. still_open None is clean;
     absent = λ clean accounts p same. free_of accounts user (found_of None is clean accounts p);
     keeps = keeps_failed a b r (Err NoUser) tt h.keeps;
     named = inl refl;
@@ -157,8 +183,9 @@ module _ (user : List ℕ) (a b : State) (r : Result (Option Profile) Refusal) (
 
   pub account_unread : {X : Type 0} {Part : X → Account → Type 0} (q : Result X Refusal) → OnOk q ⊥ → IfErr q IsTransient → Reads user Part a b q
   account_unread {Part = Part} q none transient = record {
-    found = λ clean accounts p. none_if q (λ x. OfUser accounts user (Part x)) none;
-    absent = λ clean accounts p. transient_other q (IsFree user accounts) transient;
+    found = λ clean accounts p. none_if q (λ x. OfOpen accounts user (Part x)) none;
+    absent = λ clean accounts p. transient_other q (HasNoOpen user accounts) transient;
+    sure = λ clean. transient_other q (IsTrue b.is_open) transient;
     keeps = keeps_failed a b r q none h.keeps;
     named = transient_named q transient;
   }

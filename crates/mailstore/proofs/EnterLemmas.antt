@@ -1,5 +1,5 @@
 -- An account is entered, and then read.
-use Rattle.std.proofs.Common.{◌≡◌, ◌⊎◌, ℕ, List, Option, Some, None, Ok, Err, Result, Vec, OnOk, IfOk, IfErr, IfSome, refl, sym, subst}
+use Rattle.std.proofs.Common.{◌≡◌, ◌⊎◌, ℕ, List, Option, Some, None, Ok, Err, Result, Vec, OnOk, IfOk, IfErr, IfSome, IsTrue, refl, sym, subst}
 use Rattle.std.specs.declared.alloc.Global.{Global}
 use Rattle.std.specs.FinMap.{get}
 use Rattle.sqlite_value.specs.Order.{Row}
@@ -11,7 +11,8 @@ use Rattle.mailstore.specs.declared.refusal.Refusal.TheVariants.{NoUser}
 use Rattle.mailstore.specs.Account.{Account, Accounts}
 use Rattle.mailstore.specs.Refusals.{IsTransient}
 use Rattle.mailstore.specs.Shows.{Presents}
-use Rattle.mailstore.specs.Promises.{IsFree, OfUser, Finds, Reads, ReadsEntered}
+use Rattle.mailstore.specs.Promises.{HasNoOpen, OfOpen, Finds, Reads, ReadsEntered}
+use Rattle.mailstore.proofs.StandingLemmas.{open_there}
 use Rattle.mailtables.proofs.WriteLemmas.{clean_before}
 use Rattle.mailstore.proofs.KeepLemmas.{keeps_ok, keeps_refused, keeps_failed, keeps_all, keeps_then, mid_shows, none_if, of_there, transient_other, transient_named}
 
@@ -67,12 +68,12 @@ entered_told {X} user P Q a b r tells h = record { found = λ clean accounts p. 
 
 -- ---- a read of an account that was entered
 
-same_account : (accounts : Accounts) (user : List ℕ) (P Q R : Account → Type 0) → ((account : Account) → P account → Q account → R account) → OfUser accounts user P → IfSome (get accounts user) Q → OfUser accounts user R
-same_account accounts user P Q R both there some = (there.0, there.1, both there.0 there.2 (subst (λ o. IfSome o Q) there.1 some))
+same_account : (accounts : Accounts) (user : List ℕ) (P Q R : Account → Type 0) → ((account : Account) → P account → Q account → R account) → OfOpen accounts user P → IfSome (get accounts user) Q → OfOpen accounts user R
+same_account accounts user P Q R both there some = (there.0, there.1, both there.0 there.2 (subst (λ o. IfSome o Q) (open_there (get accounts user) there.0 there.1) some))
 
 module _ {X : Type 0} (user : List ℕ) (P : X → Account → Type 0) (a b c : State) (r : Result X Refusal) (x : X) (was : r ≡ Ok x) (early : Reads user P a b r) {Y : Type 0} (Q : Y → Account → Type 0) where
-  there_before : HasCleanDisk b → (accounts : Accounts) → Presents a.now accounts → OfUser accounts user (P x)
-  there_before clean accounts p = subst (λ o. IfOk o (λ z. OfUser accounts user (P z))) was (early.found clean accounts p)
+  there_before : HasCleanDisk b → (accounts : Accounts) → Presents a.now accounts → OfOpen accounts user (P x)
+  there_before clean accounts p = subst (λ o. IfOk o (λ z. OfOpen accounts user (P z))) was (early.found clean accounts p)
 
   -- with an answer that is made of both
   pub enters_both : (q : Result Y Refusal) (y : Y) → q ≡ Ok y → ReadsEntered user Q b c q → {Z : Type 0} (R : Z → Account → Type 0) (z : Z) → ((account : Account) → P x account → Q y account → R z account) → Reads user R a c (Ok z)
@@ -81,6 +82,7 @@ module _ {X : Type 0} (user : List ℕ) (P : X → Account → Type 0) (a b c : 
         same_account accounts user (P x) (Q y) (R z) both (there_before (clean_before b c _ late.keeps.crash clean) accounts p)
         (subst (λ o. IfOk o (λ w. IfSome (get accounts user) (Q w))) is (late.found clean accounts (mid_shows a b c r x was q early.keeps late.keeps clean accounts p)));
     absent = λ clean accounts p. tt;
+    sure = λ clean. tt;
     keeps = keeps_ok a c q y (Ok z) is (keeps_then a b c r x was q early.keeps late.keeps);
     named = tt;
   }
@@ -88,8 +90,9 @@ module _ {X : Type 0} (user : List ℕ) (P : X → Account → Type 0) (a b c : 
   -- with a refusal
   pub enters_failed : (q : Result Y Refusal) → ReadsEntered user Q b c q → {Z : Type 0} (R : Z → Account → Type 0) (end : Result Z Refusal) → OnOk end ⊥ → IfErr end IsTransient → Reads user R a c end
   enters_failed q late R end none transient = record {
-    found = λ clean accounts p. none_if end (λ z. OfUser accounts user (R z)) none;
-    absent = λ clean accounts p. transient_other end (IsFree user accounts) transient;
+    found = λ clean accounts p. none_if end (λ z. OfOpen accounts user (R z)) none;
+    absent = λ clean accounts p. transient_other end (HasNoOpen user accounts) transient;
+    sure = λ clean. transient_other end (IsTrue c.is_open) transient;
     keeps = keeps_failed a c q end none (keeps_then a b c r x was q early.keeps late.keeps);
     named = transient_named end transient;
   }
@@ -98,3 +101,27 @@ module _ {X : Type 0} (user : List ℕ) (P : X → Account → Type 0) (a b c : 
   pub enters : (q : Result Y Refusal) → ReadsEntered user Q b c q → Reads user Q a c q
   enters (Ok y) late = enters_both (Ok y) y refl late Q y (λ account one two. two)
   enters (Err e) late = enters_failed (Err e) late Q (Err e) tt late.named
+
+-- ---- one read after another of an account that was entered
+
+module _ {X Y : Type 0} (user : List ℕ) (P : X → Account → Type 0) (Q : Y → Account → Type 0) (a b c : State) (r : Result X Refusal) (x : X) (was : r ≡ Ok x) (early : ReadsEntered user P a b r) (q : Result Y Refusal)
+    (late : ReadsEntered user Q b c q) where
+  pub entered_both : (y : Y) → q ≡ Ok y → {Z : Type 0} (R : Z → Account → Type 0) (z : Z) → ((account : Account) → P x account → Q y account → R z account) → ReadsEntered user R a c (Ok z)
+  entered_both y is R z both = record {
+    found = λ clean accounts p.
+        all_hold (get accounts user) (subst (λ o. IfOk o (λ w. IfSome (get accounts user) (P w))) was (early.found (clean_before b c _ late.keeps.crash clean) accounts p))
+        (subst (λ o. IfOk o (λ w. IfSome (get accounts user) (Q w))) is (late.found clean accounts (mid_shows a b c r x was q early.keeps late.keeps clean accounts p)));
+    keeps = keeps_ok a c q y (Ok z) is (keeps_then a b c r x was q early.keeps late.keeps);
+    named = tt;
+  }
+    where
+      all_hold : (o : Option Account) → IfSome o (P x) → IfSome o (Q y) → IfSome o (R z)
+      all_hold None one two = tt
+      all_hold (Some account) one two = both account one two
+
+  pub entered_both_failed : {Z : Type 0} (R : Z → Account → Type 0) (end : Result Z Refusal) → OnOk end ⊥ → IfErr end IsTransient → ReadsEntered user R a c end
+  entered_both_failed R end none transient = record {
+    found = λ clean accounts p. none_if end (λ z. IfSome (get accounts user) (R z)) none;
+    keeps = keeps_failed a c q end none (keeps_then a b c r x was q early.keeps late.keeps);
+    named = transient;
+  }

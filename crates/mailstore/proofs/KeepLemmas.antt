@@ -26,7 +26,8 @@ use Rattle.mailstore.specs.Refusals.{IsTransient}
 use Rattle.mailtables.specs.AccountTable.{account_tree}
 use Rattle.mailstore.specs.AccountRows.{counter_cells, shown_account, shown_counters, profile_row, profile_of, IsRead, Counts}
 use Rattle.mailstore.specs.Shows.{rows_of, IsShownOrAbsent, ShowsAccounts, Presents}
-use Rattle.mailstore.specs.Promises.{HasOurTables, IsFree, OfUser, Keeps, FindsOwn, FindsAmong, Finds, Reads, ReadsCounters, ReadsProfile, Writes, Turns, CrashLeavesAccounts}
+use Rattle.mailstore.proofs.StandingLemmas.{open_there}
+use Rattle.mailstore.specs.Promises.{HasOurTables, IsFree, HasNoOpen, OfOpen, Keeps, FindsOwn, FindsAmong, Finds, Reads, ReadsCounters, ReadsProfile, Writes, Turns, CrashLeavesAccounts}
 use Rattle.mailtables.proofs.ResultLemmas.{on_ok, on_any, on_err_any}
 use Rattle.mailtables.proofs.WriteLemmas.{clean_before}
 use Rattle.mailstore.proofs.QueryLemmas.{query_same, query_quiet, stays_shut, if_shown}
@@ -133,8 +134,9 @@ module _ {X Y E F : Type 0} (a b c : State) (r : Result X E) (x : X) (was : r �
 -- with the refusal of an inner read
 pub reads_refused : {X Y : Type 0} (user : List ℕ) (P : X → Account → Type 0) (Q : Y → Account → Type 0) (a b : State) (e : Refusal) (q : Result Y Refusal) → q ≡ Err e → Reads user P a b (Err e) → Reads user Q a b q
 reads_refused user P Q a b e q is r = record {
-  found = λ clean accounts p. subst (λ o. IfOk o (λ y. OfUser accounts user (Q y))) (sym is) tt;
-  absent = λ clean accounts p. subst (λ o. IfErr o (λ f. f ≡ NoUser → IsFree user accounts)) (sym is) (r.absent clean accounts p);
+  found = λ clean accounts p. subst (λ o. IfOk o (λ y. OfOpen accounts user (Q y))) (sym is) tt;
+  absent = λ clean accounts p. subst (λ o. IfErr o (λ f. f ≡ NoUser → HasNoOpen user accounts)) (sym is) (r.absent clean accounts p);
+  sure = λ clean. subst (λ o. IfErr o (λ f. f ≡ NoUser → IsTrue b.is_open)) (sym is) (r.sure clean);
   keeps = keeps_refused a b (Err e) e q is r.keeps;
   named = subst (λ o. IfErr o (λ f. (f ≡ NoUser) ⊎ IsTransient f)) (sym is) r.named;
 }
@@ -148,8 +150,8 @@ pub transient_named : {Y : Type 0} (q : Result Y Refusal) → IfErr q IsTransien
 transient_named (Ok y) h = tt
 transient_named (Err e) h = inr h
 
-of_answer : {Y E : Type 0} (q : Result Y E) (accounts : Accounts) (user : List ℕ) (P : Account → Type 0) (Q : Y → Account → Type 0) → ((a : Account) → P a → IfOk q (λ y. Q y a)) → OfUser accounts user P
-    → IfOk q (λ y. OfUser accounts user (Q y))
+of_answer : {Y E : Type 0} (q : Result Y E) (accounts : Accounts) (user : List ℕ) (P : Account → Type 0) (Q : Y → Account → Type 0) → ((a : Account) → P a → IfOk q (λ y. Q y a)) → OfOpen accounts user P
+    → IfOk q (λ y. OfOpen accounts user (Q y))
 of_answer (Err e) accounts user P Q f h = tt
 of_answer (Ok y) accounts user P Q f h = (h.0, h.1, f h.0 h.2)
 
@@ -157,15 +159,16 @@ of_answer (Ok y) accounts user P Q f h = (h.0, h.1, f h.0 h.2)
 pub reads_answer : {X Y : Type 0} (user : List ℕ) (P : X → Account → Type 0) (Q : Y → Account → Type 0) (a b : State) (r : Result X Refusal) (x : X) → r ≡ Ok x → (q : Result Y Refusal) → IfErr q IsTransient
     → ((account : Account) → P x account → IfOk q (λ y. Q y account)) → Reads user P a b r → Reads user Q a b q
 reads_answer user P Q a b r x was q named made h = record {
-  found = λ clean accounts p. of_answer q accounts user (P x) Q made (subst (λ o. IfOk o (λ z. OfUser accounts user (P z))) was (h.found clean accounts p));
-  absent = λ clean accounts p. transient_other q (IsFree user accounts) named;
+  found = λ clean accounts p. of_answer q accounts user (P x) Q made (subst (λ o. IfOk o (λ z. OfOpen accounts user (P z))) was (h.found clean accounts p));
+  absent = λ clean accounts p. transient_other q (HasNoOpen user accounts) named;
+  sure = λ clean. transient_other q (IsTrue b.is_open) named;
   keeps = keeps_ok a b r x q was h.keeps;
   named = transient_named q named;
 }
 
 -- what holds of the account, if there is one, holds of the one that is there
-pub of_there : (accounts : Accounts) (user : List ℕ) (P Q : Account → Type 0) → OfUser accounts user P → IfSome (get accounts user) Q → OfUser accounts user Q
-of_there accounts user P Q there some = (there.0, there.1, subst (λ o. IfSome o Q) there.1 some)
+pub of_there : (accounts : Accounts) (user : List ℕ) (P Q : Account → Type 0) → OfOpen accounts user P → IfSome (get accounts user) Q → OfOpen accounts user Q
+of_there accounts user P Q there some = (there.0, there.1, subst (λ o. IfSome o Q) (open_there (get accounts user) there.0 there.1) some)
 
 -- ---- the counter of copies, and the test for an account
 
@@ -281,8 +284,9 @@ writes_failed s Fit change q none named = record {
 
 pub reads_failed : {X : Type 0} (user : List ℕ) (Part : X → Account → Type 0) (s : State) (q : Result X Refusal) → OnOk q ⊥ → IfErr q IsTransient → Reads user Part s s q
 reads_failed user Part s q none named = record {
-  found = λ clean accounts p. none_if q (λ x. OfUser accounts user (Part x)) none;
-  absent = λ clean accounts p. transient_other q (IsFree user accounts) named;
+  found = λ clean accounts p. none_if q (λ x. OfOpen accounts user (Part x)) none;
+  absent = λ clean accounts p. transient_other q (HasNoOpen user accounts) named;
+  sure = λ clean. transient_other q (IsTrue s.is_open) named;
   keeps = keeps_all s q none;
   named = transient_named q named;
 }

@@ -5,6 +5,7 @@ pub mod QueryLemmas
 pub mod DeliveryLemmas
 pub mod OrderLemmas
 pub mod ReadLemmas
+pub mod StandingLemmas
 pub mod KeepLemmas
 pub mod AfterLemmas
 pub mod KeyLemmas
@@ -17,6 +18,7 @@ pub mod ReplyLemmas
 pub mod DecodeLemmas
 pub mod TallyLemmas
 pub mod FolderLemmas
+pub mod UpkeepLemmas
 pub mod OwnLemmas
 pub mod AmongLemmas
 pub mod OtherLemmas
@@ -34,6 +36,7 @@ pub mod OpenLemmas
 pub mod ShowExamples
 pub mod NextExamples
 pub mod AccountExamples
+mod StandingExamples
 pub mod PermutedLemmas
 pub mod VersionLemmas
 pub mod OldLemmas

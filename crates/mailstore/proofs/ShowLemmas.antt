@@ -3,7 +3,7 @@ use Rattle.std.proofs.Common.{◌≡◌, ◌≢◌, ◌==◌, ℕ, Bool, true, f
 use Rattle.std.specs.FinMap.{get, insert, get-insert}
 use Rattle.std.proofs.lemmas.Cmp.{nat_list_cmp_total}
 use Rattle.sqlite_typed.proofs.TestLemmas.{same_bytes, bytes_eq_refl}
-use Rattle.std.proofs.lemmas.Bool.{cases_eq}
+use Rattle.std.proofs.lemmas.Bool.{cases_eq, and_parts}
 use Rattle.sqlite_value.specs.declared.value.Value.TheVariants.{Blob, Int}
 use Rattle.sqlite_value.specs.Order.{Row}
 use Rattle.sqlite_trees.specs.Tree.{with_tree}
@@ -11,17 +11,17 @@ use Rattle.sqlite_keyed.specs.Lists.{update_where, delete_where}
 use Rattle.mailtables.specs.Rows.{Tables, has_key}
 use Rattle.mailtables.proofs.ListLemmas.{owner_key, pair_key, owned_by, owners_apart, pair_apart, filter_pushed, filter_beside, filter_kept, filter_unset}
 use Rattle.mailtables.specs.declared.change.Change.{Change}
-use Rattle.mailtables.specs.declared.change.Change.TheVariants.{AddAccount, SetActive, SetCounters, AddScript, RemoveScript, AddMessage, RemoveMessage, AddCopy, RemoveCopy, AddOutgoing, RemoveOutgoing, AddReply, RemoveReply, AddNotice}
+use Rattle.mailtables.specs.declared.change.Change.TheVariants.{AddAccount, SetActive, SetCounters, SetAddress, SetPassword, SetRounds, AddScript, RemoveScript, RemoveScripts, AddMessage, RemoveMessage, RemoveMessages, AddCopy, RemoveCopy, RemoveCopies, AddOutgoing, RemoveOutgoing, RemoveQueue, AddReply, RemoveReply, AddNotice, RemoveNotices, RemoveEarlyNotices}
 use Rattle.mailtables.specs.Cells.{or_null, contents}
 use Rattle.mailtables.specs.Changes.{made_one, made, owner_of, AreOf}
 use Rattle.mailstore.specs.Account.{bytes_cmp, Account, Accounts}
-use Rattle.mailtables.specs.AccountTable.{account_cells, with_active, with_counters, account_tree}
+use Rattle.mailtables.specs.AccountTable.{account_cells, with_active, with_counters, with_address, with_password, with_rounds, account_tree}
 use Rattle.mailtables.specs.ScriptTable.{script_cells, script_tree}
 use Rattle.mailtables.specs.MessageTable.{message_cells, message_key, message_tree}
 use Rattle.mailtables.specs.CopyTable.{copy_cells, copy_key, copy_tree}
 use Rattle.mailtables.specs.QueueTable.{queue_cells, queue_key, outgoing_tree}
 use Rattle.mailtables.specs.ReplyTable.{reply_cells, reply_key, reply_tree}
-use Rattle.mailtables.specs.NoticeTable.{notice_row_cells, notice_tree}
+use Rattle.mailtables.specs.NoticeTable.{notice_row_cells, is_early_notice, notice_tree}
 use Rattle.mailstore.proofs.KeyLemmas.{key_apart}
 use Rattle.mailstore.specs.Shows.{rows_of, IsShown, IsShownOrAbsent, ShowsAccounts}
 use Rattle.mailtables.specs.MetaTable.{meta_tree, version_key}
@@ -99,6 +99,24 @@ others_one (RemoveReply owner handle sender) user tables differ =
     same_trees user tables reply_tree _ (filter_kept (has_key (owner_key user)) (has_key (reply_key owner.now handle.now sender.now)) (key_apart user owner.now (Blob handle.now ∷ Blob sender.now ∷ []) differ) (tables reply_tree))
 others_one (AddNotice owner id moment text) user tables differ =
     same_trees user tables notice_tree _ (filter_beside (has_key (owner_key user)) (tables notice_tree) _ (begins_apart user owner.now differ (drop 1 (notice_row_cells owner.now id moment text.now))))
+others_one (SetAddress name address) user tables differ =
+    same_trees user tables account_tree _ (filter_unset (has_key (owner_key user)) (has_key (owner_key name.now)) (owners_apart user name.now differ) (with_address address.now) (owners_apart user name.now differ) (tables account_tree))
+others_one (SetPassword name salt rounds digest) user tables differ =
+    same_trees user tables account_tree _ (filter_unset (has_key (owner_key user)) (has_key (owner_key name.now)) (owners_apart user name.now differ) (with_password salt.now rounds digest.now) (owners_apart user name.now differ) (tables account_tree))
+others_one (SetRounds name rounds) user tables differ =
+    same_trees user tables account_tree _ (filter_unset (has_key (owner_key user)) (has_key (owner_key name.now)) (owners_apart user name.now differ) (with_rounds rounds) (owners_apart user name.now differ) (tables account_tree))
+others_one (RemoveScripts owner) user tables differ =
+    same_trees user tables script_tree _ (filter_kept (has_key (owner_key user)) (has_key (owner_key owner.now)) (owners_apart user owner.now differ) (tables script_tree))
+others_one (RemoveMessages owner) user tables differ =
+    same_trees user tables message_tree _ (filter_kept (has_key (owner_key user)) (has_key (owner_key owner.now)) (owners_apart user owner.now differ) (tables message_tree))
+others_one (RemoveCopies owner) user tables differ =
+    same_trees user tables copy_tree _ (filter_kept (has_key (owner_key user)) (has_key (owner_key owner.now)) (owners_apart user owner.now differ) (tables copy_tree))
+others_one (RemoveQueue owner) user tables differ =
+    same_trees user tables outgoing_tree _ (filter_kept (has_key (owner_key user)) (has_key (owner_key owner.now)) (owners_apart user owner.now differ) (tables outgoing_tree))
+others_one (RemoveNotices owner) user tables differ =
+    same_trees user tables notice_tree _ (filter_kept (has_key (owner_key user)) (has_key (owner_key owner.now)) (owners_apart user owner.now differ) (tables notice_tree))
+others_one (RemoveEarlyNotices owner until) user tables differ =
+    same_trees user tables notice_tree _ (filter_kept (has_key (owner_key user)) (is_early_notice owner.now until) (λ cells early. owners_apart user owner.now differ cells (and_parts _ _ early).0) (tables notice_tree))
 
 -- and is made in those of its owner
 own_one : (d : Change) (tables : Tables) → rows_of (owner_of d) (made_one d tables) ≡ made_one d (rows_of (owner_of d) tables)
@@ -122,6 +140,18 @@ own_one (AddReply owner handle sender moment) tables =
     own_trees owner.now tables reply_tree _ _ (filter_pushed (has_key (owner_key owner.now)) (tables reply_tree) _ (owned_by owner.now (drop 1 (reply_cells owner.now handle.now sender.now moment))))
 own_one (RemoveReply owner handle sender) tables = own_trees owner.now tables reply_tree _ _ (filter_swapped (has_key (owner_key owner.now)) (has_key (reply_key owner.now handle.now sender.now)) (tables reply_tree))
 own_one (AddNotice owner id moment text) tables = own_trees owner.now tables notice_tree _ _ (filter_pushed (has_key (owner_key owner.now)) (tables notice_tree) _ (owned_by owner.now (drop 1 (notice_row_cells owner.now id moment text.now))))
+own_one (SetAddress name address) tables =
+    own_trees name.now tables account_tree _ _ (update_swapped (has_key (owner_key name.now)) (has_key (owner_key name.now)) (with_address address.now) (λ r h. (h, h)) (tables account_tree))
+own_one (SetPassword name salt rounds digest) tables =
+    own_trees name.now tables account_tree _ _ (update_swapped (has_key (owner_key name.now)) (has_key (owner_key name.now)) (with_password salt.now rounds digest.now) (λ r h. (h, h)) (tables account_tree))
+own_one (SetRounds name rounds) tables =
+    own_trees name.now tables account_tree _ _ (update_swapped (has_key (owner_key name.now)) (has_key (owner_key name.now)) (with_rounds rounds) (λ r h. (h, h)) (tables account_tree))
+own_one (RemoveScripts owner) tables = own_trees owner.now tables script_tree _ _ (filter_swapped (has_key (owner_key owner.now)) (has_key (owner_key owner.now)) (tables script_tree))
+own_one (RemoveMessages owner) tables = own_trees owner.now tables message_tree _ _ (filter_swapped (has_key (owner_key owner.now)) (has_key (owner_key owner.now)) (tables message_tree))
+own_one (RemoveCopies owner) tables = own_trees owner.now tables copy_tree _ _ (filter_swapped (has_key (owner_key owner.now)) (has_key (owner_key owner.now)) (tables copy_tree))
+own_one (RemoveQueue owner) tables = own_trees owner.now tables outgoing_tree _ _ (filter_swapped (has_key (owner_key owner.now)) (has_key (owner_key owner.now)) (tables outgoing_tree))
+own_one (RemoveNotices owner) tables = own_trees owner.now tables notice_tree _ _ (filter_swapped (has_key (owner_key owner.now)) (has_key (owner_key owner.now)) (tables notice_tree))
+own_one (RemoveEarlyNotices owner until) tables = own_trees owner.now tables notice_tree _ _ (filter_swapped (has_key (owner_key owner.now)) (is_early_notice owner.now until) (tables notice_tree))
 
 version_one : (d : Change) (tables : Tables) → made_one d tables meta_tree ≡ tables meta_tree
 version_one (AddAccount name address salt rounds digest) tables = refl
@@ -138,6 +168,15 @@ version_one (RemoveOutgoing owner id) tables = refl
 version_one (AddReply owner handle sender moment) tables = refl
 version_one (RemoveReply owner handle sender) tables = refl
 version_one (AddNotice owner id moment text) tables = refl
+version_one (SetAddress name address) tables = refl
+version_one (SetPassword name salt rounds digest) tables = refl
+version_one (SetRounds name rounds) tables = refl
+version_one (RemoveScripts owner) tables = refl
+version_one (RemoveMessages owner) tables = refl
+version_one (RemoveCopies owner) tables = refl
+version_one (RemoveQueue owner) tables = refl
+version_one (RemoveNotices owner) tables = refl
+version_one (RemoveEarlyNotices owner until) tables = refl
 
 others_all : (user other : List ℕ) (ds : List Change) (tables : Tables) → AreOf user ds → other ≢ user → rows_of other (made tables ds) ≡ rows_of other tables
 others_all user other [] tables are differ = refl

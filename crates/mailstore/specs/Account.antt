@@ -1,7 +1,7 @@
 -- What a store keeps of its users, without its tables.
-use Rattle.std.specs.Prelude.{◌++◌, ◌==◌, ℕ, suc, not, List, [], ◌∷◌, drop, fold, filter, Option, Some, None, unwrap_or, option_map, if◌then◌else◌}
+use Rattle.std.specs.Prelude.{◌++◌, ◌==◌, ◌&&◌, ◌||◌, ℕ, suc, Bool, cond, not, nat_lt, List, [], ◌∷◌, drop, fold, filter, length, Option, Some, None, unwrap_or, option_map, if◌then◌else◌}
 use Rattle.std.specs.declared.cmp.Ordering.{Ordering}
-use Rattle.std.specs.FinMap.{FinMap, empty, get, insert, remove}
+use Rattle.std.specs.FinMap.{FinMap, empty, get, insert, remove, len}
 use Rattle.std.specs.List.{find}
 use Rattle.std.specs.Ordering.{nat_cmp, on, then_cmp, is_eq}
 use Rattle.octets.specs.Ascii.{lowered}
@@ -56,6 +56,34 @@ Accounts = FinMap bytes_cmp Account
 
 abbrev pub no_accounts : Accounts
 no_accounts = empty
+
+-- ---- open, closed and removed accounts
+
+-- a closed account's password has no rounds; its salt and its digest stay
+abbrev pub is_closed : Account → Bool
+is_closed a = a.password.rounds == 0
+
+-- a removed account is a closed one without a digest
+abbrev pub is_removed : Account → Bool
+is_removed a = is_closed a && length a.password.digest == 0
+
+-- the account, where it is open
+abbrev pub open_one : Option Account → Option Account
+open_one None = None
+open_one (Some a) = cond (is_closed a) None (Some a)
+
+-- the account, where it is open or closed and not removed
+abbrev pub known_one : Option Account → Option Account
+known_one None = None
+known_one (Some a) = cond (is_removed a) None (Some a)
+
+-- the user's open account
+abbrev pub open_of : Accounts → List ℕ → Option Account
+open_of accounts user = open_one (get accounts user)
+
+-- a message is in a folder, or on its way out
+abbrev pub has_mail : Account → Bool
+has_mail a = not (len a.folders == 0) || not (length a.queue == 0)
 
 -- ---- what each write makes of an account
 
@@ -147,6 +175,50 @@ remembers handle sender moment a = record a { replies = insert a.replies (handle
 -- a notice joins the others
 abbrev pub notes : ℕ → List ℕ → Account → Account
 notes moment text a = record a { notices = a.notices ++ record { moment = moment; text = text } ∷ [] }
+
+-- ---- an account that is kept up
+
+-- another address
+abbrev pub addresses : List ℕ → Account → Account
+addresses address a = record a { address = address }
+
+-- another password
+abbrev pub guards : Password → Account → Account
+guards password a = record a { password = password }
+
+-- the password has that many rounds: none closes the account, and takes nothing away
+abbrev pub rounds_set : ℕ → Account → Account
+rounds_set rounds a = record a { password = record a.password { rounds = rounds } }
+
+abbrev pub closes : Account → Account
+closes = rounds_set 0
+
+abbrev pub opens : ℕ → Account → Account
+opens = rounds_set
+
+-- the script is kept and is the active one
+abbrev pub keeps_active : List ℕ → List ℕ → Account → Account
+keeps_active name text a = activates (Some name) (keeps_script name text a)
+
+-- the notices up to a moment go; the others stay in their order
+abbrev pub takes_notices : ℕ → Account → Account
+takes_notices until a = record a { notices = filter (λ n. nat_lt until n.moment) a.notices }
+
+-- scripts, messages, queue and notices go; what stays is the address, the password, the moments of replies and the numbers
+abbrev pub empties : Account → Account
+empties a = record a { scripts = empty; active = None; folders = empty; queue = []; notices = [] }
+
+-- the same, and it is closed under this salt and this digest
+abbrev pub empties_under : List ℕ → List ℕ → Account → Account
+empties_under salt digest a = guards (record { salt = salt; rounds = 0; digest = digest }) (empties a)
+
+-- the account is closed, and all of it goes but its address, the moments of replies and the numbers
+abbrev pub removes : Account → Account
+removes = empties_under [] []
+
+-- a new account over the moments of replies and the numbers of one that was there
+abbrev pub renews : List ℕ → Password → Account → Account
+renews address password a = guards password (addresses address (empties a))
 
 -- ---- a delivery
 

@@ -14,7 +14,7 @@ use Rattle.mailstore.specs.declared.refusal.Refusal.{Refusal}
 use Rattle.mailstore.specs.declared.refusal.Refusal.TheVariants.{NoUser}
 use Rattle.mailtables.specs.Schema.{mail_schema}
 use Rattle.mailtables.specs.Connection.{IsSettled, StaysSame}
-use Rattle.mailstore.specs.Account.{Account, Accounts, renames_script, with_user}
+use Rattle.mailstore.specs.Account.{Account, Accounts, open_of, renames_script, with_user}
 use Rattle.mailstore.specs.Refusals.{IsTransient}
 use Rattle.mailtables.specs.AccountTable.{account_tree}
 use Rattle.mailstore.specs.AccountRows.{Counts, profile_of}
@@ -38,6 +38,18 @@ IsFree user accounts = get accounts user ≡ None
 -- the user has an account, of which this holds
 abbrev pub OfUser : Accounts → List ℕ → (Account → Type 0) → Type 0
 OfUser accounts user P = (a : Account) × (get accounts user ≡ Some a) × P a
+
+-- the user has an open account
+abbrev pub HasOpen : List ℕ → Accounts → Type 0
+HasOpen user accounts = IsSome (open_of accounts user)
+
+-- the user has no open account: none at all, or a closed one
+abbrev pub HasNoOpen : List ℕ → Accounts → Type 0
+HasNoOpen user accounts = open_of accounts user ≡ None
+
+-- the user has an open account, of which this holds
+abbrev pub OfOpen : Accounts → List ℕ → (Account → Type 0) → Type 0
+OfOpen accounts user P = (a : Account) × (open_of accounts user ≡ Some a) × P a
 
 -- ---- what is said over our tables
 
@@ -68,10 +80,11 @@ pub record Finds {E : Type 0} (user : List ℕ) (Part : List Row → Account →
   pub found : HasCleanDisk new → OverAccounts old (λ accounts. IfOk result (λ rows. IfSome (get accounts user) (Part rows.items)))
   pub keeps : Keeps old new result
 
--- a read of one user's account: this holds of the answer and the account; NoUser is answered only where there is no account, and no other refusal but those that may come without visible cause
+-- a read of one user's open account: this holds of the answer and the account; NoUser is answered only where there is no open account, over an open connection that stays open, and no other refusal but those that may come without visible cause
 pub record Reads {X : Type 0} (user : List ℕ) (Part : X → Account → Type 0) (old new : State) (result : Result X Refusal) : Type 0 where
-  pub found : HasCleanDisk new → OverAccounts old (λ accounts. IfOk result (λ x. OfUser accounts user (Part x)))
-  pub absent : HasCleanDisk new → OverAccounts old (λ accounts. IfErr result (λ e. e ≡ NoUser → IsFree user accounts))
+  pub found : HasCleanDisk new → OverAccounts old (λ accounts. IfOk result (λ x. OfOpen accounts user (Part x)))
+  pub absent : HasCleanDisk new → OverAccounts old (λ accounts. IfErr result (λ e. e ≡ NoUser → HasNoOpen user accounts))
+  pub sure : HasCleanDisk new → IfErr result (λ e. e ≡ NoUser → IsTrue new.is_open)
   pub keeps : Keeps old new result
   pub named : IfErr result (λ e. (e ≡ NoUser) ⊎ IsTransient e)
 
@@ -93,15 +106,16 @@ pub record FindsAmong {X E : Type 0} (user : List ℕ) (Part : X → Tables → 
   pub found : HasCleanDisk new → OverTables old (λ tables. IfOk result (λ x. Part x (rows_of user tables)))
   pub keeps : Keeps old new result
 
--- a read of one user's rows: this holds of the answer and of all that the user has, and the user has an account; NoUser is answered only where there is no account
+-- a read of one user's rows: this holds of the answer and of all that the user has, and the user has an open account; NoUser is answered only where there is none
 pub record ReadsOwn {X : Type 0} (user : List ℕ) (Part : X → Tables → Type 0) (old new : State) (result : Result X Refusal) : Type 0 where
   pub found : HasCleanDisk new → OverTables old (λ tables. IfOk result (λ x. Part x (rows_of user tables)))
-  pub there : HasCleanDisk new → OverAccounts old (λ accounts. OnOk result (HasUser user accounts))
-  pub absent : HasCleanDisk new → OverAccounts old (λ accounts. IfErr result (λ e. e ≡ NoUser → IsFree user accounts))
+  pub there : HasCleanDisk new → OverAccounts old (λ accounts. OnOk result (HasOpen user accounts))
+  pub absent : HasCleanDisk new → OverAccounts old (λ accounts. IfErr result (λ e. e ≡ NoUser → HasNoOpen user accounts))
+  pub sure : HasCleanDisk new → IfErr result (λ e. e ≡ NoUser → IsTrue new.is_open)
   pub keeps : Keeps old new result
   pub named : IfErr result (λ e. (e ≡ NoUser) ⊎ IsTransient e)
 
--- the read of what the store keeps of an account; it answers none without an account
+-- the read of what the store keeps of an account, open or closed; it answers none without an account
 pub record ReadsProfile (user : List ℕ) (old new : State) (result : Result (Option Profile) Refusal) : Type 0 where
   pub found : HasCleanDisk new → OverAccounts old (λ accounts. IfOk result (λ profile. profile ≡ option_map profile_of (get accounts user)))
   pub keeps : Keeps old new result
@@ -147,11 +161,11 @@ WritesKnown user Known change = Writes (λ all. OfUser all user Known) (λ all. 
 abbrev pub Renames : {X : Type 0} → List ℕ → List ℕ → List ℕ → Option (List ℕ) → Option (List ℕ) → State → State → Result X Refusal → Type 0
 Renames user name other text active = WritesKnown user (IsRenaming name other text active) (renames_script name other)
 
--- a write of one user's account that first asks whether there is one
+-- a write of one user's account that first asks whether there is one; NoUser is answered only where there is no open one
 pub record WritesAccount {X : Type 0} (user : List ℕ) (change : Account → Account) (old new : State) (result : Result X Refusal) : Type 0 where
   pub made : HasCleanDisk new → OnOk result (Turns (HasUser user) (λ all. with_user all user change) old.now new.now)
   pub settled : HasCleanDisk new → OnOk result (IsSettled new)
   pub same : HasCleanDisk new → HasOurTables old.now → OnErr result (StaysSame old new)
-  pub absent : HasCleanDisk new → OverAccounts old (λ accounts. IfErr result (λ e. e ≡ NoUser → IsFree user accounts))
+  pub absent : HasCleanDisk new → OverAccounts old (λ accounts. IfErr result (λ e. e ≡ NoUser → HasNoOpen user accounts))
   pub crash : Survives old new (CrashLeavesAccounts (HasUser user) (λ all. with_user all user change) old)
   pub named : IfErr result (λ e. (e ≡ NoUser) ⊎ IsTransient e)

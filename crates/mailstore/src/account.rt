@@ -1,13 +1,13 @@
 //! A user's account, as its row has it.
-ghost use Rattle.std.specs.Prelude.{◌≡◌, false, ◌⊎◌, [], pos, Some, option_map, slice_get, IfOk, IfErr};
+ghost use Rattle.std.specs.Prelude.{◌≡◌, false, ◌⊎◌, [], pos, Err, Some, option_map, slice_get, IfOk, IfErr};
 ghost use Rattle.sqlite.specs.Held.{state};
 ghost use Rattle.mailtables.specs.AccountTable.{account_tree};
 ghost use Rattle.mailstore.specs.AccountRows.{shown_account, shown_counters, counter_cells, profile_of, IsRead};
-ghost use Rattle.mailstore.specs.Promises.{FindsOwn, Reads, ReadsCounters, ReadsProfile, IsFree, Writes, WritesUser};
+ghost use Rattle.mailstore.specs.Promises.{FindsOwn, Reads, ReadsCounters, ReadsEntered, ReadsProfile, IsFree, Writes, WritesUser};
 ghost use Rattle.mailtables.specs.Connection.{Queries};
 ghost use Rattle.mailtables.specs.Cells.{contents, or_null};
 ghost use Rattle.mailstore.specs.FirstCells.{first_three};
-ghost use Rattle.mailstore.specs.Account.{activates, new_user};
+ghost use Rattle.mailstore.specs.Account.{activates, addresses, closes, empties_under, guards, has_mail, new_user, opens, removes, renews};
 ghost use Rattle.mailstore.specs.Refusals.{IsTransient};
 ghost use Rattle.sqlite_value.specs.declared.value.Value.TheVariants.{Int, Blob};
 ghost use Rattle.sqlite_value.specs.Order.{column};
@@ -118,7 +118,7 @@ impl<S: Alter> Store<S> {
         first_counters(&rows)
     }
 
-    /// What the store keeps of the account; none without an account.
+    /// What the store keeps of the account, open or closed; none without an account. A closed one has no rounds.
     pub fn account(&mut self, user: &[u8]) -> Result<Option<Profile>, Refusal>
         ensures { ReadsProfile user.now (state S.Store self.old) (state S.Store self.new) result }
     {
@@ -126,23 +126,43 @@ impl<S: Alter> Store<S> {
         first_profile(&rows)
     }
 
-    /// Enters the user's account, and answers what the store keeps of it. The reads whose names end in `_of` are of an
+    /// Enters the user's open account, and answers what the store keeps of it. The reads whose names end in `_of` are of an
     /// account that was entered: they don't ask again whether there is one.
     ///
     /// # Errors
     ///
-    /// `NoUser`, `Memory`, `Store`.
+    /// `NoUser` without an account and where it is closed, `Memory`, `Store`.
     pub fn enter(&mut self, user: &[u8]) -> Result<Profile, Refusal>
         ensures { Reads user.now (λ profile a. profile ≡ profile_of a) (state S.Store self.old) (state S.Store self.new) result }
     {
         let Some(profile) = self.account(user)? else {
             return Err(Refusal::NoUser);
         };
+        if profile.is_closed() {
+            return Err(Refusal::NoUser);
+        }
         Ok(profile)
     }
 
-    /// Adds an account without scripts, messages and replies. `rounds` is how often the password is
+    /// Whether an account that was entered, open or closed, has a message in a folder or on its way out. Time is linear in its
+    /// messages, memory in what the queue says of them.
+    pub fn has_mail_of(&mut self, user: &[u8]) -> Result<bool, Refusal>
+        ensures { ReadsEntered user.now (λ found a. found ≡ has_mail a) (state S.Store self.old) (state S.Store self.new) result }
+    {
+        let folders = self.folders_of(user)?;
+        if !folders.is_empty() {
+            return Ok(true);
+        }
+        let heads = self.queue_heads_of(user)?;
+        Ok(!heads.is_empty())
+    }
+
+    /// Adds an open account without scripts, messages and replies. `rounds` is how often the password is
     /// digested. What comes of a name that has an account is left open but for the table's key, which SQLite keeps.
+    ///
+    /// # Errors
+    ///
+    /// `Store` for no rounds, which only a closed account has, and nothing is asked then; `Memory`, `Store`.
     pub fn add_user(
         &mut self,
         name: &[u8],
@@ -151,8 +171,12 @@ impl<S: Alter> Store<S> {
         rounds: u32,
         digest: &[u8],
     ) -> Result<(), Refusal>
-        ensures { Writes (IsFree name.now) (new_user name.now address.now salt.now rounds digest.now) (state S.Store self.old) (state S.Store self.new) result }
+        ensures writes { Writes (IsFree name.now) (new_user name.now address.now salt.now rounds digest.now) (state S.Store self.old) (state S.Store self.new) result }
+        ensures closed { rounds ≡ 0 → (result ≡ Err Refusal.Store) × (self.new ≡ self.old) }
     {
+        if rounds == 0 {
+            return Err(Refusal::Store);
+        }
         self.apply(&[Change::AddAccount {
             name,
             address,
@@ -171,5 +195,110 @@ impl<S: Alter> Store<S> {
             name: user,
             active: name,
         }])
+    }
+
+    /// The account has another address. What it keeps of replies stays under their keys.
+    pub fn set_address(&mut self, user: &[u8], address: &[u8]) -> Result<(), Refusal>
+        ensures { WritesUser user.now (addresses address.now) (state S.Store self.old) (state S.Store self.new) result }
+    {
+        self.apply(&[Change::SetAddress {
+            name: user,
+            address,
+        }])
+    }
+
+    /// The account has another password; `rounds` is how often it is digested, and none would close the account.
+    pub fn set_password(
+        &mut self,
+        user: &[u8],
+        salt: &[u8],
+        rounds: u32,
+        digest: &[u8],
+    ) -> Result<(), Refusal>
+        ensures { WritesUser user.now (guards (record { salt = salt.now; rounds = rounds; digest = digest.now })) (state S.Store self.old) (state S.Store self.new) result }
+    {
+        self.apply(&[Change::SetPassword {
+            name: user,
+            salt,
+            rounds,
+            digest,
+        }])
+    }
+
+    /// The account is closed: its password has no rounds. All that it keeps stays.
+    pub fn close_account(&mut self, user: &[u8]) -> Result<(), Refusal>
+        ensures { WritesUser user.now closes (state S.Store self.old) (state S.Store self.new) result }
+    {
+        self.apply(&[Change::SetRounds {
+            name: user,
+            rounds: 0,
+        }])
+    }
+
+    /// The account is opened as it was closed. `rounds` is how often its password is digested.
+    pub fn open_account(&mut self, user: &[u8], rounds: u32) -> Result<(), Refusal>
+        ensures { WritesUser user.now (opens rounds) (state S.Store self.old) (state S.Store self.new) result }
+    {
+        self.apply(&[Change::SetRounds { name: user, rounds }])
+    }
+
+    /// The account is closed, and its scripts, messages, queue, notices and password go. Its address, the moments of its
+    /// replies and its numbers stay. Time is linear in what goes.
+    pub fn remove_account(&mut self, user: &[u8]) -> Result<(), Refusal>
+        ensures { WritesUser user.now removes (state S.Store self.old) (state S.Store self.new) result }
+    {
+        self.empty_account(user, &[], &[])
+    }
+
+    /// The account is closed under this salt and this digest, and its scripts, messages, queue and notices go.
+    fn empty_account(&mut self, user: &[u8], salt: &[u8], digest: &[u8]) -> Result<(), Refusal>
+        ensures { WritesUser user.now (empties_under salt.now digest.now) (state S.Store self.old) (state S.Store self.new) result }
+    {
+        self.apply(&[
+            Change::RemoveScripts { owner: user },
+            Change::RemoveQueue { owner: user },
+            Change::RemoveNotices { owner: user },
+            Change::RemoveCopies { owner: user },
+            Change::RemoveMessages { owner: user },
+            Change::SetActive {
+                name: user,
+                active: None,
+            },
+            Change::SetPassword {
+                name: user,
+                salt,
+                rounds: 0,
+                digest,
+            },
+        ])
+    }
+
+    /// A new account in place of one that was there: what `remove_account` takes goes, and the address and the password are
+    /// others. The moments of replies and the numbers stay. Time is linear in what goes.
+    pub fn renew_user(
+        &mut self,
+        name: &[u8],
+        address: &[u8],
+        salt: &[u8],
+        rounds: u32,
+        digest: &[u8],
+    ) -> Result<(), Refusal>
+        ensures { WritesUser name.now (renews address.now (record { salt = salt.now; rounds = rounds; digest = digest.now })) (state S.Store self.old) (state S.Store self.new) result }
+    {
+        self.apply(&[
+            Change::RemoveScripts { owner: name },
+            Change::RemoveQueue { owner: name },
+            Change::RemoveNotices { owner: name },
+            Change::RemoveCopies { owner: name },
+            Change::RemoveMessages { owner: name },
+            Change::SetActive { name, active: None },
+            Change::SetAddress { name, address },
+            Change::SetPassword {
+                name,
+                salt,
+                rounds,
+                digest,
+            },
+        ])
     }
 }

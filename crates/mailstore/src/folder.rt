@@ -180,7 +180,7 @@ impl<S: Alter> Store<S> {
     }
 
     /// The same of an account that was entered.
-    fn folders_of(&mut self, user: &[u8]) -> Result<List<Folder>, Refusal>
+    pub(crate) fn folders_of(&mut self, user: &[u8]) -> Result<List<Folder>, Refusal>
         ensures { ReadsEntered user.now AreFolders (state S.Store self.old) (state S.Store self.new) result }
     {
         let rows = find_folders(&mut self.conn, user)?;

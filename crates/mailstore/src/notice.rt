@@ -1,12 +1,14 @@
 //! A user's notices.
 ghost use Rattle.std.specs.Prelude.{◌≡◌};
 ghost use Rattle.sqlite.specs.Held.{state};
-ghost use Rattle.mailstore.specs.Promises.{Reads, ReadsEntered};
+ghost use Rattle.mailstore.specs.Account.{takes_notices};
+ghost use Rattle.mailstore.specs.Promises.{Reads, ReadsEntered, WritesUser};
 
-use crate::cell::text_at;
+use crate::cell::{number, text_at};
 use crate::refusal::Refusal;
 use crate::row::{FromRow, read_each};
 use crate::store::Store;
+use mailtables::Change;
 use octets::{List, Octets};
 use sqlite::{Alter, Row, params};
 
@@ -53,5 +55,14 @@ impl<S: Alter> Store<S> {
             "SELECT moment, text FROM notice WHERE owner = ?1 ORDER BY id",
             params![user],
         )
+    }
+
+    /// Takes the notices up to the moment `until`, in seconds since 1970-01-01 UTC; the others stay in their order. A moment
+    /// from 2^63 on, which the database can't have, is refused as `Store`.
+    pub fn take_notices(&mut self, user: &[u8], until: u64) -> Result<(), Refusal>
+        ensures { WritesUser user.now (takes_notices until) (state S.Store self.old) (state S.Store self.new) result }
+    {
+        let until = number(until)?;
+        self.apply(&[Change::RemoveEarlyNotices { owner: user, until }])
     }
 }

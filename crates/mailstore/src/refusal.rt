@@ -37,6 +37,24 @@ pub enum Refusal {
     /// No row of the queue has the number.
     #[error("no such row")]
     NoRow,
+    /// The user's account is closed.
+    #[error("account is closed")]
+    AccountClosed,
+    /// The user's account is open already.
+    #[error("user is open")]
+    UserIsOpen,
+    /// The user has messages in folders, or on their way out.
+    #[error("user has mail")]
+    UserHasMail,
+    /// The name is none that a script may have.
+    #[error("bad script name")]
+    BadScriptName,
+    /// The script has more than 262,144 octets.
+    #[error("script too large")]
+    ScriptTooLarge,
+    /// The user has 32 scripts, and none of the name.
+    #[error("too many scripts")]
+    TooManyScripts,
 }
 
 impl From<AllocError> for Refusal {

@@ -5,7 +5,7 @@ ghost use Rattle.mailstore.specs.Promises.{Finds, Reads, ReadsEntered, Renames, 
 ghost use Rattle.mailtables.specs.Connection.{Queries};
 ghost use Rattle.mailstore.specs.ScriptRows.{HasTextAndActive, HasTextRow};
 ghost use Rattle.mailtables.specs.Cells.{contents};
-ghost use Rattle.mailstore.specs.Account.{deletes_script, keeps_script, other_name, renames_script};
+ghost use Rattle.mailstore.specs.Account.{deletes_script, keeps_active, keeps_script, other_name, renames_script};
 ghost use Rattle.std.specs.FinMap.{get, keys};
 
 use crate::cell::first_text;
@@ -93,6 +93,24 @@ impl<S: Alter> Store<S> {
                 owner: user,
                 name,
                 text,
+            },
+        ])
+    }
+
+    /// Keeps the script under the name, in place of one that has it, and makes it the active one.
+    pub fn put_active(&mut self, user: &[u8], name: &[u8], text: &[u8]) -> Result<(), Refusal>
+        ensures { WritesUser user.now (keeps_active name.now text.now) (state S.Store self.old) (state S.Store self.new) result }
+    {
+        self.apply(&[
+            Change::RemoveScript { name, owner: user },
+            Change::AddScript {
+                owner: user,
+                name,
+                text,
+            },
+            Change::SetActive {
+                name: user,
+                active: Some(name),
             },
         ])
     }

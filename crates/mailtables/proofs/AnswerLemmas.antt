@@ -146,6 +146,13 @@ module _ (db : Trees) (tree : ℕ) (terms project : List Term) (order : List (Te
       let ordered = few_permutation _ a.ordered few (subst (λ k. IsPermutation k a.ordered) kept a.same) in
       a.shown ∙ ap (map (λ (o : Output). o.1)) ordered ∙ map-map (λ (o : Output). o.1) (λ e. output all_asked (slots params e)) _
 
+  -- whatever is found, in some order
+  pub entries_some : (rows : List Row) → IsAnswer all_asked (overlay db []) params rows
+      → (ordered : List Output) × IsPermutation (map (λ e. output all_asked (slots params e)) (filter (λ e. p (cells_of e)) h.entries)) ordered × (rows ≡ map (λ (o : Output). o.1) ordered)
+  entries_some rows a =
+      let kept = outputs_are (lit (Int (negsuc 0))) (lit (Int (pos 0))) db tree terms project order params cells h p meets rows a in
+      (a.ordered, subst (λ k. IsPermutation k a.ordered) kept a.same, a.shown)
+
   pub cells_in_order : (show : Row → Output) → ((n : ℤ) (cells : Row) → output all_asked (params ∷ (Int n ∷ cells) ∷ []) ≡ show cells) → (rows : List Row) → IsAnswer all_asked (overlay db []) params rows
       → (ordered : List Output) × IsPermutation (map show (filter p cells)) ordered × IsSorted (output_cmp all_asked) ordered × (rows ≡ map (λ (o : Output). o.1) ordered)
   cells_in_order show shows rows a = cells_paged (lit (Int (negsuc 0))) (lit (Int (pos 0))) db tree terms project order params cells h p meets show shows rows a

@@ -1,19 +1,21 @@
 -- What each kind of edit makes of the rows of one table.
-use Rattle.std.proofs.Common.{◌≡◌, ℤ, pos, ◌+ℤ◌, ◌<ℤ◌, Bool, true, false, not, cond, List, [], ◌∷◌, ◌++◌, map, filter, fold, refl, sym, ap, ◌∙◌, arith, int_cmp, Greater}
-use Rattle.std.specs.List.{AllByRecursion}
+use Rattle.std.proofs.Common.{◌≡◌, ℤ, pos, ◌+ℤ◌, ◌<ℤ◌, Bool, true, false, not, ◌||◌, cond, List, [], ◌∷◌, ◌++◌, map, filter, fold, refl, sym, ap, ◌∙◌, subst, arith, int_cmp, Greater, IsPermutation}
+use Rattle.std.specs.List.{AllByRecursion, list_any}
+use Rattle.std.proofs.lemmas.List.Sorted.{list_any-IsPermutation}
 use Rattle.std.proofs.lemmas.Int.{ints}
 use Rattle.std.proofs.lemmas.List.{map-append}
 use Rattle.sqlite_value.specs.declared.value.Value.{Value}
 use Rattle.sqlite_value.specs.declared.value.Value.TheVariants.{Null, Int}
 use Rattle.sqlite_value.specs.Order.{Row}
-use Rattle.sqlite_trees.specs.Tree.{rowid, put_row}
+use Rattle.sqlite_trees.specs.Tree.{rowid, has_rowid, put_row, without_rowid}
+use Rattle.sqlite_rules.proofs.ListLemmas.{all_from}
 use Rattle.sqlite_sql.specs.Ops.{unary}
 use Rattle.sqlite_schema.specs.declared.schema.Kind.TheVariants.{Integer}
 use Rattle.sqlite_rules.specs.Cast.{cast}
 use Rattle.sqlite_rules.specs.Edit.{next_rowid, without_all, put_all, id_in}
 use Rattle.sqlite_keyed.specs.Keyed.{IsKeyedBy, insert_by, next_key}
 use Rattle.sqlite_keyed.specs.Lists.{update_where, delete_where}
-use Rattle.sqlite_keyed.proofs.ListLemmas.{filter-map, all_map, all-filter, all_weaker}
+use Rattle.sqlite_keyed.proofs.ListLemmas.{filter-map, filter_same, filter_all, all_map, all-filter, all_weaker}
 use Rattle.sqlite_keyed.proofs.KeyedLemmas.{Less-from_lt, IsKeyedBy-insert_by, IsKeyedBy-delete_where, IsKeyedBy-update_where}
 use Rattle.sqlite_keyed.proofs.SliceLemmas.{insert_next}
 use Rattle.sqlite_keyed.proofs.WriteLemmas.{removes_delete}
@@ -62,6 +64,32 @@ held_delete rows cells p ids h are =
           ∙ ap (map stored) (removes_delete id_of q h.entries h.keyed);
       cells_are = ap (delete_where p) h.cells_are ∙ filter-map (λ c. not (p c)) cells_of h.entries;
     }
+
+-- rows that pass one test and then another pass both
+filter_twice : {X : Type 0} (p q : X → Bool) (xs : List X) → filter (λ x. not (q x)) (filter (λ x. not (p x)) xs) ≡ filter (λ x. not (p x || q x)) xs
+filter_twice p q [] = refl
+filter_twice {X} p q (x ∷ xs) = go (p x) (filter_twice p q xs)
+  where
+    go : (b : Bool) → filter (λ y. not (q y)) (filter (λ y. not (p y)) xs) ≡ filter (λ y. not (p y || q y)) xs
+        → filter (λ y. not (q y)) (cond (not b) (x ∷ filter (λ y. not (p y)) xs) (filter (λ y. not (p y)) xs)) ≡ cond (not (b || q x)) (x ∷ filter (λ y. not (p y || q y)) xs) (filter (λ y. not (p y || q y)) xs)
+    go true more = more
+    go false more = ap (λ l. cond (not (q x)) (x ∷ l) l) more
+
+-- rows that are taken out by their numbers: those that have none of these stay
+without_is : (rows : List Row) (ids : List ℤ) → without_all rows ids ≡ filter (λ r. not (list_any (λ id. has_rowid id r) ids)) rows
+without_is rows [] = sym (filter_all (λ r. true) rows (all_from _ rows (λ r there. refl)))
+without_is rows (id ∷ ids) = without_is (without_rowid id rows) ids ∙ filter_twice (has_rowid id) (λ r. list_any (λ i. has_rowid i r) ids) rows
+
+-- in whatever order
+without_permuted : (rows : List Row) (ids others : List ℤ) → IsPermutation ids others → without_all rows others ≡ without_all rows ids
+without_permuted rows ids others same =
+    without_is rows others ∙ filter_same _ _ (λ r. ap not (sym (list_any-IsPermutation (λ id. has_rowid id r) ids others same))) rows ∙ sym (without_is rows ids)
+
+pub held_delete_all : (rows cells : List Row) (p : Row → Bool) (ids : List ℤ) → (h : IsHeld rows cells) → IsPermutation (map id_of (filter (λ e. p (cells_of e)) h.entries)) ids
+    → IsHeld (without_all rows ids) (delete_where p cells)
+held_delete_all rows cells p ids h are =
+    let found = map id_of (filter (λ e. p (cells_of e)) h.entries) in
+    subst (λ l. IsHeld l (delete_where p cells)) (sym (without_permuted rows found ids are)) (held_delete rows cells p found h refl)
 
 -- an entry with other cells
 abbrev pub changed : (Row → Row) → Entry → Entry

@@ -1,5 +1,5 @@
 -- What each statement makes of the tables.
-use Rattle.std.proofs.Common.{◌≡◌, ◌+◌, ℕ, ℤ, pos, true, codes, slice_get, List, [], ◌∷◌, Option, Some, None, Ok, refl, inl, inr}
+use Rattle.std.proofs.Common.{◌≡◌, ◌+◌, ℕ, ℤ, pos, Bool, true, false, ◌&&◌, codes, slice_get, List, [], ◌∷◌, Option, Some, None, Ok, refl, inl, inr}
 use Rattle.std.specs.Borrow.{Bor}
 use Rattle.sqlite_value.specs.declared.value.Value.{Value}
 use Rattle.sqlite_value.specs.declared.value.Value.TheVariants.{Int, Text, Blob}
@@ -7,32 +7,33 @@ use Rattle.sqlite_value.specs.Keys.{first_key}
 use Rattle.sqlite_value.specs.Order.{Row, column}
 use Rattle.sqlite_schema.specs.declared.schema.Kind.TheVariants.{Integer}
 use Rattle.sqlite_schema.specs.declared.schema.Index.{Index}
-use Rattle.sqlite_schema.specs.Rules.{agree}
+use Rattle.sqlite_schema.specs.Rules.{agree, equal}
+use Rattle.sqlite_value.specs.declared.keys.Collation.TheVariants.{Binary}
 use Rattle.sqlite_rules.specs.Lists.{Has}
 use Rattle.sqlite_rules.specs.Cast.{cast, cast_all}
 use Rattle.sqlite_catalog.specs.Listing.{automatic}
 use Rattle.sqlite.specs.State.{State, Executes}
 use Rattle.sqlite.specs.Values.{bound_value, or_null as bound_or_null}
 use Rattle.mailtables.specs.Forms.{needed}
-use Rattle.mailtables.specs.Rows.{Tables, HoldsTables, has_key, added, removed, set_in}
+use Rattle.mailtables.specs.Rows.{Tables, HoldsTables, has_key, at_most, added, removed, removed_where, set_in}
 use Rattle.mailtables.proofs.CellLemmas.{cast_int}
 use Rattle.mailtables.proofs.ListLemmas.{owner_key, pair_key}
-use Rattle.mailtables.proofs.StepLemmas.{on_insert, on_update, on_delete, insert_holds, update_holds, delete_holds}
+use Rattle.mailtables.proofs.StepLemmas.{on_insert, on_update, on_delete, insert_holds, update_holds, delete_holds, delete_all_holds}
 use Rattle.mailtables.proofs.ColumnLemmas.{column_is_of, cast_integer}
 use Rattle.mailtables.specs.Schema.{mail_schema}
 use Rattle.mailtables.specs.Connection.{TurnsRows}
 use Rattle.mailtables.specs.Cells.{or_null, contents}
 use Rattle.mailtables.specs.MetaTable.{meta, insert_version, meta_tree}
-use Rattle.mailtables.specs.AccountTable.{account, insert_account, update_active, update_counters, account_cells, with_active, with_counters, account_tree, next_copy_column, next_notice_column, next_out_column, rounds_column}
-use Rattle.mailtables.specs.ScriptTable.{script, insert_script, delete_script, script_cells, script_tree}
-use Rattle.mailtables.specs.MessageTable.{message, insert_message, delete_message, message_cells, message_key, message_tree}
-use Rattle.mailtables.specs.CopyTable.{copy, insert_copy, delete_copy, copy_cells, copy_key, copy_tree}
+use Rattle.mailtables.specs.AccountTable.{account, insert_account, update_active, update_counters, update_address, update_password, update_rounds, account_cells, with_active, with_counters, with_address, with_password, with_rounds, account_tree, next_copy_column, next_notice_column, next_out_column, rounds_column}
+use Rattle.mailtables.specs.ScriptTable.{script, insert_script, delete_script, delete_scripts, script_cells, script_tree}
+use Rattle.mailtables.specs.MessageTable.{message, insert_message, delete_message, delete_messages, message_cells, message_key, message_tree}
+use Rattle.mailtables.specs.CopyTable.{copy, insert_copy, delete_copy, delete_copies, copy_cells, copy_key, copy_tree}
 use Rattle.mailtables.specs.declared.queue.Kind.{Kind}
-use Rattle.mailtables.specs.QueueTable.{outgoing, insert_outgoing, delete_outgoing, queue_cells, queue_key, outgoing_tree, kind_number}
+use Rattle.mailtables.specs.QueueTable.{outgoing, insert_outgoing, delete_outgoing, delete_queue, queue_cells, queue_key, outgoing_tree, kind_number}
 use Rattle.mailtables.specs.ReplyTable.{reply, insert_reply, delete_reply, reply_cells, reply_key, reply_tree}
-use Rattle.mailtables.specs.NoticeTable.{notice, insert_notice, notice_row_cells, notice_tree}
+use Rattle.mailtables.specs.NoticeTable.{notice, insert_notice, delete_notices, delete_early_notices, notice_row_cells, notice_moment_column, is_early_notice, notice_tree}
 use Rattle.mailtables.proofs.SchemaFacts.{no_works, message_listed, copy_listed, script_listed, outgoing_listed, reply_listed, notice_listed}
-use Rattle.mailtables.proofs.TextFacts.{by_one, by_two, by_three, six_terms, insert_outgoing_is, insert_outgoing_plain, delete_outgoing_is, delete_outgoing_plain, insert_reply_is, insert_reply_plain, delete_reply_is, delete_reply_plain, insert_notice_is, insert_notice_plain, version_terms, account_terms, active_columns, counter_columns, three_terms, four_terms, insert_version_is, insert_version_plain, insert_account_is, insert_account_plain, update_active_is, update_active_plain, update_counters_is, update_counters_plain, insert_script_is, insert_script_plain, delete_script_is, delete_script_plain, insert_message_is, insert_message_plain, insert_copy_is, insert_copy_plain, delete_message_is, delete_message_plain, delete_copy_is, delete_copy_plain}
+use Rattle.mailtables.proofs.TextFacts.{by_one, by_two, by_three, six_terms, insert_outgoing_is, insert_outgoing_plain, delete_outgoing_is, delete_outgoing_plain, insert_reply_is, insert_reply_plain, delete_reply_is, delete_reply_plain, insert_notice_is, insert_notice_plain, version_terms, account_terms, active_columns, counter_columns, three_terms, four_terms, insert_version_is, insert_version_plain, insert_account_is, insert_account_plain, update_active_is, update_active_plain, update_counters_is, update_counters_plain, insert_script_is, insert_script_plain, delete_script_is, delete_script_plain, insert_message_is, insert_message_plain, insert_copy_is, insert_copy_plain, delete_message_is, delete_message_plain, delete_copy_is, delete_copy_plain, address_columns, password_columns, rounds_columns, by_early, update_address_is, update_address_plain, update_password_is, update_password_plain, update_rounds_is, update_rounds_plain, delete_scripts_is, delete_scripts_plain, delete_queue_is, delete_queue_plain, delete_notices_is, delete_notices_plain, delete_messages_is, delete_messages_plain, delete_copies_is, delete_copies_plain, delete_early_notices_is, delete_early_notices_plain}
 
 abbrev pub account_index : Index
 account_index = automatic account 0 (1 ∷ []) (account_tree + 1)
@@ -146,6 +147,15 @@ module _ (old : State) (tables : Tables) (h : HoldsTables mail_schema old.now ta
   active_fits : (v : Value) → cast_all account.columns (with_active v cells) ≡ with_active v cells
   active_fits v = rw (whole rounds_column _ refl, whole next_copy_column _ refl, whole next_out_column _ refl, whole next_notice_column _ refl)
 
+  address_fits : (address : List ℕ) → cast_all account.columns (with_address address cells) ≡ with_address address cells
+  address_fits address = rw (whole rounds_column _ refl, whole next_copy_column _ refl, whole next_out_column _ refl, whole next_notice_column _ refl)
+
+  password_fits : (salt : List ℕ) (rounds : ℕ) (digest : List ℕ) → cast_all account.columns (with_password salt rounds digest cells) ≡ with_password salt rounds digest cells
+  password_fits salt rounds digest = rw (cast_int (pos rounds), whole next_copy_column _ refl, whole next_out_column _ refl, whole next_notice_column _ refl)
+
+  rounds_fit : (rounds : ℕ) → cast_all account.columns (with_rounds rounds cells) ≡ with_rounds rounds cells
+  rounds_fit rounds = rw (cast_int (pos rounds), whole next_copy_column _ refl, whole next_out_column _ refl, whole next_notice_column _ refl)
+
   counters_fit : (copy out notice : ℤ) → cast_all account.columns (with_counters copy out notice cells) ≡ with_counters copy out notice cells
   counters_fit copy out notice = rw (whole rounds_column _ refl, cast_int copy, cast_int out, cast_int notice)
 
@@ -207,3 +217,73 @@ inserts_notice old new owner id moment text count ran tables h =
     let params = notice_row_cells owner id moment text in
     let on = on_insert mail_schema insert_notice params old new tables h insert_notice_plain count ran 5 notice refl _ insert_notice_is in
     insert_holds mail_schema no_works notice.name notice_tree notice.primary notice.references notice.columns params old new tables h notice_listed 5 four_terms 5 params on.0 refl (rw (cast_int id, cast_int moment)) on.1
+
+pub sets_address : (old new : State) (name : List ℕ) (address : List ℕ) (count : ℕ) → Executes update_address (Blob name ∷ Blob address ∷ []) old new (Ok count)
+    → TurnsRows (set_in account_tree (owner_key name) (with_address address)) old.now new.now
+sets_address old new name address count ran tables h =
+    let params : Row = Blob name ∷ Blob address ∷ [] in
+    let on = on_update mail_schema update_address params old new tables h update_address_plain count ran 1 account refl _ update_address_is in
+    update_holds mail_schema no_works account.name account_tree account.primary account.references account.columns params old new tables h (inr (inl refl)) account_index (inr (inl refl)) refl (owner_key name) (0 ∷ [])
+    (account_agrees name) by_one (λ n cells. refl) (with_address address) (λ cells there. address_fits old tables h cells there address) address_columns (λ n cells. refl) 1 on.0 on.1
+
+pub sets_password : (old new : State) (name : List ℕ) (salt : List ℕ) (rounds : ℕ) (digest : List ℕ) (count : ℕ) → Executes update_password (Blob name ∷ Blob salt ∷ Int (pos rounds) ∷ Blob digest ∷ []) old new (Ok count)
+    → TurnsRows (set_in account_tree (owner_key name) (with_password salt rounds digest)) old.now new.now
+sets_password old new name salt rounds digest count ran tables h =
+    let params : Row = Blob name ∷ Blob salt ∷ Int (pos rounds) ∷ Blob digest ∷ [] in
+    let on = on_update mail_schema update_password params old new tables h update_password_plain count ran 1 account refl _ update_password_is in
+    update_holds mail_schema no_works account.name account_tree account.primary account.references account.columns params old new tables h (inr (inl refl)) account_index (inr (inl refl)) refl (owner_key name) (0 ∷ [])
+    (account_agrees name) by_one (λ n cells. refl) (with_password salt rounds digest) (λ cells there. password_fits old tables h cells there salt rounds digest) password_columns (λ n cells. refl) 1 on.0 on.1
+
+pub sets_rounds : (old new : State) (name : List ℕ) (rounds : ℕ) (count : ℕ) → Executes update_rounds (Blob name ∷ Int (pos rounds) ∷ []) old new (Ok count)
+    → TurnsRows (set_in account_tree (owner_key name) (with_rounds rounds)) old.now new.now
+sets_rounds old new name rounds count ran tables h =
+    let params : Row = Blob name ∷ Int (pos rounds) ∷ [] in
+    let on = on_update mail_schema update_rounds params old new tables h update_rounds_plain count ran 1 account refl _ update_rounds_is in
+    update_holds mail_schema no_works account.name account_tree account.primary account.references account.columns params old new tables h (inr (inl refl)) account_index (inr (inl refl)) refl (owner_key name) (0 ∷ [])
+    (account_agrees name) by_one (λ n cells. refl) (with_rounds rounds) (λ cells there. rounds_fit old tables h cells there rounds) rounds_columns (λ n cells. refl) 1 on.0 on.1
+
+-- ---- all rows of an owner
+
+pub removes_scripts : (old new : State) (owner : List ℕ) (count : ℕ) → Executes delete_scripts (owner_key owner) old new (Ok count) → TurnsRows (removed script_tree (owner_key owner)) old.now new.now
+removes_scripts old new owner count ran tables h =
+    let params = owner_key owner in
+    let on = on_delete mail_schema delete_scripts params old new tables h delete_scripts_plain count ran 2 script refl _ delete_scripts_is in
+    delete_all_holds mail_schema no_works script.name script_tree script.primary script.references script.columns params old new tables h script_listed (has_key params) by_one (λ n cells. refl) 2 on.0 on.1
+
+pub removes_queue : (old new : State) (owner : List ℕ) (count : ℕ) → Executes delete_queue (owner_key owner) old new (Ok count) → TurnsRows (removed outgoing_tree (owner_key owner)) old.now new.now
+removes_queue old new owner count ran tables h =
+    let params = owner_key owner in
+    let on = on_delete mail_schema delete_queue params old new tables h delete_queue_plain count ran 3 outgoing refl _ delete_queue_is in
+    delete_all_holds mail_schema no_works outgoing.name outgoing_tree outgoing.primary outgoing.references outgoing.columns params old new tables h outgoing_listed (has_key params) by_one (λ n cells. refl) 3 on.0 on.1
+
+pub removes_notices : (old new : State) (owner : List ℕ) (count : ℕ) → Executes delete_notices (owner_key owner) old new (Ok count) → TurnsRows (removed notice_tree (owner_key owner)) old.now new.now
+removes_notices old new owner count ran tables h =
+    let params = owner_key owner in
+    let on = on_delete mail_schema delete_notices params old new tables h delete_notices_plain count ran 5 notice refl _ delete_notices_is in
+    delete_all_holds mail_schema no_works notice.name notice_tree notice.primary notice.references notice.columns params old new tables h notice_listed (has_key params) by_one (λ n cells. refl) 5 on.0 on.1
+
+pub removes_messages : (old new : State) (owner : List ℕ) (count : ℕ) → Executes delete_messages (owner_key owner) old new (Ok count) → TurnsRows (removed message_tree (owner_key owner)) old.now new.now
+removes_messages old new owner count ran tables h =
+    let params = owner_key owner in
+    let on = on_delete mail_schema delete_messages params old new tables h delete_messages_plain count ran 6 message refl _ delete_messages_is in
+    delete_all_holds mail_schema no_works message.name message_tree message.primary message.references message.columns params old new tables h message_listed (has_key params) by_one (λ n cells. refl) 6 on.0 on.1
+
+pub removes_copies : (old new : State) (owner : List ℕ) (count : ℕ) → Executes delete_copies (owner_key owner) old new (Ok count) → TurnsRows (removed copy_tree (owner_key owner)) old.now new.now
+removes_copies old new owner count ran tables h =
+    let params = owner_key owner in
+    let on = on_delete mail_schema delete_copies params old new tables h delete_copies_plain count ran 7 copy refl _ delete_copies_is in
+    delete_all_holds mail_schema no_works copy.name copy_tree copy.primary copy.references copy.columns params old new tables h copy_listed (has_key params) by_one (λ n cells. refl) 7 on.0 on.1
+
+-- two tests, one after the other
+both_tests : (a b : Bool) → (a && (b && true)) ≡ ((a && true) && b)
+both_tests true true = refl
+both_tests true false = refl
+both_tests false b = refl
+
+pub removes_early_notices : (old new : State) (owner : List ℕ) (until : ℤ) (count : ℕ) → Executes delete_early_notices (Blob owner ∷ Int until ∷ []) old new (Ok count)
+    → TurnsRows (removed_where notice_tree (is_early_notice owner until)) old.now new.now
+removes_early_notices old new owner until count ran tables h =
+    let params : Row = Blob owner ∷ Int until ∷ [] in
+    let on = on_delete mail_schema delete_early_notices params old new tables h delete_early_notices_plain count ran 5 notice refl _ delete_early_notices_is in
+    delete_all_holds mail_schema no_works notice.name notice_tree notice.primary notice.references notice.columns params old new tables h notice_listed (is_early_notice owner until) by_early
+    (λ n cells. both_tests (equal Binary (column cells 0) (Blob owner)) (at_most (column cells notice_moment_column) (Int until))) 5 on.0 on.1

@@ -1,12 +1,13 @@
 -- What an INSERT of one row, and an UPDATE or a DELETE by key, make of the tables.
-use Rattle.std.proofs.Common.{◌≡◌, ◌≢◌, ◌⊎◌, ℕ, suc, ◌/◌, ℤ, true, List, [], ◌∷◌, ◌++◌, map, filter, length, drop, slice_get, None, Some, Result, Ok, Err, refl, sym, ap, ◌∙◌, subst, inl, inr, eq-eqb, ne_eqb, append-nil}
+use Rattle.std.proofs.Common.{◌≡◌, ◌≢◌, ◌⊎◌, ℕ, suc, ◌/◌, ℤ, true, List, [], ◌∷◌, ◌++◌, map, filter, length, drop, slice_get, None, Some, Result, Ok, Err, refl, sym, ap, ◌∙◌, subst, inl, inr, eq-eqb, ne_eqb, append-nil, Bool, IsPermutation}
 use Rattle.std.specs.List.{AllByRecursion, list_all}
 use Rattle.std.proofs.lemmas.Bool.{cases_eq}
 use Rattle.sqlite_value.specs.declared.value.Value.TheVariants.{Null, Int}
 use Rattle.sqlite_value.specs.Order.{Row}
 use Rattle.sqlite_trees.specs.Tree.{Trees, rowid, put_row, with_tree}
 use Rattle.sqlite_sql.specs.Term.{Term, lit, col, holds, eval_all}
-use Rattle.sqlite_sql.specs.Query.{IsAnswer}
+use Rattle.sqlite_sql.specs.Query.{IsAnswer, Output, output}
+use Rattle.std.proofs.lemmas.List.Sorted.{IsPermutation-map}
 use Rattle.sqlite_sql.specs.Program.{overlay}
 use Rattle.sqlite_schema.specs.declared.program.Program.{Program}
 use Rattle.sqlite_schema.specs.declared.schema.Keys.TheVariants.{Enforced}
@@ -37,9 +38,9 @@ use Rattle.sqlite.specs.Listing.{understood}
 use Rattle.sqlite.specs.State.{State, mode_of, Executes}
 use Rattle.sqlite.proofs.Callers.{IsPlain, command_of, statement_of, runs_as, one_step}
 use Rattle.mailtables.specs.Forms.{keyed, over}
-use Rattle.mailtables.specs.Rows.{Entry, id_of, cells_of, stored, IsHeld, Tables, HoldsTables, has_key, added, removed, set_in}
-use Rattle.mailtables.proofs.CellLemmas.{cast_null, cast_int, changed, held_insert, held_delete, held_update}
-use Rattle.mailtables.proofs.AnswerLemmas.{has_map, found_by_key}
+use Rattle.mailtables.specs.Rows.{Entry, id_of, cells_of, stored, IsHeld, Tables, HoldsTables, has_key, added, removed, removed_where, set_in}
+use Rattle.mailtables.proofs.CellLemmas.{cast_null, cast_int, changed, held_insert, held_delete, held_delete_all, held_update}
+use Rattle.mailtables.proofs.AnswerLemmas.{has_map, entries_some, found_by_key}
 
 -- a part that gave a value did not stop on the way
 pub went : {B E R : Type 0} {b : B} {Stops : E → Type 0} → ((stop : E) × Stops stop × (Ok b ≡ Err stop)) ⊎ R → R
@@ -112,6 +113,27 @@ module _ (schema : Schema) (no_works : (depth tree : ℕ) (olds news : List Row)
         let now = concluded task (mode_of old) done.0 tally new.now done.2 ∙ ap with_trees trees in
         let rows : edited db e ≡ put_row (Int (next_rowid (db tree)) ∷ cells) (db tree) = ap (λ all. edited db (edit_of db it [] Chosen 0 all)) made ∙ inserted (db tree) cells fits in
         after tables old.now new.now e written.0 (tables tree ++ cells ∷ []) h applies now (subst (λ r. IsHeld r (tables tree ++ cells ∷ [])) (sym rows) (held_insert (db tree) (tables tree) cells (h.each it listed)))
+
+    -- a DELETE of all rows that pass
+    module _ (p : Row → Bool) (terms : List Term) (meets : (n : ℤ) (cells : Row) → list_all (holds (params ∷ (Int n ∷ cells) ∷ [])) terms ≡ p cells) where
+      pub delete_all_holds : (at : ℕ) (tally : Tally) → On it params old new (Delete at (over tree terms (col 1 0 ∷ []) [])) tally → HoldsTables schema new.now (removed_where tree p tables)
+      delete_all_holds at tally on =
+          let db = old.now.trees in
+          let done = went on in
+          let given = went done.1 in
+          let written = went given.2 in
+          let e : Edit = edit_of db it (ids_of given.0) Given 0 [] in
+          let trees : done.0.trees ≡ written.0 = ap (λ (w : Written). w.trees) (same_value written.2) in
+          let applies = stepped db written.0 e written.1 in
+          let now = concluded task (mode_of old) done.0 tally new.now done.2 ∙ ap with_trees trees in
+          let some = entries_some db tree terms (col 1 0 ∷ []) [] params (tables tree) (h.each it listed) p meets given.0 (given.1.answer Null) in
+          let passing = filter (λ e. p (cells_of e)) (h.each it listed).entries in
+          let number = λ (o : Output). id_in (rowid o.1) in
+          let found : map number (map (λ e. output (over tree terms (col 1 0 ∷ []) []).body (params ∷ stored e ∷ [])) passing) ≡ map id_of passing = map-map number _ passing in
+          let ids : ids_of given.0 ≡ map number some.0 = ap ids_of some.2 ∙ map-map _ (λ (o : Output). o.1) some.0 in
+          let same : IsPermutation (map id_of passing) (ids_of given.0) =
+          subst (λ l. IsPermutation (map id_of passing) l) (sym ids) (subst (λ l. IsPermutation l (map number some.0)) found (IsPermutation-map number _ some.0 some.1)) in
+          after tables old.now new.now e written.0 (delete_where p (tables tree)) h applies now (held_delete_all (db tree) (tables tree) p (ids_of given.0) (h.each it listed) same)
 
     module _ (index : Index) (indexed : Has schema.indexes index) (guarding : guards index it ≡ true) (key : Row) (places : List ℕ)
         (agrees : (n : ℤ) (cells : Row) → has_key key cells ≡ true → agree index.order index.columns (Int n ∷ cells) places key ≡ true) (terms : List Term)

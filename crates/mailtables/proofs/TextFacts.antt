@@ -7,7 +7,7 @@ use Rattle.sqlite_value.specs.Keys.{ascending}
 use Rattle.sqlite_sql.specs.Term.{Term, lit, col, op1, op2}
 use Rattle.sqlite_sql.specs.declared.ops.BinaryOp.TheVariants.{Compare}
 use Rattle.sqlite_sql.specs.declared.ops.UnaryOp.TheVariants.{Length}
-use Rattle.sqlite_sql.specs.declared.ops.CompareOp.TheVariants.{Eq, Ne, Gt}
+use Rattle.sqlite_sql.specs.declared.ops.CompareOp.TheVariants.{Eq, Ne, Gt, Le}
 use Rattle.sqlite_schema.specs.declared.command.Source.TheVariants.{Values}
 use Rattle.sqlite_schema.specs.declared.command.Command.TheVariants.{Insert, Update, Delete, Select}
 use Rattle.sqlite_tied.specs.Compute.{everything}
@@ -16,12 +16,12 @@ use Rattle.sqlite.proofs.Callers.{IsPlain, command_of}
 use Rattle.mailtables.specs.Forms.{equals, over, over_two, first_over, nth_over}
 use Rattle.mailtables.specs.Schema.{mail_schema, unindexed_schema}
 use Rattle.mailtables.specs.MetaTable.{insert_version, select_version, meta_tree}
-use Rattle.mailtables.specs.AccountTable.{insert_account, update_active, update_counters, select_account, select_counters, account_tree}
-use Rattle.mailtables.specs.ScriptTable.{insert_script, delete_script, select_names, select_script, script_tree}
-use Rattle.mailtables.specs.MessageTable.{insert_message, delete_message, select_message, message_tree}
-use Rattle.mailtables.specs.CopyTable.{insert_copy, delete_copy, select_later_number, select_later_folder, select_later_owner, select_nth, select_numbers, select_other, select_folders, select_folder, copy_tree}
-use Rattle.mailtables.specs.QueueTable.{outgoing_tree, select_heads, select_later_id, select_later_queue, select_outgoing, select_queue, insert_outgoing, delete_outgoing}
-use Rattle.mailtables.specs.NoticeTable.{notice_tree, select_notices, insert_notice}
+use Rattle.mailtables.specs.AccountTable.{insert_account, update_active, update_counters, update_address, update_password, update_rounds, select_account, select_counters, account_tree}
+use Rattle.mailtables.specs.ScriptTable.{insert_script, delete_script, delete_scripts, select_names, select_script, script_tree}
+use Rattle.mailtables.specs.MessageTable.{insert_message, delete_message, delete_messages, select_message, message_tree}
+use Rattle.mailtables.specs.CopyTable.{insert_copy, delete_copy, delete_copies, select_later_number, select_later_folder, select_later_owner, select_nth, select_numbers, select_other, select_folders, select_folder, copy_tree}
+use Rattle.mailtables.specs.QueueTable.{outgoing_tree, select_heads, select_later_id, select_later_queue, select_outgoing, select_queue, insert_outgoing, delete_outgoing, delete_queue}
+use Rattle.mailtables.specs.NoticeTable.{notice_tree, select_notices, insert_notice, delete_notices, delete_early_notices}
 use Rattle.mailtables.specs.ReplyTable.{reply_tree, insert_reply, delete_reply, select_moment, select_replies}
 
 abbrev pub by_one : List Term
@@ -407,3 +407,89 @@ select_later_queue_is = refl
 pub select_later_queue_plain : IsPlain (understood mail_schema select_later_queue) × (reads_listing mail_schema select_later_queue ≡ false)
 unfolding understood everything
 select_later_queue_plain = ((refl, refl), refl)
+
+-- ---- an account that is kept up
+
+abbrev pub address_columns : List Term
+address_columns = col 1 0 ∷ col 1 0 ∷ col 1 1 ∷ col 0 1 ∷ col 1 3 ∷ col 1 4 ∷ col 1 5 ∷ col 1 6 ∷ col 1 7 ∷ col 1 8 ∷ col 1 9 ∷ []
+
+pub update_address_is : command_of (understood mail_schema update_address) ≡ Update 1 (over account_tree by_one address_columns [])
+unfolding understood everything
+update_address_is = refl
+
+pub update_address_plain : IsPlain (understood mail_schema update_address)
+unfolding understood everything
+update_address_plain = (refl, refl)
+
+abbrev pub password_columns : List Term
+password_columns = col 1 0 ∷ col 1 0 ∷ col 1 1 ∷ col 1 2 ∷ col 0 1 ∷ col 0 2 ∷ col 0 3 ∷ col 1 6 ∷ col 1 7 ∷ col 1 8 ∷ col 1 9 ∷ []
+
+pub update_password_is : command_of (understood mail_schema update_password) ≡ Update 1 (over account_tree by_one password_columns [])
+unfolding understood everything
+update_password_is = refl
+
+pub update_password_plain : IsPlain (understood mail_schema update_password)
+unfolding understood everything
+update_password_plain = (refl, refl)
+
+abbrev pub rounds_columns : List Term
+rounds_columns = col 1 0 ∷ col 1 0 ∷ col 1 1 ∷ col 1 2 ∷ col 1 3 ∷ col 0 1 ∷ col 1 5 ∷ col 1 6 ∷ col 1 7 ∷ col 1 8 ∷ col 1 9 ∷ []
+
+pub update_rounds_is : command_of (understood mail_schema update_rounds) ≡ Update 1 (over account_tree by_one rounds_columns [])
+unfolding understood everything
+update_rounds_is = refl
+
+pub update_rounds_plain : IsPlain (understood mail_schema update_rounds)
+unfolding understood everything
+update_rounds_plain = (refl, refl)
+
+pub delete_scripts_is : command_of (understood mail_schema delete_scripts) ≡ Delete 2 (over script_tree by_one (col 1 0 ∷ []) [])
+unfolding understood everything
+delete_scripts_is = refl
+
+pub delete_scripts_plain : IsPlain (understood mail_schema delete_scripts)
+unfolding understood everything
+delete_scripts_plain = (refl, refl)
+
+pub delete_queue_is : command_of (understood mail_schema delete_queue) ≡ Delete 3 (over outgoing_tree by_one (col 1 0 ∷ []) [])
+unfolding understood everything
+delete_queue_is = refl
+
+pub delete_queue_plain : IsPlain (understood mail_schema delete_queue)
+unfolding understood everything
+delete_queue_plain = (refl, refl)
+
+pub delete_notices_is : command_of (understood mail_schema delete_notices) ≡ Delete 5 (over notice_tree by_one (col 1 0 ∷ []) [])
+unfolding understood everything
+delete_notices_is = refl
+
+pub delete_notices_plain : IsPlain (understood mail_schema delete_notices)
+unfolding understood everything
+delete_notices_plain = (refl, refl)
+
+pub delete_messages_is : command_of (understood mail_schema delete_messages) ≡ Delete 6 (over message_tree by_one (col 1 0 ∷ []) [])
+unfolding understood everything
+delete_messages_is = refl
+
+pub delete_messages_plain : IsPlain (understood mail_schema delete_messages)
+unfolding understood everything
+delete_messages_plain = (refl, refl)
+
+pub delete_copies_is : command_of (understood mail_schema delete_copies) ≡ Delete 7 (over copy_tree by_one (col 1 0 ∷ []) [])
+unfolding understood everything
+delete_copies_is = refl
+
+pub delete_copies_plain : IsPlain (understood mail_schema delete_copies)
+unfolding understood everything
+delete_copies_plain = (refl, refl)
+
+abbrev pub by_early : List Term
+by_early = equals 1 0 ∷ op2 (Compare Le Binary) (col 1 3) (col 0 1) ∷ []
+
+pub delete_early_notices_is : command_of (understood mail_schema delete_early_notices) ≡ Delete 5 (over notice_tree by_early (col 1 0 ∷ []) [])
+unfolding understood everything
+delete_early_notices_is = refl
+
+pub delete_early_notices_plain : IsPlain (understood mail_schema delete_early_notices)
+unfolding understood everything
+delete_early_notices_plain = (refl, refl)

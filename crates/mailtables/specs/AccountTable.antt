@@ -65,6 +65,15 @@ update_active = codes "UPDATE account SET active = ?2 WHERE name = ?1"
 abbrev pub update_counters : List ℕ
 update_counters = codes "UPDATE account SET next_copy = ?2, next_out = ?3, next_notice = ?4 WHERE name = ?1"
 
+abbrev pub update_address : List ℕ
+update_address = codes "UPDATE account SET address = ?2 WHERE name = ?1"
+
+abbrev pub update_password : List ℕ
+update_password = codes "UPDATE account SET salt = ?2, rounds = ?3, digest = ?4 WHERE name = ?1"
+
+abbrev pub update_rounds : List ℕ
+update_rounds = codes "UPDATE account SET rounds = ?2 WHERE name = ?1"
+
 abbrev pub select_account : List ℕ
 select_account = codes "SELECT address, salt, rounds, digest, active FROM account WHERE name = ?1"
 
@@ -88,3 +97,21 @@ abbrev pub with_counters : ℤ → ℤ → ℤ → Row → Row
 with_counters copy out notice cells =
     column cells 0 ∷ column cells address_column ∷ column cells salt_column ∷ column cells rounds_column ∷ column cells digest_column
     ∷ column cells active_column ∷ Int copy ∷ Int out ∷ Int notice ∷ []
+
+-- the account's row with another address
+abbrev pub with_address : List ℕ → Row → Row
+with_address address cells =
+    column cells 0 ∷ Blob address ∷ column cells salt_column ∷ column cells rounds_column ∷ column cells digest_column
+    ∷ column cells active_column ∷ column cells next_copy_column ∷ column cells next_out_column ∷ column cells next_notice_column ∷ []
+
+-- with another password, as it is kept
+abbrev pub with_password : List ℕ → ℕ → List ℕ → Row → Row
+with_password salt rounds digest cells =
+    column cells 0 ∷ column cells address_column ∷ Blob salt ∷ Int (pos rounds) ∷ Blob digest
+    ∷ column cells active_column ∷ column cells next_copy_column ∷ column cells next_out_column ∷ column cells next_notice_column ∷ []
+
+-- with other rounds of the password
+abbrev pub with_rounds : ℕ → Row → Row
+with_rounds rounds cells =
+    column cells 0 ∷ column cells address_column ∷ column cells salt_column ∷ Int (pos rounds) ∷ column cells digest_column
+    ∷ column cells active_column ∷ column cells next_copy_column ∷ column cells next_out_column ∷ column cells next_notice_column ∷ []

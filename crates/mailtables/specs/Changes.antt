@@ -5,18 +5,18 @@ use Rattle.sqlite_value.specs.declared.value.Value.TheVariants.{Blob}
 use Rattle.sqlite_trees.specs.Tree.{Trees}
 use Rattle.sqlite.specs.Effect.{Database}
 use Rattle.sqlite.specs.State.{State, HasCleanDisk}
-use Rattle.mailtables.specs.Rows.{Tables, HoldsTables, added, removed, set_in}
+use Rattle.mailtables.specs.Rows.{Tables, HoldsTables, added, removed, removed_where, set_in}
 use Rattle.mailtables.specs.declared.change.Change.{Change}
-use Rattle.mailtables.specs.declared.change.Change.TheVariants.{AddAccount, SetActive, SetCounters, AddScript, RemoveScript, AddMessage, RemoveMessage, AddCopy, RemoveCopy, AddOutgoing, RemoveOutgoing, AddReply, RemoveReply, AddNotice}
+use Rattle.mailtables.specs.declared.change.Change.TheVariants.{AddAccount, SetActive, SetCounters, SetAddress, SetPassword, SetRounds, AddScript, RemoveScript, RemoveScripts, AddMessage, RemoveMessage, RemoveMessages, AddCopy, RemoveCopy, RemoveCopies, AddOutgoing, RemoveOutgoing, RemoveQueue, AddReply, RemoveReply, AddNotice, RemoveNotices, RemoveEarlyNotices}
 use Rattle.mailtables.specs.Schema.{mail_schema}
 use Rattle.mailtables.specs.Cells.{or_null, contents}
-use Rattle.mailtables.specs.AccountTable.{account_cells, with_active, with_counters, account_tree}
+use Rattle.mailtables.specs.AccountTable.{account_cells, with_active, with_counters, with_address, with_password, with_rounds, account_tree}
 use Rattle.mailtables.specs.ScriptTable.{script_cells, script_tree}
 use Rattle.mailtables.specs.MessageTable.{message_cells, message_key, message_tree}
 use Rattle.mailtables.specs.CopyTable.{copy_cells, copy_key, copy_tree}
 use Rattle.mailtables.specs.QueueTable.{queue_cells, queue_key, outgoing_tree}
 use Rattle.mailtables.specs.ReplyTable.{reply_cells, reply_key, reply_tree}
-use Rattle.mailtables.specs.NoticeTable.{notice_row_cells, notice_tree}
+use Rattle.mailtables.specs.NoticeTable.{notice_row_cells, is_early_notice, notice_tree}
 use Rattle.mailtables.specs.declared.queue.Kind.{Kind}
 
 -- ---- one row change
@@ -29,6 +29,19 @@ active_set name active = set_in account_tree (Blob name ∷ []) (with_active (or
 
 abbrev pub counters_set : List ℕ → ℤ → ℤ → ℤ → Tables → Tables
 counters_set name copy out notice = set_in account_tree (Blob name ∷ []) (with_counters copy out notice)
+
+abbrev pub address_set : List ℕ → List ℕ → Tables → Tables
+address_set name address = set_in account_tree (Blob name ∷ []) (with_address address)
+
+abbrev pub password_set : List ℕ → List ℕ → ℕ → List ℕ → Tables → Tables
+password_set name salt rounds digest = set_in account_tree (Blob name ∷ []) (with_password salt rounds digest)
+
+abbrev pub rounds_set : List ℕ → ℕ → Tables → Tables
+rounds_set name rounds = set_in account_tree (Blob name ∷ []) (with_rounds rounds)
+
+-- all rows of the owner go
+abbrev pub owned_removed : ℕ → List ℕ → Tables → Tables
+owned_removed tree owner = removed tree (Blob owner ∷ [])
 
 abbrev pub script_added : List ℕ → List ℕ → List ℕ → Tables → Tables
 script_added owner name text = added script_tree (script_cells owner name text)
@@ -63,21 +76,33 @@ reply_removed owner handle sender = removed reply_tree (reply_key owner handle s
 abbrev pub notice_added : List ℕ → ℤ → ℤ → List ℕ → Tables → Tables
 notice_added owner id moment text = added notice_tree (notice_row_cells owner id moment text)
 
+abbrev pub early_notices_removed : List ℕ → ℤ → Tables → Tables
+early_notices_removed owner until = removed_where notice_tree (is_early_notice owner until)
+
 abbrev pub made_one : Change → Tables → Tables
 made_one (AddAccount name address salt rounds digest) = account_added name.now address.now salt.now rounds digest.now
 made_one (SetActive name active) = active_set name.now (contents active)
 made_one (SetCounters name copy out notice) = counters_set name.now copy out notice
+made_one (SetAddress name address) = address_set name.now address.now
+made_one (SetPassword name salt rounds digest) = password_set name.now salt.now rounds digest.now
+made_one (SetRounds name rounds) = rounds_set name.now rounds
 made_one (AddScript owner name text) = script_added owner.now name.now text.now
 made_one (RemoveScript owner name) = script_removed owner.now name.now
+made_one (RemoveScripts owner) = owned_removed script_tree owner.now
 made_one (AddMessage owner id bytes) = message_added owner.now id bytes.now
 made_one (RemoveMessage owner id) = message_removed owner.now id
+made_one (RemoveMessages owner) = owned_removed message_tree owner.now
 made_one (AddCopy owner folder n id) = copy_added owner.now folder.now n id
 made_one (RemoveCopy owner folder n) = copy_removed owner.now folder.now n
+made_one (RemoveCopies owner) = owned_removed copy_tree owner.now
 made_one (AddOutgoing owner id kind sender target message) = outgoing_added owner.now id kind sender.now target.now message.now
 made_one (RemoveOutgoing owner id) = outgoing_removed owner.now id
+made_one (RemoveQueue owner) = owned_removed outgoing_tree owner.now
 made_one (AddReply owner handle sender moment) = reply_added owner.now handle.now sender.now moment
 made_one (RemoveReply owner handle sender) = reply_removed owner.now handle.now sender.now
 made_one (AddNotice owner id moment text) = notice_added owner.now id moment text.now
+made_one (RemoveNotices owner) = owned_removed notice_tree owner.now
+made_one (RemoveEarlyNotices owner until) = early_notices_removed owner.now until
 
 -- ---- several
 
@@ -98,17 +123,26 @@ abbrev pub owner_of : Change → List ℕ
 owner_of (AddAccount name address salt rounds digest) = name.now
 owner_of (SetActive name active) = name.now
 owner_of (SetCounters name copy out notice) = name.now
+owner_of (SetAddress name address) = name.now
+owner_of (SetPassword name salt rounds digest) = name.now
+owner_of (SetRounds name rounds) = name.now
 owner_of (AddScript owner name text) = owner.now
 owner_of (RemoveScript owner name) = owner.now
+owner_of (RemoveScripts owner) = owner.now
 owner_of (AddMessage owner id bytes) = owner.now
 owner_of (RemoveMessage owner id) = owner.now
+owner_of (RemoveMessages owner) = owner.now
 owner_of (AddCopy owner folder n id) = owner.now
 owner_of (RemoveCopy owner folder n) = owner.now
+owner_of (RemoveCopies owner) = owner.now
 owner_of (AddOutgoing owner id kind sender target message) = owner.now
 owner_of (RemoveOutgoing owner id) = owner.now
+owner_of (RemoveQueue owner) = owner.now
 owner_of (AddReply owner handle sender moment) = owner.now
 owner_of (RemoveReply owner handle sender) = owner.now
 owner_of (AddNotice owner id moment text) = owner.now
+owner_of (RemoveNotices owner) = owner.now
+owner_of (RemoveEarlyNotices owner until) = owner.now
 
 -- all changes are one user's
 abbrev pub AreOf : List ℕ → List Change → Type 0

@@ -55,6 +55,9 @@ insert_copy = codes "INSERT INTO copy (owner, folder, n, id) VALUES (?1, ?2, ?3,
 abbrev pub delete_copy : List ℕ
 delete_copy = codes "DELETE FROM copy WHERE owner = ?1 AND folder = ?2 AND n = ?3"
 
+abbrev pub delete_copies : List ℕ
+delete_copies = codes "DELETE FROM copy WHERE owner = ?1"
+
 -- one copy of a folder, after that many
 abbrev pub select_nth : List ℕ
 select_nth = codes "SELECT folder, n, id FROM copy WHERE owner = ?1 AND folder = ?2 ORDER BY n LIMIT 1 OFFSET ?3"

@@ -32,6 +32,9 @@ insert_message = codes "INSERT INTO message (owner, id, bytes) VALUES (?1, ?2, ?
 abbrev pub delete_message : List ℕ
 delete_message = codes "DELETE FROM message WHERE owner = ?1 AND id = ?2"
 
+abbrev pub delete_messages : List ℕ
+delete_messages = codes "DELETE FROM message WHERE owner = ?1"
+
 abbrev pub select_message : List ℕ
 select_message = codes "SELECT bytes FROM message WHERE owner = ?1 AND id = ?2"
 

@@ -1,10 +1,11 @@
 -- The table of notices.
-use Rattle.std.specs.Prelude.{ℕ, ℤ, List, [], ◌∷◌, codes}
+use Rattle.std.specs.Prelude.{ℕ, ℤ, Bool, ◌&&◌, List, [], ◌∷◌, codes}
 use Rattle.sqlite_schema.specs.declared.schema.Kind.TheVariants as kind
 use Rattle.sqlite_schema.specs.declared.schema.Table.{Table}
 use Rattle.sqlite_value.specs.declared.value.Value.TheVariants.{Int, Blob}
-use Rattle.sqlite_value.specs.Order.{Row}
+use Rattle.sqlite_value.specs.Order.{Row, column}
 use Rattle.mailtables.specs.Forms.{needed, keyed}
+use Rattle.mailtables.specs.Rows.{has_key, at_most}
 use Rattle.mailtables.specs.AccountTable.{to_account}
 
 abbrev pub notice_tree : ℕ
@@ -20,8 +21,21 @@ create_notice = codes "CREATE TABLE notice (owner BLOB NOT NULL REFERENCES accou
 abbrev pub insert_notice : List ℕ
 insert_notice = codes "INSERT INTO notice (owner, id, moment, text) VALUES (?1, ?2, ?3, ?4)"
 
+abbrev pub delete_notices : List ℕ
+delete_notices = codes "DELETE FROM notice WHERE owner = ?1"
+
+abbrev pub delete_early_notices : List ℕ
+delete_early_notices = codes "DELETE FROM notice WHERE owner = ?1 AND moment <= ?2"
+
 abbrev pub select_notices : List ℕ
 select_notices = codes "SELECT moment, text FROM notice WHERE owner = ?1 ORDER BY id"
 
 abbrev pub notice_row_cells : List ℕ → ℤ → ℤ → List ℕ → Row
 notice_row_cells owner id moment text = Blob owner ∷ Int id ∷ Int moment ∷ Blob text ∷ []
+
+abbrev pub notice_moment_column : ℕ
+notice_moment_column = 2
+
+-- the owner's notice, from this moment or before
+abbrev pub is_early_notice : List ℕ → ℤ → Row → Bool
+is_early_notice owner until cells = has_key (Blob owner ∷ []) cells && at_most (column cells notice_moment_column) (Int until)

@@ -39,6 +39,9 @@ insert_outgoing = codes "INSERT INTO outgoing (owner, id, kind, sender, target, 
 abbrev pub delete_outgoing : List ℕ
 delete_outgoing = codes "DELETE FROM outgoing WHERE owner = ?1 AND id = ?2"
 
+abbrev pub delete_queue : List ℕ
+delete_queue = codes "DELETE FROM outgoing WHERE owner = ?1"
+
 -- the queue goes out in the order of its numbers
 abbrev pub select_queue : List ℕ
 select_queue = codes "SELECT id, kind, sender, target, message FROM outgoing WHERE owner = ?1 ORDER BY id"

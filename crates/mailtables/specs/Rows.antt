@@ -1,11 +1,15 @@
 -- A table as the list of its rows' cells, without the rowid, in the order in which they were made.
 use Rattle.std.specs.Prelude.{◌≡◌, ℕ, suc, ℤ, Bool, true, ◌&&◌, List, [], ◌∷◌, ◌++◌, map}
+use Rattle.sqlite_value.specs.declared.value.Value.{Value}
 use Rattle.sqlite_value.specs.declared.value.Value.TheVariants.{Int}
 use Rattle.sqlite_value.specs.declared.keys.Collation.TheVariants.{Binary}
 use Rattle.sqlite_value.specs.Order.{Row, column}
 use Rattle.sqlite_trees.specs.Tree.{with_tree}
 use Rattle.sqlite_schema.specs.declared.schema.Table.{Table}
 use Rattle.sqlite_schema.specs.declared.schema.Schema.{Schema}
+use Rattle.sqlite_sql.specs.Ops.{binary, is_true}
+use Rattle.sqlite_sql.specs.declared.ops.BinaryOp.TheVariants.{Compare}
+use Rattle.sqlite_sql.specs.declared.ops.CompareOp.TheVariants.{Le}
 use Rattle.sqlite_schema.specs.Rules.{equal, Fits}
 use Rattle.sqlite_rules.specs.Lists.{Has}
 use Rattle.sqlite_keyed.specs.Keyed.{IsKeyedBy}
@@ -52,13 +56,21 @@ has_key_from at (k ∷ key) cells = equal Binary (column cells at) k && has_key_
 abbrev pub has_key : Row → Row → Bool
 has_key = has_key_from 0
 
+-- as by SQL's <=, which isn't true of NULL
+abbrev pub at_most : Value → Value → Bool
+at_most a b = is_true (binary (Compare Le Binary) a b)
+
 -- a row joins the end of its table
 abbrev pub added : ℕ → Row → Tables → Tables
 added tree cells tables = with_tree tables tree (tables tree ++ cells ∷ [])
 
--- the row with the key is taken out, if there is one
+-- the rows that pass are taken out
+abbrev pub removed_where : ℕ → (Row → Bool) → Tables → Tables
+removed_where tree test tables = with_tree tables tree (delete_where test (tables tree))
+
+-- the rows that begin with the key are taken out, if there are some: where it is a whole key one at most
 abbrev pub removed : ℕ → Row → Tables → Tables
-removed tree key tables = with_tree tables tree (delete_where (has_key key) (tables tree))
+removed tree key = removed_where tree (has_key key)
 
 -- the row with the key is changed, if there is one
 abbrev pub set_in : ℕ → Row → (Row → Row) → Tables → Tables

@@ -27,6 +27,9 @@ insert_script = codes "INSERT INTO script (owner, name, text) VALUES (?1, ?2, ?3
 abbrev pub delete_script : List ℕ
 delete_script = codes "DELETE FROM script WHERE owner = ?1 AND name = ?2"
 
+abbrev pub delete_scripts : List ℕ
+delete_scripts = codes "DELETE FROM script WHERE owner = ?1"
+
 abbrev pub select_names : List ℕ
 select_names = codes "SELECT name FROM script WHERE owner = ?1 ORDER BY name"
 

@@ -1,6 +1,6 @@
 //! The table of accounts: its rows are the users.
 ghost use Rattle.mailtables.specs.Cells.{contents};
-ghost use Rattle.mailtables.specs.Changes.{account_added, active_set, counters_set};
+ghost use Rattle.mailtables.specs.Changes.{account_added, active_set, address_set, counters_set, password_set, rounds_set};
 ghost use Rattle.mailtables.specs.Connection.{ChangesRows, MakesTables};
 ghost use Rattle.mailtables.specs.Schema.{schema_1, schema_2};
 
@@ -65,5 +65,52 @@ pub(crate) fn set_counters<S: Alter>(
         tx,
         "UPDATE account SET next_copy = ?2, next_out = ?3, next_notice = ?4 WHERE name = ?1",
         params![name, copy, out, notice],
+    )
+}
+
+/// Another address. Inside a transaction.
+pub(crate) fn set_address<S: Alter>(
+    tx: &mut Transaction<'_, S>,
+    name: &[u8],
+    address: &[u8],
+) -> Result<(), Error>
+    ensures { ChangesRows S.Store (address_set name.now address.now) tx.old tx.new result }
+{
+    execute(
+        tx,
+        "UPDATE account SET address = ?2 WHERE name = ?1",
+        params![name, address],
+    )
+}
+
+/// Another password, as it is kept. Inside a transaction.
+pub(crate) fn set_password<S: Alter>(
+    tx: &mut Transaction<'_, S>,
+    name: &[u8],
+    salt: &[u8],
+    rounds: u32,
+    digest: &[u8],
+) -> Result<(), Error>
+    ensures { ChangesRows S.Store (password_set name.now salt.now rounds digest.now) tx.old tx.new result }
+{
+    execute(
+        tx,
+        "UPDATE account SET salt = ?2, rounds = ?3, digest = ?4 WHERE name = ?1",
+        params![name, salt, rounds, digest],
+    )
+}
+
+/// Other rounds of the password; its salt and digest stay. Inside a transaction.
+pub(crate) fn set_rounds<S: Alter>(
+    tx: &mut Transaction<'_, S>,
+    name: &[u8],
+    rounds: u32,
+) -> Result<(), Error>
+    ensures { ChangesRows S.Store (rounds_set name.now rounds) tx.old tx.new result }
+{
+    execute(
+        tx,
+        "UPDATE account SET rounds = ?2 WHERE name = ?1",
+        params![name, rounds],
     )
 }

@@ -5,16 +5,18 @@ ghost use Rattle.mailtables.specs.Changes.{MakesAll, CrashLeavesTables, made_one
 ghost use Rattle.sqlite.specs.State.{Survives, HasCleanDisk};
 ghost use Rattle.mailtables.specs.Connection.{ChangesRows, IsSettled, StaysSame};
 
-use crate::account::{add_account, set_active, set_counters};
-use crate::copy::{add_copy, remove_copy};
-use crate::message::{add_message, remove_message};
-use crate::notice::add_notice;
-use crate::queue::{Kind, add_outgoing, remove_outgoing};
+use crate::account::{
+    add_account, set_active, set_address, set_counters, set_password, set_rounds,
+};
+use crate::copy::{add_copy, remove_copies, remove_copy};
+use crate::message::{add_message, remove_message, remove_messages};
+use crate::notice::{add_notice, remove_early_notices, remove_notices};
+use crate::queue::{Kind, add_outgoing, remove_outgoing, remove_queue};
 use crate::reply::{add_reply, remove_reply};
-use crate::script::{add_script, remove_script};
+use crate::script::{add_script, remove_script, remove_scripts};
 use sqlite::{Alter, Connection, Error, Transaction};
 
-/// A change of one row by its key. Names, texts and messages are borrowed.
+/// A change of one row by its key, or of all rows of an owner. Names, texts and messages are borrowed.
 #[derive(Drop)]
 pub enum Change<'a> {
     AddAccount {
@@ -34,6 +36,20 @@ pub enum Change<'a> {
         out: i64,
         notice: i64,
     },
+    SetAddress {
+        name: &'a [u8],
+        address: &'a [u8],
+    },
+    SetPassword {
+        name: &'a [u8],
+        salt: &'a [u8],
+        rounds: u32,
+        digest: &'a [u8],
+    },
+    SetRounds {
+        name: &'a [u8],
+        rounds: u32,
+    },
     AddScript {
         owner: &'a [u8],
         name: &'a [u8],
@@ -43,6 +59,9 @@ pub enum Change<'a> {
         owner: &'a [u8],
         name: &'a [u8],
     },
+    RemoveScripts {
+        owner: &'a [u8],
+    },
     AddMessage {
         owner: &'a [u8],
         id: i64,
@@ -51,6 +70,9 @@ pub enum Change<'a> {
     RemoveMessage {
         owner: &'a [u8],
         id: i64,
+    },
+    RemoveMessages {
+        owner: &'a [u8],
     },
     AddCopy {
         owner: &'a [u8],
@@ -63,6 +85,9 @@ pub enum Change<'a> {
         folder: &'a [u8],
         n: i64,
     },
+    RemoveCopies {
+        owner: &'a [u8],
+    },
     AddOutgoing {
         owner: &'a [u8],
         id: i64,
@@ -74,6 +99,9 @@ pub enum Change<'a> {
     RemoveOutgoing {
         owner: &'a [u8],
         id: i64,
+    },
+    RemoveQueue {
+        owner: &'a [u8],
     },
     AddReply {
         owner: &'a [u8],
@@ -91,6 +119,13 @@ pub enum Change<'a> {
         id: i64,
         moment: i64,
         text: &'a [u8],
+    },
+    RemoveNotices {
+        owner: &'a [u8],
+    },
+    RemoveEarlyNotices {
+        owner: &'a [u8],
+        until: i64,
     },
 }
 
@@ -113,14 +148,24 @@ fn make<S: Alter>(tx: &mut Transaction<'_, S>, change: &Change<'_>) -> Result<()
             ref out,
             ref notice,
         } => set_counters(tx, name, copy, out, notice),
+        Change::SetAddress { name, address } => set_address(tx, name, address),
+        Change::SetPassword {
+            name,
+            salt,
+            rounds,
+            digest,
+        } => set_password(tx, name, salt, rounds, digest),
+        Change::SetRounds { name, rounds } => set_rounds(tx, name, rounds),
         Change::AddScript { owner, name, text } => add_script(tx, owner, name, text),
         Change::RemoveScript { owner, name } => remove_script(tx, owner, name),
+        Change::RemoveScripts { owner } => remove_scripts(tx, owner),
         Change::AddMessage {
             owner,
             ref id,
             bytes,
         } => add_message(tx, owner, id, bytes),
         Change::RemoveMessage { owner, ref id } => remove_message(tx, owner, id),
+        Change::RemoveMessages { owner } => remove_messages(tx, owner),
         Change::AddCopy {
             owner,
             folder,
@@ -132,6 +177,7 @@ fn make<S: Alter>(tx: &mut Transaction<'_, S>, change: &Change<'_>) -> Result<()
             folder,
             ref n,
         } => remove_copy(tx, owner, folder, n),
+        Change::RemoveCopies { owner } => remove_copies(tx, owner),
         Change::AddOutgoing {
             owner,
             ref id,
@@ -141,6 +187,7 @@ fn make<S: Alter>(tx: &mut Transaction<'_, S>, change: &Change<'_>) -> Result<()
             message,
         } => add_outgoing(tx, owner, id, kind, sender, target, message),
         Change::RemoveOutgoing { owner, ref id } => remove_outgoing(tx, owner, id),
+        Change::RemoveQueue { owner } => remove_queue(tx, owner),
         Change::AddReply {
             owner,
             handle,
@@ -158,6 +205,10 @@ fn make<S: Alter>(tx: &mut Transaction<'_, S>, change: &Change<'_>) -> Result<()
             ref moment,
             text,
         } => add_notice(tx, owner, id, moment, text),
+        Change::RemoveNotices { owner } => remove_notices(tx, owner),
+        Change::RemoveEarlyNotices { owner, ref until } => {
+            remove_early_notices(tx, owner, until)
+        }
     }
 }
 

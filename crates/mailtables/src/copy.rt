@@ -1,5 +1,6 @@
 //! The table of the copies of messages, which are the folders.
-ghost use Rattle.mailtables.specs.Changes.{copy_added, copy_removed};
+ghost use Rattle.mailtables.specs.Changes.{owned_removed, copy_added, copy_removed};
+ghost use Rattle.mailtables.specs.CopyTable.{copy_tree};
 ghost use Rattle.mailtables.specs.Connection.{ChangesRows, MakesTables};
 ghost use Rattle.mailtables.specs.Ours.{MakesIndex};
 ghost use Rattle.mailtables.specs.Schema.{unindexed_schema, schema_7};
@@ -57,4 +58,14 @@ pub(crate) fn remove_copy<S: Alter>(
         "DELETE FROM copy WHERE owner = ?1 AND folder = ?2 AND n = ?3",
         params![owner, folder, n],
     )
+}
+
+/// All copies of the owner go. Inside a transaction.
+pub(crate) fn remove_copies<S: Alter>(
+    tx: &mut Transaction<'_, S>,
+    owner: &[u8],
+) -> Result<(), Error>
+    ensures { ChangesRows S.Store (owned_removed copy_tree owner.now) tx.old tx.new result }
+{
+    execute(tx, "DELETE FROM copy WHERE owner = ?1", params![owner])
 }

@@ -1,5 +1,6 @@
 //! The table of the messages that folders have: each is kept once.
-ghost use Rattle.mailtables.specs.Changes.{message_added, message_removed};
+ghost use Rattle.mailtables.specs.Changes.{owned_removed, message_added, message_removed};
+ghost use Rattle.mailtables.specs.MessageTable.{message_tree};
 ghost use Rattle.mailtables.specs.Connection.{ChangesRows, MakesTables};
 ghost use Rattle.mailtables.specs.Schema.{schema_6, schema_7};
 
@@ -46,4 +47,14 @@ pub(crate) fn remove_message<S: Alter>(
         "DELETE FROM message WHERE owner = ?1 AND id = ?2",
         params![owner, id],
     )
+}
+
+/// All messages of the owner go. Inside a transaction.
+pub(crate) fn remove_messages<S: Alter>(
+    tx: &mut Transaction<'_, S>,
+    owner: &[u8],
+) -> Result<(), Error>
+    ensures { ChangesRows S.Store (owned_removed message_tree owner.now) tx.old tx.new result }
+{
+    execute(tx, "DELETE FROM message WHERE owner = ?1", params![owner])
 }

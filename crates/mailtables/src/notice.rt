@@ -1,5 +1,6 @@
 //! The table of notices.
-ghost use Rattle.mailtables.specs.Changes.{notice_added};
+ghost use Rattle.mailtables.specs.Changes.{early_notices_removed, owned_removed, notice_added};
+ghost use Rattle.mailtables.specs.NoticeTable.{notice_tree};
 ghost use Rattle.mailtables.specs.Connection.{ChangesRows, MakesTables};
 ghost use Rattle.mailtables.specs.Schema.{schema_5, schema_6};
 
@@ -31,5 +32,30 @@ pub fn add_notice<S: Alter>(
         tx,
         "INSERT INTO notice (owner, id, moment, text) VALUES (?1, ?2, ?3, ?4)",
         params![owner, id, moment, text],
+    )
+}
+
+/// All notices of the owner go. Inside a transaction.
+pub(crate) fn remove_notices<S: Alter>(
+    tx: &mut Transaction<'_, S>,
+    owner: &[u8],
+) -> Result<(), Error>
+    ensures { ChangesRows S.Store (owned_removed notice_tree owner.now) tx.old tx.new result }
+{
+    execute(tx, "DELETE FROM notice WHERE owner = ?1", params![owner])
+}
+
+/// The owner's notices from this moment or before go. Inside a transaction.
+pub(crate) fn remove_early_notices<S: Alter>(
+    tx: &mut Transaction<'_, S>,
+    owner: &[u8],
+    until: &i64,
+) -> Result<(), Error>
+    ensures { ChangesRows S.Store (early_notices_removed owner.now until.now) tx.old tx.new result }
+{
+    execute(
+        tx,
+        "DELETE FROM notice WHERE owner = ?1 AND moment <= ?2",
+        params![owner, until],
     )
 }

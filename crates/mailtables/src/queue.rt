@@ -1,6 +1,7 @@
 //! The table of messages on their way out.
 ghost use Rattle.std.specs.Prelude.{◌≡◌};
-ghost use Rattle.mailtables.specs.Changes.{outgoing_added, outgoing_removed};
+ghost use Rattle.mailtables.specs.Changes.{owned_removed, outgoing_added, outgoing_removed};
+ghost use Rattle.mailtables.specs.QueueTable.{outgoing_tree};
 ghost use Rattle.mailtables.specs.Connection.{ChangesRows, MakesTables};
 ghost use Rattle.mailtables.specs.QueueTable.{kind_number};
 ghost use Rattle.mailtables.specs.Schema.{schema_3, schema_4};
@@ -71,4 +72,11 @@ pub(crate) fn remove_outgoing<S: Alter>(
         "DELETE FROM outgoing WHERE owner = ?1 AND id = ?2",
         params![owner, id],
     )
+}
+
+/// All rows of the owner go. Inside a transaction.
+pub(crate) fn remove_queue<S: Alter>(tx: &mut Transaction<'_, S>, owner: &[u8]) -> Result<(), Error>
+    ensures { ChangesRows S.Store (owned_removed outgoing_tree owner.now) tx.old tx.new result }
+{
+    execute(tx, "DELETE FROM outgoing WHERE owner = ?1", params![owner])
 }

@@ -1,5 +1,6 @@
 //! The table of scripts.
-ghost use Rattle.mailtables.specs.Changes.{script_added, script_removed};
+ghost use Rattle.mailtables.specs.Changes.{owned_removed, script_added, script_removed};
+ghost use Rattle.mailtables.specs.ScriptTable.{script_tree};
 ghost use Rattle.mailtables.specs.Connection.{ChangesRows, MakesTables};
 ghost use Rattle.mailtables.specs.Schema.{schema_2, schema_3};
 
@@ -46,4 +47,14 @@ pub(crate) fn remove_script<S: Alter>(
         "DELETE FROM script WHERE owner = ?1 AND name = ?2",
         params![owner, name],
     )
+}
+
+/// All scripts of the owner go. Inside a transaction.
+pub(crate) fn remove_scripts<S: Alter>(
+    tx: &mut Transaction<'_, S>,
+    owner: &[u8],
+) -> Result<(), Error>
+    ensures { ChangesRows S.Store (owned_removed script_tree owner.now) tx.old tx.new result }
+{
+    execute(tx, "DELETE FROM script WHERE owner = ?1", params![owner])
 }

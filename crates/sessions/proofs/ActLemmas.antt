@@ -61,6 +61,23 @@ no_glance a = record {
   crash = record { clean = omega arith; shield = λ shielded. shielded; counts = omega arith; limit = refl; closes = λ clean is_open. inl is_open; crash = λ clean db left. inl left };
 }
 
+-- one look after another, over a connection that the first leaves open
+pub glances_then : (a b c : State) → (HasCleanDisk b → IsTrue b.is_open) → Glances a b → Glances b c → Glances a c
+glances_then a b c live early late = record {
+  same = λ clean tables.
+      let one = early.same (clean_mid clean) tables in
+      let two = late.same clean (mid_tables clean tables) in
+      record { now_is = λ o. two.now_is o ∙ one.now_is (live (clean_mid clean)); committed_is = λ o. two.committed_is o ∙ one.committed_is (live (clean_mid clean)) };
+  shut = λ clean is_open. early.shut (clean_mid clean) (late.shut clean is_open);
+  crash = survives_then a b c _ _ _ (λ clean db none. none) (λ clean db none tables. none (mid_tables clean tables)) early.crash late.crash;
+}
+  where
+    clean_mid : HasCleanDisk c → HasCleanDisk b
+    clean_mid = clean_before b c _ late.crash
+
+    mid_tables : HasCleanDisk c → HasOurTables a.now → HasOurTables b.now
+    mid_tables clean tables = subst HasOurTables (sym ((early.same (clean_mid clean) tables).now_is (live (clean_mid clean)))) tables
+
 -- the accounts that are shown stay
 pub accounts_stay : (a b : State) → Glances a b → HasCleanDisk b → (accounts : Accounts) → HasAccounts a accounts → HasAccounts b accounts
 accounts_stay a b k clean accounts shown is_open =

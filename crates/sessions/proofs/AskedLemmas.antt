@@ -1,5 +1,6 @@
 -- Steps over a store, from what their commands come to.
-use Rattle.std.proofs.Common.{◌≡◌, ◌⊎◌, ℕ, Bool, true, false, not, ◌&&◌, List, ◌++◌, Option, Some, Ok, Err, Result, OnOk, OnErr, IfErr, refl, sym, ap, ◌∙◌, subst, inl, inr}
+use Rattle.std.proofs.Common.{◌≡◌, ◌⊎◌, ℕ, Bool, true, false, not, ◌&&◌, cond, List, ◌++◌, Option, Some, None, Ok, Err, Result, OnOk, OnErr, IfErr, refl, sym, ap, ◌∙◌, subst, inl, inr}
+use Rattle.std.specs.Prelude.{is_some}
 use Rattle.sqlite.specs.State.{State, HasCleanDisk}
 use Rattle.sqlite.proofs.StateLemmas.{survives_weaker}
 use Rattle.msproto.specs.declared.commands.Command.{Command}
@@ -9,7 +10,7 @@ use Rattle.msproto.specs.declared.items.Reach.TheVariants as reach
 use Rattle.msproto.specs.declared.replies.Reply.{Reply}
 use Rattle.msproto.specs.Replies.{spelled}
 use Rattle.mailstore.specs.declared.refusal.Refusal.{Refusal}
-use Rattle.mailstore.specs.Account.{Accounts}
+use Rattle.mailstore.specs.Account.{Account, Accounts, open_of, with_user}
 use Rattle.mailstore.specs.Connection.{IsSettled}
 use Rattle.mailstore.specs.Promises.{HasOurTables}
 use Rattle.mailstore.specs.Refusals.{IsTransient}
@@ -22,19 +23,20 @@ use Rattle.sessions.specs.declared.sort.NamedCommand.TheVariants as named
 use Rattle.sessions.specs.declared.sort.Order.{Order}
 use Rattle.sessions.specs.declared.sort.ScriptCommand.{ScriptCommand}
 use Rattle.sessions.specs.declared.sort.ScriptCommand.TheVariants as script
-use Rattle.sessions.specs.declared.turn.Sequel.TheVariants.{Stay}
+use Rattle.sessions.specs.declared.turn.Sequel.TheVariants.{Stay, LogOut}
 use Rattle.sessions.specs.declared.turn.Turn.{Turn}
 use Rattle.sessions.specs.Acts.{HasAccounts, Carries, CrashLeaves, Acts, Glances, IsAnswered, Stays, StaysOpen}
-use Rattle.sessions.specs.Clients.{Client, item_in, reach_in, past, without_first}
+use Rattle.sessions.specs.Clients.{Client, item_in, reach_in, past, left, without_first}
 use Rattle.sessions.specs.Orders.{ObeysUser, ObeyedTo, MayObey, StepsTo, MayStep, MayRefuse}
 use Rattle.sessions.specs.Refusing.{WasRefused, was_refused}
 use Rattle.sessions.specs.Steps.{IsStep, StepsOver, HasFirst, Asked, progress_of, is_free, asks_store, asks_memory, may_lack, may_fail}
 use Rattle.sessions.specs.Sorts.{of_login, of_script, of_order}
-use Rattle.sessions.specs.Table.{is_about_scripts, is_early}
+use Rattle.sessions.specs.Scripts.{obeyed}
+use Rattle.sessions.specs.Table.{is_about_scripts, is_early, RepliesOf}
 use Rattle.sessions.specs.Turns.{IsTurn, FitsLogin, IsFreeTurn, followed, login_text, admitted_in}
 use Rattle.sessions.proofs.ActLemmas.{lasting, acts_read, no_glance}
 use Rattle.sessions.proofs.FreeLemmas.{from_item}
-use Rattle.sessions.proofs.LawLemmas.{turn_step, script_step}
+use Rattle.sessions.proofs.LawLemmas.{turn_step, script_step, closed_step}
 use Rattle.sessions.proofs.OrderLemmas.{done, refused}
 
 -- ---- which command it is
@@ -84,12 +86,24 @@ module _ (c : Client) (order : Order) (asked : Asked c order) where
   first_reach = from_item c.pending c.unread (reach_in c) (of_order order) asked.used asked.first
 
   module _ (user : List ℕ) (is : c.user ≡ Some user) (about : is_about_scripts (of_order order) ≡ true) where
-    obeyed_step : (reply : Reply) (accounts later : Accounts) → ObeysUser user (of_order order) reply accounts later → IsStep accounts c Done (spelled reply) (past asked.used c) later
+    -- the session after it: where the account isn't open any more it is logged out
+    abbrev obeyed_client : Bool → Client
+    obeyed_client is_open = followed (cond is_open Stay LogOut) (past asked.used c)
+
+    obeyed_step : (reply : Reply) (accounts later : Accounts) → ObeysUser user (of_order order) reply accounts later
+        → IsStep accounts c Done (spelled reply) (obeyed_client (is_some (open_of accounts user))) later
     obeyed_step reply accounts later o =
-        subst (IsStep accounts c Done (spelled reply) (past asked.used c)) (sym o.changed) (script_step accounts c (of_order order) asked.used user o.account reply (asked.live, asked.first) about is o.has o.replies)
+        subst (IsStep accounts c Done (spelled reply) (obeyed_client (is_some (open_of accounts user)))) (sym o.changed) (go (open_of accounts user) refl o.replies)
+      where
+        go : (a : Option Account) → open_of accounts user ≡ a → RepliesOf a (of_order order) reply
+            → IsStep accounts c Done (spelled reply) (followed (cond (is_some a) Stay LogOut) (past asked.used c)) (with_user accounts user (obeyed (of_order order) reply.word))
+        go None none replies =
+            subst (λ (r : Reply). IsStep accounts c Done (spelled r) (left (past asked.used c)) (with_user accounts user (obeyed (of_order order) r.word))) (sym replies)
+            (closed_step accounts c (of_order order) asked.used user (asked.live, asked.first) about is none)
+        go (Some a) has replies = script_step accounts c (of_order order) asked.used user a reply (asked.live, asked.first) about is has replies
 
     may_step : (accounts later : Accounts) → MayObey user (of_order order) accounts later → MayStep c accounts later
-    may_step accounts later o = (Done, spelled o.0, past asked.used c, obeyed_step o.0 accounts later o.1)
+    may_step accounts later o = (Done, spelled o.0, obeyed_client (is_some (open_of accounts user)), obeyed_step o.0 accounts later o.1)
 
     pub scripts_refused : (a b : State) (e f : Refusal) (before after : List ℕ) → IsTransient f → Acts (ObeyedTo user (of_order order) (refused e) before after) (MayObey user (of_order order)) a b (refused e)
         → Acts {X = Progress} (StepsTo c c (Err f) before after) (MayStep c) a b (Err f)
@@ -97,14 +111,14 @@ module _ (c : Client) (order : Order) (asked : Asked c order) where
         acts_other {Y = Progress} a b (ObeyedTo user (of_order order) (refused e) before after) (StepsTo c c (Err f) before after) (MayObey user (of_order order)) (MayStep c) (refused e) (Err f) (λ accounts later same. same) may_step (λ P h. tt) (λ P h. h)
         (λ told. absurd (told transient)) acts
 
-    pub scripts_answered : (a b : State) (d : Client) (before after : List ℕ) → d ≡ followed Stay (without_first false (reach_in c) c) → Acts (ObeyedTo user (of_order order) done before after) (MayObey user (of_order order)) a b done
-        → Acts {X = Progress} (StepsTo c d (Ok Done) before after) (MayStep c) a b (Ok Done)
-    scripts_answered a b d before after session acts =
-        acts_other {Y = Progress} a b (ObeyedTo user (of_order order) done before after) (StepsTo c d (Ok Done) before after) (MayObey user (of_order order)) (MayStep c) done (Ok Done)
-        (λ accounts later o. (spelled o.0, o.1, subst (λ (k : Client). IsStep accounts c Done (spelled o.0) k later) (sym left) (obeyed_step o.0 accounts later o.2))) may_step (λ P h. h) (λ P h. tt) (λ told. tt) acts
+    pub scripts_answered : (a b : State) (d : Client) (is_open : Bool) (before after : List ℕ) → d ≡ followed (cond is_open Stay LogOut) (without_first false (reach_in c) c)
+        → Acts (ObeyedTo user (of_order order) (done is_open) before after) (MayObey user (of_order order)) a b (done is_open) → Acts {X = Progress} (StepsTo c d (Ok Done) before after) (MayStep c) a b (Ok Done)
+    scripts_answered a b d is_open before after session acts =
+        acts_other {Y = Progress} a b (ObeyedTo user (of_order order) (done is_open) before after) (StepsTo c d (Ok Done) before after) (MayObey user (of_order order)) (MayStep c) (done is_open) (Ok Done)
+        (λ accounts later o. (spelled o.0, o.2, subst (λ (k : Client). IsStep accounts c Done (spelled o.0) k later) (sym (left_so accounts o.1)) (obeyed_step o.0 accounts later o.3))) may_step (λ P h. h) (λ P h. tt) (λ told. tt) acts
       where
-        left : d ≡ past asked.used c
-        left = session ∙ ap (λ (r : Reach). without_first false r c) first_reach
+        left_so : (accounts : Accounts) → is_open ≡ is_some (open_of accounts user) → d ≡ followed (cond (is_some (open_of accounts user)) Stay LogOut) (past asked.used c)
+        left_so accounts same = session ∙ ap (λ (r : Reach). followed (cond is_open Stay LogOut) (without_first false r c)) first_reach ∙ ap (λ (b : Bool). followed (cond b Stay LogOut) (past asked.used c)) same
 
   -- a login, or a failed one
   pub login_answered : (a b : State) (d : Client) (who : Option (List ℕ)) (turn : Turn) (progress : Progress) (before after : List ℕ) → is_about_scripts (of_order order) ≡ false → StaysOpen {X = Progress} a b (Ok progress) → Glances a b

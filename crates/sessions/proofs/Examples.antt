@@ -10,7 +10,7 @@ use Rattle.msproto.specs.declared.replies.Code.TheVariants.{MaxSize, MaxScripts}
 use Rattle.msproto.specs.declared.replies.Status.TheVariants.{Ok, No}
 use Rattle.msproto.specs.Machine.{rows}
 use Rattle.msproto.specs.Replies.{spelled}
-use Rattle.mailstore.specs.Account.{bytes_cmp, Account, no_accounts, new_account, keeps_script}
+use Rattle.mailstore.specs.Account.{bytes_cmp, Account, Accounts, no_accounts, new_account, keeps_script, closes, open_one, open_of}
 use Rattle.sessions.specs.declared.progress.Progress.TheVariants.{Need, Done, Close}
 use Rattle.sessions.specs.declared.turn.Sequel.TheVariants.{Fail, LogOut}
 use Rattle.sessions.specs.Clients.{Client, new_client, is_ready, client_given, shut, challenged, without_first, reach_in}
@@ -24,10 +24,10 @@ use Rattle.sessions.specs.GivenUp.{text_given_up, client_given_up, progress_give
 use Rattle.sessions.specs.Limits.{IsScriptName}
 use Rattle.sessions.specs.Logins.{checked_by, login_reply, login_client, is_plain, is_star, authenticate_reply, response_reply}
 use Rattle.sessions.specs.Replies.{accepted, declined, farewell, listed, challenge, done, done_with, try_later, is_ok, capabilities, owner_line}
-use Rattle.sessions.specs.Scripts.{RepliesTo, HasScript, absent, too_large, get_reply, obeyed}
+use Rattle.sessions.specs.Scripts.{RepliesTo, HasScript, absent, too_large, get_reply, list_reply, obeyed}
 use Rattle.sessions.specs.Sorts.{command_of, of_order}
 use Rattle.sessions.specs.Steps.{IsStep, progress_of, may_fail, may_lack}
-use Rattle.sessions.specs.Table.{is_early, RepliesIn, client_in}
+use Rattle.sessions.specs.Table.{is_early, early_reply, RepliesOf, RepliesIn, asked_client, client_in}
 use Rattle.sessions.specs.Turns.{login_text, followed}
 
 -- with CRLF after it
@@ -239,9 +239,49 @@ not_early = refl
 told_first : RepliesIn no_accounts new_client ListScripts (declined None (codes "Log in first."))
 told_first = refl
 
--- of a user without an account no answer is right
+-- of a user without an account nothing is listed: the command is early
 no_account : RepliesIn no_accounts (record new_client { user = Some [] }) ListScripts (listed []) → ⊥
-no_account h = let none : get no_accounts [] ≡ None = get-empty bytes_cmp [] in rw none at h
+no_account h =
+    let none : get no_accounts [] ≡ None = get-empty bytes_cmp [] in
+    let told : listed [] ≡ early_reply = rw none at h in
+    false≢true (sym (ap (λ (r : Reply). is_ok r.word) told))
+
+-- ---- an account that was closed
+
+abbrev alice : List ℕ
+alice = codes "alice"
+
+-- alice is logged in
+abbrev alices : Client
+alices = record new_client { user = Some alice }
+
+module _ (accounts : Accounts) (a : Account) (has : get accounts alice ≡ Some (closes a)) where
+  gone : open_of accounts alice ≡ None
+  gone = ap open_one has
+
+  -- a session still logged in is told so at its next command about scripts, and is logged out
+  closed_told : RepliesIn accounts alices ListScripts early_reply
+  closed_told = subst (λ o. RepliesOf o ListScripts early_reply) (sym gone) refl
+
+  closed_left : client_in accounts ListScripts alices ≡ new_client
+  closed_left = ap (λ o. asked_client o alices) gone
+
+  -- near misses: its scripts are listed; it stays logged in
+  closed_listed : RepliesIn accounts alices ListScripts (list_reply a) → ⊥
+  closed_listed h =
+      let told : list_reply a ≡ early_reply = subst (λ o. RepliesOf o ListScripts (list_reply a)) gone h in
+      false≢true (sym (ap (λ (r : Reply). is_ok r.word) told))
+
+  closed_stays : client_in accounts ListScripts alices ≡ alices → ⊥
+  closed_stays h = let no : None ≡ Some alice = ap (λ (c : Client). c.user) (sym closed_left ∙ h) in cc
+
+  -- what looks at no account is answered as ever
+  closed_noop : client_in accounts (Noop None) alices ≡ alices
+  closed_noop = refl
+
+  -- no password logs in
+  closed_out : (password : List ℕ) → checked_by (alice, password) (open_of accounts alice) ≡ None
+  closed_out password = ap (checked_by (alice, password)) gone
 
 logged_out : client_in no_accounts Unauthenticate (record new_client { user = Some []; failures = 1 }) ≡ new_client
 logged_out = refl

@@ -13,15 +13,15 @@ use Rattle.msproto.specs.declared.items.Item.TheVariants as item
 use Rattle.msproto.specs.declared.replies.Reply.{Reply}
 use Rattle.msproto.specs.declared.replies.Status.{Status}
 use Rattle.msproto.specs.Replies as octets_of
-use Rattle.mailstore.specs.Account.{Account, Accounts, bytes_cmp, with_user, in_place}
+use Rattle.mailstore.specs.Account.{Account, Accounts, bytes_cmp, open_of, with_user, in_place}
 use Rattle.mailstore.proofs.AccountLemmas.{bytes_antisymmetric}
 use Rattle.sessions.specs.declared.progress.Progress.TheVariants.{Close, Done}
-use Rattle.sessions.specs.Clients.{Client, past}
-use Rattle.sessions.specs.Laws.{EarlySteps, TurnSteps, ScriptSteps}
+use Rattle.sessions.specs.Clients.{Client, past, left}
+use Rattle.sessions.specs.Laws.{ComesFirst, EarlySteps, TurnSteps, ScriptSteps, ClosedSteps}
 use Rattle.sessions.specs.Replies.{is_ok}
 use Rattle.sessions.specs.Scripts.{carried_out, obeyed}
-use Rattle.sessions.specs.Steps.{changed_for, progress_of}
-use Rattle.sessions.specs.Table.{needs_login, is_early, is_about_scripts, early_reply, account_of, RepliesOf, RepliesTaken, RepliesIn, taken_client, client_in}
+use Rattle.sessions.specs.Steps.{IsStep, changed_for, progress_of}
+use Rattle.sessions.specs.Table.{needs_login, is_early, is_about_scripts, early_reply, account_of, RepliesOf, RepliesTaken, RepliesIn, asked_client, taken_client, client_in}
 use Rattle.sessions.specs.Turns.{followed}
 use Rattle.sessions.proofs.StepLemmas.{step_at}
 
@@ -92,7 +92,7 @@ about_replies accounts c (DeleteScript name) reply h r = r
 about_replies accounts c (RenameScript old new) reply h r = r
 about_replies accounts c (Response text) reply h r = absurd (false≢true h)
 
-about_client : (accounts : Accounts) (c : Client) (command : Command) → is_about_scripts command ≡ true → c ≡ taken_client accounts command c
+about_client : (accounts : Accounts) (c : Client) (command : Command) → is_about_scripts command ≡ true → asked_client (account_of accounts c.user) c ≡ taken_client accounts command c
 about_client accounts c Capability h = absurd (false≢true h)
 about_client accounts c (Noop tag) h = absurd (false≢true h)
 about_client accounts c Logout h = absurd (false≢true h)
@@ -148,15 +148,28 @@ turn_step accounts c command used turn first e other replies session =
       changed = none_changed accounts c.user (obeyed command turn.reply.word) (quiet command turn.reply.word other);
     })
 
-pub script_step : ScriptSteps
-script_step accounts c command used user a reply first about user_is has replies =
+-- one about scripts, by what the user's open account is
+about_step : (accounts : Accounts) (c : Client) (command : Command) (used : ℕ) (user : List ℕ) (o : Option Account) (reply : Reply) → ComesFirst c command used → is_about_scripts command ≡ true → c.user ≡ Some user
+    → open_of accounts user ≡ o → RepliesOf o command reply
+    → IsStep accounts c Done (octets_of.spelled reply) (asked_client o (past used c)) (with_user accounts user (obeyed command reply.word))
+about_step accounts c command used user o reply first about user_is has replies =
     let e = late (past used c) command user user_is in
-    let account : account_of accounts c.user ≡ Some a = ap (account_of accounts) user_is ∙ has in
-    step_at accounts c (item.Command command used) Done (octets_of.spelled reply) (past used c) (with_user accounts user (obeyed command reply.word)) first.0 first.1 (record {
+    let account : account_of accounts c.user ≡ o = ap (account_of accounts) user_is ∙ has in
+    step_at accounts c (item.Command command used) Done (octets_of.spelled reply) (asked_client o (past used c)) (with_user accounts user (obeyed command reply.word)) first.0 first.1 (record {
       reply = reply;
       replies = replies_late accounts (past used c) command reply e (about_replies accounts (past used c) command reply about (subst (λ (o : Option Account). RepliesOf o command reply) (sym account) replies));
       spelled = refl;
-      session = about_client accounts (past used c) command about ∙ client_late accounts (past used c) command e;
-      goes_on = still_open (past used c) first.0;
+      session = sym (ap (λ (o : Option Account). asked_client o (past used c)) account) ∙ about_client accounts (past used c) command about ∙ client_late accounts (past used c) command e;
+      goes_on = asked_open o (past used c) first.0;
       changed = sym (ap (λ (o : Option (List ℕ)). changed_for o (obeyed command reply.word) accounts) user_is);
     })
+  where
+    asked_open : (o : Option Account) (d : Client) → d.closed ≡ false → Done ≡ progress_of (asked_client o d)
+    asked_open None d live = still_open (left d) live
+    asked_open (Some a) d live = still_open d live
+
+pub script_step : ScriptSteps
+script_step accounts c command used user a reply first about user_is has replies = about_step accounts c command used user (Some a) reply first about user_is has replies
+
+pub closed_step : ClosedSteps
+closed_step accounts c command used user first about user_is none = about_step accounts c command used user None early_reply first about user_is none refl

@@ -2,11 +2,10 @@
 use Rattle.std.specs.Prelude.{ℕ, ◌+◌, Bool, cond, not, nat_eq, nat_lt, is_some, List, map, Option, Some, None, codes}
 use Rattle.std.specs.Char.{to_ascii_lowercase}
 use Rattle.std.specs.Cmp.Lexicographic.{pointwise}
-use Rattle.std.specs.FinMap.{get}
 use Rattle.msproto.specs.declared.replies.Reply.{Reply}
 use Rattle.saslplain.specs.Parts.{login_of}
 use Rattle.saslplain.specs.Password.{digest_of}
-use Rattle.mailstore.specs.Account.{Account, Accounts, Password}
+use Rattle.mailstore.specs.Account.{Account, Accounts, Password, open_of}
 use Rattle.sessions.specs.Clients.{Client, shut, challenged}
 use Rattle.sessions.specs.Replies.{accepted, declined, farewell, challenge}
 
@@ -16,16 +15,16 @@ use Rattle.sessions.specs.Replies.{accepted, declined, farewell, challenge}
 abbrev pub has_password : List ℕ → Password → Bool
 has_password password kept = pointwise nat_eq (digest_of kept.salt password kept.rounds) kept.digest
 
--- the user of a login whose password is the account's
+-- the user of a login whose password is that of the open account, if there is one
 abbrev pub checked_by : List ℕ × List ℕ → Option Account → Option (List ℕ)
 checked_by login None = None
 checked_by login (Some a) = cond (has_password login.1 a.password) (Some login.0) None
 
 abbrev pub admitted_by : Accounts → Option (List ℕ × List ℕ) → Option (List ℕ)
 admitted_by accounts None = None
-admitted_by accounts (Some login) = checked_by login (get accounts login.0)
+admitted_by accounts (Some login) = checked_by login (open_of accounts login.0)
 
--- the user whom a text logs in: it says a login by PLAIN, the user has an account, and the password is its own
+-- the user whom a text logs in: it says a login by PLAIN, the user has an open account, and the password is its own
 abbrev pub admitted : Accounts → List ℕ → Option (List ℕ)
 admitted accounts text = admitted_by accounts (login_of text)
 

@@ -1,34 +1,33 @@
 -- Commands that are answered over a store: what a step over one comes to.
-use Rattle.std.specs.Prelude.{◌≡◌, ℕ, true, List, ◌++◌, Some, Result, Ok, Err, OnOk, OnErr, IfErr}
-use Rattle.std.specs.FinMap.{get}
+use Rattle.std.specs.Prelude.{◌≡◌, ℕ, true, List, ◌++◌, Some, Result, Ok, Err, OnOk, OnErr, IfErr, Bool, is_some}
 use Rattle.sqlite.specs.State.{State}
 use Rattle.msproto.specs.declared.commands.Command.{Command}
 use Rattle.msproto.specs.declared.replies.Reply.{Reply}
 use Rattle.msproto.specs.Replies as octets_of
 use Rattle.mailstore.specs.declared.refusal.Refusal.{Refusal}
 use Rattle.mailstore.specs.declared.refusal.Refusal.TheVariants.{Memory, Store}
-use Rattle.mailstore.specs.Account.{Account, Accounts, with_user}
+use Rattle.mailstore.specs.Account.{Account, Accounts, open_of, with_user}
 use Rattle.mailstore.specs.Refusals.{IsTransient}
 use Rattle.sessions.specs.declared.progress.Progress.{Progress}
 use Rattle.sessions.specs.Acts.{Acts}
 use Rattle.sessions.specs.Clients.{Client}
-use Rattle.sessions.specs.Scripts.{RepliesTo, obeyed}
+use Rattle.sessions.specs.Scripts.{obeyed}
+use Rattle.sessions.specs.Table.{RepliesOf}
 use Rattle.sessions.specs.Counts.{SessionView, scanned_past}
 use Rattle.sessions.specs.Steps.{IsStep, may_lack, may_fail}
 
 -- ---- a command about a user's scripts
 
--- the user's account is answered by a reply of the command's row, and changes as its word says
+-- the user's open account, if there is one, is answered by a reply of the command's row, and changes as its word says
 pub record ObeysUser (user : List ℕ) (command : Command) (reply : Reply) (accounts later : Accounts) : Type 0 where
-  pub account : Account
-  pub has : get accounts user ≡ Some account
-  pub replies : RepliesTo account command reply
+  pub replies : RepliesOf (open_of accounts user) command reply
   pub changed : later ≡ with_user accounts user (obeyed command reply.word)
 
--- what the call wrote between two outputs is such a reply; after a refusal no account changed
-abbrev pub ObeyedTo : {X : Type 0} → List ℕ → Command → Result X Refusal → List ℕ → List ℕ → Accounts → Accounts → Type 0
-ObeyedTo user command (Ok x) before after accounts later =
-    (reply : Reply) × (after ≡ before ++ octets_of.spelled reply) × ObeysUser user command reply accounts later
+-- what the call wrote between two outputs is such a reply, and it answers whether the account is open; after a refusal no account changed
+abbrev pub ObeyedTo : List ℕ → Command → Result Bool Refusal → List ℕ → List ℕ → Accounts → Accounts → Type 0
+ObeyedTo user command (Ok is_open) before after accounts later =
+    (reply : Reply) × (is_open ≡ is_some (open_of accounts user)) × (after ≡ before ++ octets_of.spelled reply)
+    × ObeysUser user command reply accounts later
 ObeyedTo user command (Err refusal) before after accounts later = later ≡ accounts
 
 -- what the accounts may turn into by the command
@@ -36,7 +35,7 @@ abbrev pub MayObey : List ℕ → Command → Accounts → Accounts → Type 0
 MayObey user command accounts later = (reply : Reply) × ObeysUser user command reply accounts later
 
 -- what the command makes of the store, with what was written between two outputs
-abbrev pub ActsCommand : List ℕ → Command → List ℕ → List ℕ → State → State → Result (Unit {0}) Refusal → Type 0
+abbrev pub ActsCommand : List ℕ → Command → List ℕ → List ℕ → State → State → Result Bool Refusal → Type 0
 ActsCommand user command before after old new result = Acts (ObeyedTo user command result before after) (MayObey user command) old new result
 
 -- ---- a step

@@ -1,10 +1,9 @@
 -- The table of the commands: what each answers in a session, and what becomes of the session (RFC 5804, section 2).
 use Rattle.std.specs.Prelude.{◌≡◌, Bool, true, false, cond, ◌&&◌, is_none, List, ℕ, Option, Some, None, MatchBool, codes}
-use Rattle.std.specs.FinMap.{get}
 use Rattle.msproto.specs.declared.commands.Command.{Command}
 use Rattle.msproto.specs.declared.commands.Command.TheVariants.{Capability, Noop, Logout, Authenticate, Unauthenticate, HaveSpace, PutScript, CheckScript, ListScripts, SetActive, GetScript, DeleteScript, RenameScript, Response}
 use Rattle.msproto.specs.declared.replies.Reply.{Reply}
-use Rattle.mailstore.specs.Account.{Account, Accounts}
+use Rattle.mailstore.specs.Account.{Account, Accounts, open_of}
 use Rattle.sessions.specs.Clients.{Client, shut, left}
 use Rattle.sessions.specs.Replies.{accepted, declined, done, done_with, capabilities}
 use Rattle.sessions.specs.Scripts.{RepliesTo, RepliesToCheck}
@@ -42,14 +41,14 @@ lacks_login user command = needs_login command && is_none user
 abbrev pub is_early : Client → Command → Bool
 is_early c command = lacks_login c.user command
 
--- the account of the user who is logged in
+-- the open account of the user who is logged in
 abbrev pub account_of : Accounts → Option (List ℕ) → Option Account
 account_of accounts None = None
-account_of accounts (Some user) = get accounts user
+account_of accounts (Some user) = open_of accounts user
 
--- what is answered about an account; where there is none no answer is right
+-- what is answered about an open account; where there is none, the command is early
 abbrev pub RepliesOf : Option Account → Command → Reply → Type 0
-RepliesOf None command reply = ⊥
+RepliesOf None command reply = reply ≡ early_reply
 RepliesOf (Some a) command reply = RepliesTo a command reply
 
 -- what is answered to a command that isn't early
@@ -67,12 +66,20 @@ RepliesTaken accounts c command reply = RepliesOf (account_of accounts c.user) c
 abbrev pub RepliesIn : Accounts → Client → Command → Reply → Type 0
 RepliesIn accounts c command reply = MatchBool (is_early c command) (reply ≡ early_reply) (RepliesTaken accounts c command reply)
 
+-- the session after a command about an account: whose account isn't open any more is logged out
+abbrev pub asked_client : Option Account → Client → Client
+asked_client None c = left c
+asked_client (Some a) c = c
+
 abbrev pub taken_client : Accounts → Command → Client → Client
+taken_client accounts Capability c = c
+taken_client accounts (Noop tag) c = c
 taken_client accounts Logout c = shut c
 taken_client accounts (Authenticate mechanism response) c = authenticate_client accounts mechanism response c
 taken_client accounts (Response text) c = response_client accounts text c
 taken_client accounts Unauthenticate c = left c
-taken_client accounts _ c = c
+taken_client accounts (CheckScript text) c = c
+taken_client accounts command c = asked_client (account_of accounts c.user) c
 
 -- the session after a command
 abbrev pub client_in : Accounts → Command → Client → Client

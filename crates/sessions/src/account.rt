@@ -1,9 +1,9 @@
 //! What a session reads of its user's account, and what it writes there.
-ghost use Rattle.std.specs.Prelude.{◌≡◌, ◌≢◌, ◌⊎◌, false, take, Some, OnErr, IfErr};
+ghost use Rattle.std.specs.Prelude.{◌≡◌, ◌≢◌, ◌++◌, false, take, Some, OnOk, OnErr, IfErr};
 ghost use Rattle.sqlite.specs.Held.{state};
-ghost use Rattle.mailstore.specs.declared.refusal.Refusal.TheVariants.{NoUser};
 ghost use Rattle.mailstore.specs.Promises.{Reads, WritesAccount};
 ghost use Rattle.mailstore.specs.Refusals.{IsTransient};
+ghost use Rattle.msproto.specs.Replies.{spelled};
 ghost use Rattle.saslplain.specs.Parts.{login_shown};
 ghost use Rattle.sessions.specs.Acts.{ReadsAccounts};
 ghost use Rattle.sessions.specs.Decisions.{AreScripts, Decides, change_made};
@@ -11,10 +11,12 @@ ghost use Rattle.sessions.specs.Logins.{admitted_by};
 ghost use Rattle.sessions.specs.Orders.{ActsCommand};
 ghost use Rattle.sessions.specs.Replies.{value_of};
 ghost use Rattle.sessions.specs.Sorts.{of_script};
+ghost use Rattle.sessions.specs.Table.{early_reply};
 ghost use Rattle.sessions.specs.Turns.{admitted_in, says_login};
 
 use crate::decision::{Change, Decision};
 use crate::login::{has_password, spend_rounds};
+use crate::replies::declined;
 use crate::scripts::{decide, get_script};
 use crate::sort::ScriptCommand;
 use mailstore::{Profile, Refusal, Store};
@@ -22,7 +24,7 @@ use msproto::spell;
 use octets::{Octets, Texts};
 use saslplain::{Login, Record, plain};
 use sqlite::Alter;
-use std::alloc::Global;
+use std::alloc::{AllocError, Global};
 use std::mem;
 
 /// The names of an account's scripts, in the order of their octets, and the active one.
@@ -32,30 +34,45 @@ pub(crate) struct KeptScripts {
     pub active: Option<Octets>,
 }
 
-/// Answers a command about the user's scripts: the account is read, the answer joins the output, and what the answer says is
-/// written as the last act. After a refusal the output and the store are as they were.
+/// Answers a command about the user's scripts, and tells whether the account is open: it is read, the answer joins the output,
+/// and what the answer says is written as the last act. Where it isn't open any more the user is told to log in. After a refusal
+/// the output and the store are as they were.
 pub(crate) fn execute<S: Alter>(
     alloc: Global,
     store: &mut Store<S>,
     user: &[u8],
     command: &ScriptCommand,
     out: &mut Octets,
-) -> Result<(), Refusal>
+) -> Result<bool, Refusal>
     ensures acts { ActsCommand user.now (of_script command.now) out.old out.new (state S.Store store.old) (state S.Store store.new) result }
     ensures err { OnErr result (out.new ≡ out.old) }
-    ensures named { IfErr result (λ e. (e ≡ NoUser) ⊎ IsTransient e) }
+    ensures named { IfErr result IsTransient }
 {
-    let Decision { reply, change } = decision_on(alloc, store, user, command)?;
+    let decided = decision_on(alloc, store, user, command);
+    if let Err(Refusal::NoUser) = decided {
+        turn_away(alloc, out)?;
+        return Ok(false);
+    }
+    let Decision { reply, change } = decided?;
     let before = out.len();
     spell(alloc, &reply, out)?;
     let Some(change) = change else {
-        return Ok(());
+        return Ok(true);
     };
     if let Err(refusal) = make(store, user, change) {
         shorten(alloc, out, before);
         return Err(in_a_step(refusal));
     }
-    Ok(())
+    Ok(true)
+}
+
+/// Tells a user whose account isn't open any more to log in. After an error the output is as it was.
+fn turn_away(alloc: Global, out: &mut Octets) -> Result<(), AllocError>
+    ensures told { OnOk result (out.new ≡ out.old ++ spelled early_reply) }
+    ensures err { OnErr result (out.new ≡ out.old) }
+{
+    let reply = declined(alloc, None, b"Log in first.")?;
+    spell(alloc, &reply, out)
 }
 
 /// The user whom the text logs in, if there is a text and it logs someone in. Where it says no login no store is asked, and lack
@@ -78,7 +95,8 @@ pub(crate) fn admitted<S: Alter>(
     checked(store, login)
 }
 
-/// The user of the login, if the account has the password. A name without an account takes as long as a wrong password.
+/// The user of the login, if the account is open and has the password. A name without an account, and one of a closed account,
+/// take as long as a wrong password.
 fn checked<S: Alter>(store: &mut Store<S>, login: Login) -> Result<Option<Octets>, Refusal>
     ensures { ReadsAccounts (λ who accounts. admitted_by accounts (login_shown (Some login)) ≡ who) (state S.Store store.old) (state S.Store store.new) result }
 {
@@ -86,6 +104,10 @@ fn checked<S: Alter>(store: &mut Store<S>, login: Login) -> Result<Option<Octets
         spend_rounds(&login);
         return Ok(None);
     };
+    if profile.is_closed() {
+        spend_rounds(&login);
+        return Ok(None);
+    }
     let kept = record_of(profile);
     if !has_password(&login, &kept) {
         return Ok(None);
@@ -104,9 +126,8 @@ fn record_of(profile: Profile) -> Record
     }
 }
 
-/// A refusal as a step has it: lack of memory stays, any other is `Store`. Of a user who is logged in and has no account no
-/// answer is right.
-pub(crate) fn in_a_step(refusal: Refusal) -> Refusal
+/// A refusal as a step has it: lack of memory stays, any other is `Store`. An account that was read a moment ago is there.
+fn in_a_step(refusal: Refusal) -> Refusal
     ensures named { IsTransient result }
     ensures memory { refusal ≡ Refusal.Memory → result ≡ Refusal.Memory }
     ensures store { refusal ≢ Refusal.Memory → result ≡ Refusal.Store }

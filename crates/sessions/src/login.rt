@@ -40,7 +40,7 @@ pub fn has_password(login: &Login, kept: &Record) -> bool
     accepts(kept, login.password.as_slice())
 }
 
-/// Takes as long as `has_password` does at an account's record, and looks at nothing: what a login by a name without an
+/// Takes as long as `has_password` does at an account's record, and looks at nothing: what a login by a name without an open
 /// account is given, so that the time of the answer doesn't tell which names have one. An account's salt has 16 octets.
 pub(crate) fn spend_rounds(login: &Login) {
     let salt = [0; 16];

@@ -239,8 +239,8 @@ fn agree<'a>(
     })
 }
 
-// What is wrong with a text as a script, if something is.
-fn fault_in(alloc: Global, script: &[u8]) -> Result<Option<ScriptFault>, AllocError>
+/// What is wrong with a text as a script, if something is. Lack of memory is the only error.
+pub fn fault_in(alloc: Global, script: &[u8]) -> Result<Option<ScriptFault>, AllocError>
     ensures { IfOk result (s.IsVerdict script.now) }
 {
     match check(alloc, script) {
@@ -250,8 +250,8 @@ fn fault_in(alloc: Global, script: &[u8]) -> Result<Option<ScriptFault>, AllocEr
     }
 }
 
-// Whether a script of that name may be stored beside those that are there.
-fn has_room(names: &[Octets], name: &[u8]) -> bool
+/// Whether a script of that name may be stored beside those that are there. Takes no memory.
+pub fn has_room(names: &[Octets], name: &[u8]) -> bool
     ensures { (a : Account) → AreNames names.now a → MatchBool result (s.HasRoom a name.now) (s.HasRoom a name.now → ⊥) }
 {
     has_script(names, name) || names.len() < MAX_SCRIPTS

@@ -13,7 +13,7 @@ ghost use Rattle.sessions.specs.Refusing.{WasRefused};
 ghost use Rattle.sessions.specs.Steps.{progress_of, Asked, StepsFirst, StepsFree, IfOver, IfCommand, IfAsks, IfMade, gives_command, has_command, may_lack, may_fail};
 ghost use Rattle.sessions.specs.Turns.{followed};
 
-use crate::account::{admitted, execute, in_a_step};
+use crate::account::{admitted, execute};
 use crate::free::{FreeTurn, free_turn};
 use crate::login::{MAX_FAILURES, exchange, login_text};
 use crate::progress::{First, Progress, Stepped};
@@ -254,7 +254,7 @@ impl Session {
 
     /// A step over a store: the first item is taken off and answered, as `step_free` does it, or what its command needs of
     /// the accounts is read, the answer joins the output, and what the answer says is written. Where no store is asked it
-    /// stays untouched. A user who is logged in and has no account any more gets no answer: that is refused as `Store`.
+    /// stays untouched. A user who is logged in and whose account isn't open any more is told to log in, and is logged out.
     ///
     /// Memory and Store are the only refusals, each only where it may come; the session, the output and the store are then
     /// as before. Time is linear in the octets of the item and in the names of the user's scripts, besides `check` for a
@@ -323,10 +323,8 @@ impl Session {
         requires { Asked self.old.client (Script user.now command.now) }
         ensures { StepsAsked self.old self.new out.old out.new (state S.Store store.old) (state S.Store store.new) result }
     {
-        if let Err(refusal) = execute(self.alloc, store, user.as_slice(), command, out) {
-            return Err(in_a_step(refusal));
-        }
-        self.follow(Sequel::Stay);
+        let is_open = execute(self.alloc, store, user.as_slice(), command, out)?;
+        self.follow(sequel_of(is_open));
         Ok(Progress::Done)
     }
 
@@ -448,5 +446,16 @@ impl Session {
         let mut scan = Scan::new(pending);
         scan.feed(self.unread.as_slice());
         self.scan = scan;
+    }
+}
+
+/// What becomes of a session after a command that looked at its user's account, by whether that is open.
+fn sequel_of(is_open: bool) -> Sequel
+    ensures { result ≡ cond is_open Sequel.Stay Sequel.LogOut }
+{
+    if is_open {
+        Sequel::Stay
+    } else {
+        Sequel::LogOut
     }
 }

@@ -1,9 +1,8 @@
 -- Messages that leave a folder for a sink by example: a right one, and near misses.
 use Rattle.std.proofs.Common.{◌≡◌, ℕ, List, [], ◌∷◌, ◌++◌, take, true, Some, refl, sym, ◌∙◌, ap, subst, inr, codes, get_or, arith}
-use Rattle.std.specs.FinMap.{get}
 use Rattle.mailsinks.specs.Kept.{kept_mail}
 use Rattle.mailsinks.specs.declared.kept.KeptMail.{KeptMail}
-use Rattle.mailstore.specs.Account.{Account, Accounts, with_user, messages_in, takes_mail}
+use Rattle.mailstore.specs.Account.{Account, Accounts, open_of, with_user, messages_in, takes_mail}
 use Rattle.mailstore.specs.declared.taking.NumberedMessage.{NumberedMessage}
 use Rattle.mailengine.specs.declared.answer.Answer.TheVariants.{MailTaken}
 use Rattle.mailengine.specs.AccountEvents.{TakesFirst, TakesMailIn}
@@ -33,7 +32,7 @@ kept_alone new (mail ∷ []) message is kept = (kept.0, kept.1, is ∙ ap (λ m.
 kept_alone new (mail ∷ other ∷ more) message is kept = absurd kept.4
 
 -- alice has two messages, and the first has number 7
-module _ (accounts : Accounts) (a : Account) (is : get accounts alice ≡ Some a) (mail : messages_in a.folders inbox ≡ codes "M" ∷ codes "MM" ∷ []) (told : IsFirst alice inbox (record { number = 7; message = codes "M" })) where
+module _ (accounts : Accounts) (a : Account) (is : open_of accounts alice ≡ Some a) (mail : messages_in a.folders inbox ≡ codes "M" ∷ codes "MM" ∷ []) (told : IsFirst alice inbox (record { number = 7; message = codes "M" })) where
   mail_is : mail_in accounts alice inbox ≡ codes "M" ∷ codes "MM" ∷ []
   mail_is = ap (λ o. mail_of o inbox) is ∙ mail
 

@@ -8,7 +8,7 @@ use Rattle.mailsinks.specs.declared.kept.KeptMail.{KeptMail}
 use Rattle.mailsinks.specs.declared.sink.SinkError.{SinkError}
 use Rattle.mailsinks.specs.declared.sink.SinkError.TheVariants as sink
 use Rattle.mailstore.specs.Account.{Accounts}
-use Rattle.mailstore.specs.Promises.{IsFree}
+use Rattle.mailstore.specs.Promises.{HasNoOpen}
 use Rattle.mailstore.specs.Opening.{IsKnown}
 use Rattle.mailstore.specs.Shows.{OpensAs}
 use Rattle.sievedrun.specs.declared.fault.Fault.{Fault}
@@ -37,7 +37,7 @@ module _ (user folder : List ℕ) (Grew : List (List ℕ) → Type 0) where
   drained_before most count fault accounts later transient h = (count, record { left = h.1.moved.left; kept = inl h.1.moved.kept }, h.1.at_most, inr transient)
 
 -- why it wasn't drained to its end, by what the call over the store answered
-stops : (Sunk : SinkError → Type 0) (Denied : Fault → Type 0) (user : List ℕ) (q : Result ℕ Fault) → IfErr q (λ fault. IsSudden (IsUnkept Sunk) fault ⊎ (fault ≡ no_user)) → (accounts : Accounts) → (q ≡ Err no_user → IsFree user accounts)
+stops : (Sunk : SinkError → Type 0) (Denied : Fault → Type 0) (user : List ℕ) (q : Result ℕ Fault) → IfErr q (λ fault. IsSudden (IsUnkept Sunk) fault ⊎ (fault ≡ no_user)) → (accounts : Accounts) → (q ≡ Err no_user → HasNoOpen user accounts)
     → IfErr q (λ fault. StopsDraining Sunk ⊥ Denied user fault accounts)
 stops Sunk Denied user (Ok count) named accounts free = tt
 stops Sunk Denied user (Err fault) named accounts free = elim named [
@@ -51,7 +51,7 @@ pub drained_turned : (Sunk : SinkError → Type 0) (Denied : Fault → Type 0) (
     → Drains user folder tells had has most q taken given → MovesTables Sunk Denied asked tells had has most r held new
 drained_turned Sunk Denied asked user folder user_is folder_is tells had has most q r same named held new taken given opens ours clean live back moves =
     let Grew = GrowsBy user folder tells had has in
-    let Became : Accounts → Accounts → Type 0 = λ accounts later. Drained user folder Grew most q accounts later × (q ≡ Err no_user → IsFree user accounts) in
+    let Became : Accounts → Accounts → Type 0 = λ accounts later. Drained user folder Grew most q accounts later × (q ≡ Err no_user → HasNoOpen user accounts) in
     let Wider : List ℕ → List ℕ → Result ℕ Fault → Accounts → Accounts → Type 0 = λ u f o accounts later. Drained u f (GrowsBy u f tells had has) most o accounts later × IfErr o (λ fault. StopsDraining Sunk ⊥ Denied u fault accounts) in
     let turned = turned_wider Became (Wider user folder q) held new (λ accounts later h. (h.0, stops Sunk Denied user q named accounts h.1)) (moves_turned user folder Grew (is_ok q) Became held new taken given opens ours clean live back moves) in
     subst (λ o. TurnsTables (Wider asked.user.now asked.folder.now o) held new) same

@@ -10,7 +10,8 @@ use Rattle.mailsinks.specs.Kept.{kept_mail, MayKeep}
 use Rattle.mailsinks.specs.declared.kept.KeptMail.{KeptMail}
 use Rattle.mailstore.specs.declared.refusal.Refusal.{Refusal}
 use Rattle.mailstore.specs.declared.taking.NumberedMessage.{NumberedMessage}
-use Rattle.mailstore.specs.Account.{Account, Accounts, with_user, messages_in, takes_mail}
+use Rattle.mailstore.specs.Account.{Account, Accounts, is_closed, open_one, open_of, with_user, messages_in, takes_mail}
+use Rattle.mailstore.proofs.StandingLemmas.{open_there}
 use Rattle.mailstore.proofs.TakingLemmas.{held_get, unless_none}
 use Rattle.mailengine.specs.declared.event.Event.TheVariants.{TakeMail}
 use Rattle.mailengine.specs.declared.answer.Answer.{Answer}
@@ -34,11 +35,18 @@ module _ (user folder : List ℕ) where
       whole [] = refl
       whole (x ∷ xs) = refl
 
-  mail_left : (accounts : Accounts) (a : Account) → get accounts user ≡ Some a → mail_in (with_user accounts user (takes_mail folder 1)) user folder ≡ drop 1 (messages_in a.folders folder)
-  mail_left accounts a has =
-      ap (λ o. mail_of o folder) (changed_own accounts user (takes_mail folder 1) (bytes_eq_refl user) ∙ ap (option_map (takes_mail folder 1)) has) ∙ left_of a
+  -- and it is open still
+  still_open : (a : Account) (closed : Bool) → cond closed None (Some a) ≡ Some a → mail_of (cond closed None (Some (takes_mail folder 1 a))) folder ≡ messages_in (takes_mail folder 1 a).folders folder
+  still_open a true is = absurd (let no = is in cc)
+  still_open a false is = refl
 
-  mail_is : (accounts : Accounts) (a : Account) → get accounts user ≡ Some a → mail_in accounts user folder ≡ messages_in a.folders folder
+  mail_left : (accounts : Accounts) (a : Account) → open_of accounts user ≡ Some a → mail_in (with_user accounts user (takes_mail folder 1)) user folder ≡ drop 1 (messages_in a.folders folder)
+  mail_left accounts a has =
+      let there = open_there (get accounts user) a has in
+      ap (λ o. mail_of (open_one o) folder) (changed_own accounts user (takes_mail folder 1) (bytes_eq_refl user) ∙ ap (option_map (takes_mail folder 1)) there)
+      ∙ (still_open a (is_closed a) (sym (ap open_one there) ∙ has) ∙ left_of a)
+
+  mail_is : (accounts : Accounts) (a : Account) → open_of accounts user ≡ Some a → mail_in accounts user folder ≡ messages_in a.folders folder
   mail_is accounts a has = ap (λ o. mail_of o folder) has
 
   not_refused : {P : Type 0} (r : Refusal) → MailTaken ≡ Refused r → P
@@ -46,22 +54,22 @@ module _ (user folder : List ℕ) where
 
   -- a message that was taken was the folder's first
   pub taken_first : (accounts later : Accounts) → MailTaking accounts user folder MailTaken later → (message : List ℕ) × (mail_in accounts user folder ≡ message ∷ mail_in later user folder)
-  taken_first accounts later taking = go (get accounts user) refl taking
+  taken_first accounts later taking = go (open_of accounts user) refl taking
     where
-      by : (a : Account) (messages : List (List ℕ)) → get accounts user ≡ Some a → messages_in a.folders folder ≡ messages → TakesFirst accounts user folder messages MailTaken later
+      by : (a : Account) (messages : List (List ℕ)) → open_of accounts user ≡ Some a → messages_in a.folders folder ≡ messages → TakesFirst accounts user folder messages MailTaken later
           → (message : List ℕ) × (mail_in accounts user folder ≡ message ∷ mail_in later user folder)
       by a [] has is t = not_refused _ t.refused
       by a (message ∷ more) has is t =
           let rest : mail_in later user folder ≡ more = ap (λ all. mail_in all user folder) t.changed ∙ (mail_left accounts a has ∙ ap (drop 1) is) in
           (message, mail_is accounts a has ∙ (is ∙ ap (λ l. message ∷ l) (sym rest)))
 
-      go : (o : Option Account) → get accounts user ≡ o → TakesMailIn accounts user folder o MailTaken later → (message : List ℕ) × (mail_in accounts user folder ≡ message ∷ mail_in later user folder)
+      go : (o : Option Account) → open_of accounts user ≡ o → TakesMailIn accounts user folder o MailTaken later → (message : List ℕ) × (mail_in accounts user folder ≡ message ∷ mail_in later user folder)
       go None has t = not_refused _ t.refused
       go (Some a) has t = by a (messages_in a.folders folder) has refl t
 
   -- of a folder that has a message the event takes it
   pub has_first : (accounts later : Accounts) (answer : Answer) (message : List ℕ) (more : List (List ℕ)) → mail_in accounts user folder ≡ message ∷ more → MailTaking accounts user folder answer later → answer ≡ MailTaken
-  has_first accounts later answer message more has taking = go (get accounts user) has taking
+  has_first accounts later answer message more has taking = go (open_of accounts user) has taking
     where
       by : (messages : List (List ℕ)) → messages ≡ message ∷ more → TakesFirst accounts user folder messages answer later → answer ≡ MailTaken
       by [] is t = absurd (let no = is in cc)

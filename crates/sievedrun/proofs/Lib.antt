@@ -12,3 +12,4 @@ mod StreamExamples
 mod RunLemmas
 pub mod StreamLemmas
 pub mod Examples
+mod UpkeepLemmas

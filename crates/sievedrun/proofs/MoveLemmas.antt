@@ -9,12 +9,13 @@ use Rattle.sqlite.proofs.StateLemmas.{survives_then, survives_weaker}
 use Rattle.mailsinks.specs.Kept.{kept_mail, MayKeep}
 use Rattle.mailsinks.specs.declared.kept.KeptMail.{KeptMail}
 use Rattle.mailstore.specs.declared.refusal.Refusal.{Refusal}
+use Rattle.mailstore.specs.declared.refusal.Refusal.TheVariants.{NoUser}
 use Rattle.mailstore.specs.declared.profile.Profile.{Profile}
 use Rattle.mailstore.specs.declared.taking.NumberedMessage.{NumberedMessage}
-use Rattle.mailstore.specs.Account.{Account, Accounts, with_user, messages_in, takes_mail}
+use Rattle.mailstore.specs.Account.{Account, Accounts, open_of, with_user, messages_in, takes_mail}
 use Rattle.mailstore.specs.AccountRows.{profile_of}
 use Rattle.mailstore.specs.CopyRows.{HasFirst}
-use Rattle.mailstore.specs.Promises.{HasOurTables, HasUser, IsFree, OfUser, Keeps, CrashLeavesAccounts, Reads, ReadsOwn, ReadsProfile, WritesAccount}
+use Rattle.mailstore.specs.Promises.{HasOurTables, HasUser, HasOpen, HasNoOpen, OfOpen, Keeps, CrashLeavesAccounts, Reads, ReadsOwn, WritesAccount}
 use Rattle.mailstore.specs.Refusals.{IsTransient}
 use Rattle.mailstore.specs.Shows.{IsFirstOf, rows_of}
 use Rattle.mailtables.proofs.WriteLemmas.{clean_before}
@@ -24,6 +25,7 @@ use Rattle.mailengine.specs.declared.answer.Answer.TheVariants.{MailTaken, Refus
 use Rattle.mailengine.specs.AccountEvents.{MailTaking}
 use Rattle.mailengine.specs.Hosts.{TurnsBy, MayTurnBy, ActsMailTaking, answer_by}
 use Rattle.sievedrun.specs.declared.fault.Fault.{Fault}
+use Rattle.sievedrun.specs.declared.fault.Fault.TheVariants as fault
 use Rattle.sievedrun.specs.Faults.{no_user, status_of}
 use Rattle.sievedrun.specs.Draining.{mail_of, mail_in, IsFirst, GrowsBy, Moved, StoppedShort, LostNone, MovesMail, FirstMoved, AllMoved, AnyMoved, Drained}
 use Rattle.sievedrun.specs.Promise.{world_of}
@@ -55,7 +57,7 @@ module _ (user folder : List ℕ) (tells : Bool) (had has : List KeptMail) where
   some_first [] first is = absurd (let no = is in cc)
   some_first (message ∷ more) first is = let same : first.message ≡ message = cc in ap (λ m. m ∷ more) (sym same)
 
-  own_mail : (accounts : Accounts) (a : Account) → get accounts user ≡ Some a → mail_in accounts user folder ≡ messages_in a.folders folder
+  own_mail : (accounts : Accounts) (a : Account) → open_of accounts user ≡ Some a → mail_in accounts user folder ≡ messages_in a.folders folder
   own_mail accounts a is = ap (λ o. mail_of o folder) is
 
   -- nothing was found to move, or it couldn't be read, and nothing was kept
@@ -63,9 +65,9 @@ module _ (user folder : List ℕ) (tells : Bool) (had has : List KeptMail) where
   not_read a b r fault reads same = read_alone a b r false (FirstMoved user folder Grew (Err fault)) reads.keeps (λ told. absurd (false≢true told)) (λ clean accounts shown. record { left = refl; kept = inl same })
 
   module _ (a b : State) (r : Result (Option NumberedMessage) Refusal) (first : Option NumberedMessage) (was : r ≡ Ok first) (reads : Reads user First a b r) where
-    found : HasCleanDisk b → (accounts : Accounts) → HasAccounts a accounts → OfUser accounts user (First first)
+    found : HasCleanDisk b → (accounts : Accounts) → HasAccounts a accounts → OfOpen accounts user (First first)
     found clean accounts shown =
-        subst (λ q. IfOk q (λ x. OfUser accounts user (First x))) was (reads.found clean accounts (read_shows a b r first was reads.keeps clean accounts shown).0)
+        subst (λ q. IfOk q (λ x. OfOpen accounts user (First x))) was (reads.found clean accounts (read_shows a b r first was reads.keeps clean accounts shown).0)
 
     pub none_read : first ≡ None → Grew [] → MovesMail user folder Grew true (FirstMoved user folder Grew (Ok false)) a b
     none_read is same = read_alone a b r true (FirstMoved user folder Grew (Ok false)) reads.keeps (λ told clean. subst (λ q. OnOk q (IsTrue b.is_open)) was (reads.keeps.live clean))
@@ -316,42 +318,35 @@ transient_user fault transient q was is =
     differ : (x y : ℕ) → x ≡ 67 → y ≡ 75 → x ≡ y → ⊥
     differ x y one two e = absurd (omega arith)
 
-module _ (user folder : List ℕ) (tells : Bool) (had has : List KeptMail) (most : ℕ) (a b : State) (r : Result (Option Profile) Refusal) (reads : ReadsProfile user a b r) where
+module _ (user folder : List ℕ) (tells : Bool) (had has : List KeptMail) (most : ℕ) (a b : State) (r : Result Profile Refusal) (reads : Reads user (λ p account. p ≡ profile_of account) a b r) where
   abbrev Grown : List (List ℕ) → Type 0
   Grown = GrowsBy user folder tells had has
 
   abbrev Ended : Result ℕ Fault → Accounts → Accounts → Type 0
-  Ended q accounts later = Drained user folder Grown most q accounts later × (q ≡ Err no_user → IsFree user accounts)
+  Ended q accounts later = Drained user folder Grown most q accounts later × (q ≡ Err no_user → HasNoOpen user accounts)
 
-  profile_read : (o : Option Profile) → r ≡ Ok o → HasCleanDisk b → (accounts : Accounts) → HasAccounts a accounts → o ≡ option_map profile_of (get accounts user)
-  profile_read o was clean accounts shown =
-      subst (λ q. IfOk q (λ p. p ≡ option_map profile_of (get accounts user))) was (reads.found clean accounts (read_shows a b r o was reads.keeps clean accounts shown).0)
+  -- there is no open account, or it can't be read now
+  pub not_entered : (e : Refusal) → r ≡ Err e → Grown [] → MovesMail user folder Grown false (Ended (Err (fault.Refused e))) a b
+  not_entered e was same = read_alone user folder tells had has a b r false (Ended (Err (fault.Refused e))) reads.keeps (λ told. absurd (false≢true told))
+      (λ clean accounts shown. ((0, record { left = refl; kept = inl same }, omega arith, inl (refl, same)), λ is. none clean accounts shown (let absent : e ≡ NoUser = cc in absent)))
+    where
+      none : HasCleanDisk b → (accounts : Accounts) → HasAccounts a accounts → e ≡ NoUser → HasNoOpen user accounts
+      none clean accounts shown absent =
+          let live = subst (λ q. IfErr q (λ f. f ≡ NoUser → IsTrue b.is_open)) was (reads.sure clean) absent in
+          subst (λ q. IfErr q (λ f. f ≡ NoUser → HasNoOpen user accounts)) was (reads.absent clean accounts (shown (reads.keeps.shut clean live))) absent
 
-  none_is_free : (o : Option Account) → None ≡ option_map profile_of o → o ≡ None
-  none_is_free None is = refl
-  none_is_free (Some a) is = absurd (let no = is in cc)
-
-  some_is_there : (o : Option Account) (p : Profile) → Some p ≡ option_map profile_of o → IsSome o
-  some_is_there None p is = absurd (let no = is in cc)
-  some_is_there (Some a) p is = refl
-
-  pub no_account : r ≡ Ok None → Grown [] → MovesMail user folder Grown false (Ended (Err no_user)) a b
-  no_account was same = read_alone user folder tells had has a b r false (Ended (Err no_user)) reads.keeps (λ told. absurd (false≢true told))
-      (λ clean accounts shown. ((0, record { left = refl; kept = inl same }, omega arith, inl (refl, same)), λ _. none_is_free (get accounts user) (profile_read None was clean accounts shown)))
-
-  -- the account can't be read now
-  pub not_looked : (fault : Fault) → status_of fault ≡ 75 → Grown [] → MovesMail user folder Grown false (Ended (Err fault)) a b
-  not_looked fault transient same = read_alone user folder tells had has a b r false (Ended (Err fault)) reads.keeps (λ told. absurd (false≢true told))
-      (λ clean accounts shown. ((0, record { left = refl; kept = inl same }, omega arith, inl (refl, same)), λ is. absurd (transient_user fault transient (Err fault) refl is)))
-
-  -- the account is there, and messages were moved
-  module _ (c : State) (p : Profile) (was : r ≡ Ok (Some p)) (q : Result ℕ Fault) (transient : IfErr q (λ fault. status_of fault ≡ 75)) where
+  -- the account is open, and messages were moved
+  module _ (c : State) (p : Profile) (was : r ≡ Ok p) (q : Result ℕ Fault) (transient : IfErr q (λ fault. status_of fault ≡ 75)) where
     abbrev Looked : Accounts → Accounts → Type 0
-    Looked accounts between = Moved user folder (GrowsBy user folder tells had had) 0 accounts between × HasUser user accounts
+    Looked accounts between = Moved user folder (GrowsBy user folder tells had had) 0 accounts between × HasOpen user accounts
+
+    entered : HasCleanDisk b → (accounts : Accounts) → HasAccounts a accounts → OfOpen accounts user (λ account. p ≡ profile_of account)
+    entered clean accounts shown =
+        subst (λ o. IfOk o (λ x. OfOpen accounts user (λ account. x ≡ profile_of account))) was (reads.found clean accounts (read_shows a b r p was reads.keeps clean accounts shown).0)
 
     looked : MovesMail user folder (GrowsBy user folder tells had had) true Looked a b
     looked = read_alone user folder tells had had a b r true Looked reads.keeps (λ told clean. subst (λ o. OnOk o (IsTrue b.is_open)) was (reads.keeps.live clean))
-        (λ clean accounts shown. (record { left = refl; kept = grown_none user folder tells had }, some_is_there (get accounts user) p (profile_read (Some p) was clean accounts shown)))
+        (λ clean accounts shown. (record { left = refl; kept = grown_none user folder tells had }, subst IsSome (sym (entered clean accounts shown).1) refl))
 
     grew_any : (q : Result ℕ Fault) (between later : Accounts) → AnyMoved user folder Grown most q between later → (more : List (List ℕ)) × Grown more
     grew_any (Ok count) between later h = (take count (mail_in between user folder), h.moved.kept)

@@ -1,5 +1,5 @@
 -- What words do, by example: right ones, and near misses.
-use Rattle.std.proofs.Common.{◌≡◌, ◌==◌, ◌<◌, ℕ, suc, cond, true, List, [], ◌∷◌, Option, Some, None, Err, refl, sym, ◌∙◌, ap, subst, inl, inr, codes, get_or, arith}
+use Rattle.std.proofs.Common.{◌≡◌, ◌==◌, ◌<◌, ℕ, suc, cond, true, List, [], ◌∷◌, Option, Some, None, Ok, Err, refl, sym, ◌∙◌, ap, subst, inl, inr, codes, get_or, arith}
 use Prim.Native.Nat.{zero}
 use Rattle.hex.specs.Hex.{decode_pairs}
 use Rattle.octets.specs.Ascii.{is_digit}
@@ -7,19 +7,20 @@ use Rattle.octets.specs.Decimal.{Writes}
 use Rattle.maildirs.specs.declared.separator.Separator.TheVariants.{Dot, Slash}
 use Rattle.mailsinks.specs.declared.sink.SinkError.{SinkError}
 use Rattle.mailstore.specs.Account.{Account, Accounts, row_with}
-use Rattle.mailstore.specs.Promises.{IsFree}
+use Rattle.mailstore.specs.Promises.{HasNoOpen}
 use Rattle.mailstore.specs.declared.queue.Outgoing.{Outgoing}
 use Rattle.mailstore.specs.declared.refusal.Refusal.{Refusal}
 use Rattle.mailstore.specs.declared.refusal.Refusal.TheVariants.{Memory}
 use Rattle.mailengine.specs.declared.answer.Answer.TheVariants as answer
-use Rattle.mailengine.specs.declared.event.Event.TheVariants.{Deliver, AddUser, TakeOut}
+use Rattle.mailengine.specs.declared.event.Event.TheVariants.{Deliver, AddUser, TakeOut, Keep}
+use Rattle.mailengine.specs.declared.upkeep.Upkeep.TheVariants.{SetPassword, SetAddress}
 use Rattle.sievedrun.specs.declared.fault.Fault.TheVariants.{Refused, Stream, NoMessage, NoMaildir, Busy}
 use Rattle.sievedrun.specs.Draining.{IsUnkept, StopsDraining}
 use Rattle.sievedrun.specs.Faults.{memory, no_user, store_failed, cause_of, told_of, troubles, IsHindered}
 use Rattle.sievedrun.specs.Streams.{IsWritten, WriteFailed}
 use Rattle.sievedrun.specs.declared.fault.Fault.{Fault}
-use Rattle.sievedrun.specs.Values.{WritesSalt, IsMoment, IsSeparator, envelope_with}
-use Rattle.sievedrun.specs.Words.{Adds, DeniedAtEnd, Posts, Dequeues, Tells, HasMessage, ShowsOutgoing}
+use Rattle.sievedrun.specs.Values.{WritesSalt, IsSalt, IsMoment, IsSeparator, envelope_with}
+use Rattle.sievedrun.specs.Words.{Adds, Guards, IsDoneBy, said_of, DeniedAtEnd, Posts, Dequeues, Tells, HasMessage, ShowsOutgoing}
 
 -- ---- values
 
@@ -78,11 +79,37 @@ abbrev home : List ℕ
 home = codes "alice@example.com"
 
 -- the account of these words, with the first line of what was read
-added : Adds digits alice home (Some (codes "secret\nmore")) (AddUser alice home salt (codes "secret"))
-added = record { octets = codes "secret\nmore"; read = refl; random = salt; salted = salt-written; same = refl }
+added : Adds (Some digits) None alice home (Some (codes "secret\nmore")) (AddUser alice home salt (codes "secret"))
+added = record { octets = codes "secret\nmore"; read = refl; salt = salt; salted = salt-written; same = refl }
+
+-- without a salt in the words it is the system's
+added-random : Adds None (Some salt) alice home (Some (codes "secret\nmore")) (AddUser alice home salt (codes "secret"))
+added-random = record { octets = codes "secret\nmore"; read = refl; salt = salt; salted = refl; same = refl }
+
+-- near misses: the system's in place of the words'; none at all
+salt-ignored : (other : List ℕ) → IsSalt (Some (codes "5")) (Some other) other → ⊥
+salt-ignored other h = cc
+
+salt-none : (other : List ℕ) → IsSalt None None other → ⊥
+salt-none other h = cc
+
+guarded : Guards None (Some salt) alice (Some (codes "secret\nmore")) (Keep alice (SetPassword salt (codes "secret")))
+guarded = record { octets = codes "secret\nmore"; read = refl; salt = salt; salted = refl; same = refl }
+
+-- near misses: another user's; all that was read
+guarded-other : Guards None (Some salt) alice (Some (codes "secret")) (Keep home (SetPassword salt (codes "secret"))) → ⊥
+guarded-other h = let e = h.same in cc
+
+-- what is done to an account is told as done
+changed-told : Tells (Keep alice (SetAddress home)) answer.Changed (codes "changed alice\n")
+changed-told = refl
+
+-- near miss: a refusal of the machine
+refused-done : IsDoneBy (answer.Refused Memory) (Ok tt) → ⊥
+refused-done h = cc
 
 -- near miss: name and address swapped
-added-swapped : (password : List ℕ) → Adds digits alice home (Some (codes "secret\nmore")) (AddUser home alice salt password) → ⊥
+added-swapped : (password : List ℕ) → Adds (Some digits) None alice home (Some (codes "secret\nmore")) (AddUser home alice salt password) → ⊥
 added-swapped password h = let e = h.same in cc
 
 posted : (clock : Option ℕ) → Posts [] home (Some (codes "5")) alice clock (Some (codes "M")) (Deliver alice (envelope_with [] home) (codes "M") 5)
@@ -147,7 +174,7 @@ abbrev busily : Fault → Type 0
 busily fault = fault ≡ Busy
 
 -- an unknown user is told as one, and near miss: as something else that is absent
-stops-told : (accounts : Accounts) → IsFree alice accounts → StopsDraining unsunk ⊥ nobody alice no_user accounts
+stops-told : (accounts : Accounts) → HasNoOpen alice accounts → StopsDraining unsunk ⊥ nobody alice no_user accounts
 stops-told accounts free = inr (inr (refl, free, λ no. no))
 
 not_hindered : (fault : Fault) → (fault ≡ memory → ⊥) → (fault ≡ store_failed → ⊥) → IsHindered (IsUnkept unsunk) ⊥ nobody fault → ⊥

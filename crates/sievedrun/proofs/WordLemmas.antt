@@ -1,21 +1,21 @@
 -- What a word does, from what its steps do.
 use Prim.Native.Nat.{zero}
-use Rattle.std.proofs.Common.{◌≡◌, ◌⊎◌, ℕ, suc, List, Option, Some, None, Result, Ok, Err, IfOk, IfErr, IsTrue, codes, slice_get, refl, sym, ◌∙◌, ap, subst, inl, inr}
+use Rattle.std.proofs.Common.{◌≡◌, ◌⊎◌, ℕ, suc, List, Option, Some, None, Result, Ok, Err, Bool, true, false, MatchBool, IfOk, IfErr, IsTrue, codes, slice_get, refl, sym, ◌∙◌, ap, subst, inl, inr}
 use Rattle.std.specs.FinMap.{get}
 use Rattle.std.specs.Io.KnownBytes as output
 use Rattle.std.specs.Io.KnownBytes.{IsAtEnd}
 use Rattle.sqlite_schema.specs.declared.schema.Schema.{Schema}
 use Rattle.sqlite.specs.Effect.{Database}
 use Rattle.sqlite.specs.State.{State, HasCleanDisk}
-use Rattle.mailstore.specs.Account.{Account, Accounts, no_accounts, messages_in, row_with}
+use Rattle.mailstore.specs.Account.{Account, Accounts, is_closed, open_of, has_mail, no_accounts, messages_in, row_with}
 use Rattle.mailstore.specs.Schema.{no_schema, IsOurSchema}
 use Rattle.mailstore.specs.OldSchema.{IsOldSchema}
 use Rattle.mailstore.specs.Opening.{IsKnown}
 use Rattle.mailstore.specs.Shows.{Presents, Offers, OpensAs}
-use Rattle.mailstore.specs.Promises.{IsFree, OfUser, Keeps, Reads}
+use Rattle.mailstore.specs.Promises.{HasNoOpen, OfOpen, Keeps, Reads}
 use Rattle.mailstore.specs.Refusals.{IsTransient}
 use Rattle.mailstore.specs.declared.refusal.Refusal.{Refusal}
-use Rattle.mailstore.specs.declared.refusal.Refusal.TheVariants.{NoUser}
+use Rattle.mailstore.specs.declared.refusal.Refusal.TheVariants.{NoUser, UserExists, UserHasMail}
 use Rattle.mailstore.specs.declared.queue.Outgoing.{Outgoing}
 use Rattle.mailstore.specs.declared.report.Report.{Report}
 use Rattle.sessions.specs.Acts.{Carries}
@@ -24,7 +24,7 @@ use Rattle.mailengine.specs.declared.event.Event.{Event}
 use Rattle.mailengine.specs.declared.event.Event.TheVariants.{Deliver, AddUser, TakeOut}
 use Rattle.mailengine.specs.declared.answer.Answer.{Answer}
 use Rattle.mailengine.specs.declared.answer.Answer.TheVariants as answer
-use Rattle.mailengine.specs.AccountEvents.{Delivery, DeliversIn, DeliversUnder, Addition, AddsUnder, Taking, TakesIn, TakesRow}
+use Rattle.mailengine.specs.AccountEvents.{Refuses, Renews, Delivery, DeliversIn, DeliversUnder, Addition, AddsUnder, Taking, TakesIn, TakesRow}
 use Rattle.mailengine.specs.Limits.{limit_refusal}
 use Rattle.mailengine.specs.Hosts.{TurnsBy, MayRefuseDelivery, MayRefuseAddition}
 use Rattle.mailengine.specs.World.{Happens, MayRefuse, Next}
@@ -152,7 +152,7 @@ module _ (held new : Database) (taken given : State) (opened : OpensAs held take
 
   -- it was read
   pub read_turned : {X : Type 0} (Denied : Fault → Type 0) (user : List ℕ) (Part : X → Account → Type 0) (q : Result X Refusal) → Reads user Part taken given q → (r : Result X Fault)
-      → ((accounts : Accounts) → IfOk q (λ x. OfUser accounts user (Part x)) → IfErr q (λ e. e ≡ NoUser → IsFree user accounts) → FindsIn Denied user Part r accounts)
+      → ((accounts : Accounts) → IfOk q (λ x. OfOpen accounts user (Part x)) → IfErr q (λ e. e ≡ NoUser → HasNoOpen user accounts) → FindsIn Denied user Part r accounts)
       → TurnsTables (λ accounts later. (later ≡ accounts) × FindsIn Denied user Part r accounts) held new
   read_turned Denied user Part q reads r finds = record {
     accounts = λ accounts p.
@@ -174,21 +174,26 @@ delivers_kept user message envelope moment accounts later refusal = under (limit
 
     under : (limit : Option Refusal) → DeliversUnder limit accounts user moment envelope message (answer.Refused refusal) later → later ≡ accounts
     under (Some e) h = h.stays
-    under None h = by (get accounts user) h
+    under None h = by (open_of accounts user) h
 
 adds_kept : (name address salt password : List ℕ) (accounts later : Accounts) (refusal : Refusal) → Addition accounts name address salt password (answer.Refused refusal) later → later ≡ accounts
 adds_kept name address salt password accounts later refusal = go
   where
+    over : (closed full : Bool) → MatchBool closed (MatchBool full (Refuses UserHasMail accounts (answer.Refused refusal) later) (Renews accounts name address salt password (answer.Refused refusal) later)) (Refuses UserExists accounts (answer.Refused refusal) later) → later ≡ accounts
+    over true true h = h.stays
+    over true false h = absurd (let no = h.added in cc)
+    over false full h = h.stays
+
     by : (o : Option Account) → AddsUnder accounts name address salt password o (answer.Refused refusal) later → later ≡ accounts
     by None h = absurd (let no = h.added in cc)
-    by (Some a) h = h.stays
+    by (Some a) h = over (is_closed a) (has_mail a) h
 
     go : Addition accounts name address salt password (answer.Refused refusal) later → later ≡ accounts
     go (inl h) = by (get accounts name) h.1
     go (inr h) = h.1.stays
 
 takes_kept : (user : List ℕ) (id : ℕ) (accounts later : Accounts) (refusal : Refusal) → Taking accounts user id (answer.Refused refusal) later → later ≡ accounts
-takes_kept user id accounts later refusal = by (get accounts user)
+takes_kept user id accounts later refusal = by (open_of accounts user)
   where
     row : (o : Option Outgoing) → TakesRow accounts user o (answer.Refused refusal) later → later ≡ accounts
     row None h = h.stays
@@ -201,7 +206,7 @@ takes_kept user id accounts later refusal = by (get accounts user)
 -- the accounts turned by the event's row
 module _ (event : Event) (Row : Accounts → Answer → Accounts → Type 0) (May : Refusal → Type 0) (rows : (accounts later : Accounts) (said : Answer) → Row accounts said later → Happens (world_of accounts) event said (world_of later))
     (refuses : (accounts : Accounts) (refusal : Refusal) → May refusal → MayRefuse (world_of accounts) event refusal) (kept : (accounts later : Accounts) (refusal : Refusal) → Row accounts (answer.Refused refusal) later → later ≡ accounts) where
-  next_by : (said : Answer) (accounts later : Accounts) → TurnsBy Row May said accounts later → Next (world_of accounts) event said (world_of later)
+  pub next_by : (said : Answer) (accounts later : Accounts) → TurnsBy Row May said accounts later → Next (world_of accounts) event said (world_of later)
   next_by said accounts later (inl row) = inl (rows accounts later said row)
   next_by said accounts later (inr h) = inr (record { refusal = h.0; may = refuses accounts h.0 h.1; refused = h.2; stays = ap world_of h.3 })
 
@@ -213,7 +218,7 @@ module _ (event : Event) (Row : Accounts → Answer → Accounts → Type 0) (Ma
   put_by : {X : Type 0} (Denied : Fault → Type 0) (told : X → Answer) (x : X) (accounts later : Accounts) → TurnsBy Row May (told x) accounts later → Puts Denied event told (Ok x) accounts later
   put_by Denied told x accounts later turned = next_by (told x) accounts later turned
 
-  refused_by : {X : Type 0} (Denied : Fault → Type 0) (told : X → Answer) (refusal : Refusal) (accounts later : Accounts) → TurnsBy Row May (answer.Refused refusal) accounts later → Puts Denied event told (Err (Refused refusal)) accounts later
+  pub refused_by : {X : Type 0} (Denied : Fault → Type 0) (told : X → Answer) (refusal : Refusal) (accounts later : Accounts) → TurnsBy Row May (answer.Refused refusal) accounts later → Puts Denied event told (Err (Refused refusal)) accounts later
   refused_by Denied told refusal accounts later turned =
       let same = stays_by refusal accounts later turned in (
         same,
@@ -350,6 +355,7 @@ reads_so user P Q old new q x y r is told to reads =
     subst (Reads user Q old new) (sym told) (record {
       found = λ clean accounts p. let f = h.found clean accounts p in (f.0, f.1, to f.0 f.2);
       absent = λ clean accounts p. tt;
+      sure = λ clean. tt;
       keeps = keeps_as old new x y h.keeps;
       named = tt;
     })
@@ -359,7 +365,7 @@ pub reads_not : {X Y : Type 0} (user : List ℕ) (P : X → Account → Type 0) 
     → Reads user P old new q → Reads user Q old new r
 reads_not {X} {Y} user P Q old new q e r is told reads =
     let h = subst (Reads user P old new) is reads in
-    subst (Reads user Q old new) (sym told) (record { found = λ clean accounts p. tt; absent = h.absent; keeps = not_kept {X = X} {Y = Y} old new e h.keeps; named = h.named })
+    subst (Reads user Q old new) (sym told) (record { found = λ clean accounts p. tt; absent = h.absent; sure = h.sure; keeps = not_kept {X = X} {Y = Y} old new e h.keeps; named = h.named })
 
 reads_wider : {X : Type 0} (user : List ℕ) (P Q : X → Account → Type 0) (old new : State) (r : Result X Refusal) → ((x : X) (a : Account) → P x a → Q x a) → Reads user P old new r → Reads user Q old new r
 reads_wider user P Q old new (Ok x) to reads = reads_so user P Q old new (Ok x) x x (Ok x) refl refl (to x) reads
@@ -389,14 +395,14 @@ find_denied Denied user Part fault r is why held new same =
 
 -- what was found, by the read's result
 pub found_ok : {X : Type 0} (Denied : Fault → Type 0) (user : List ℕ) (Part : X → Account → Type 0) (q : Result X Refusal) (x : X) (r : Result X Fault) → q ≡ Ok x → r ≡ Ok x → (accounts : Accounts)
-    → IfOk q (λ y. OfUser accounts user (Part y)) → FindsIn Denied user Part r accounts
+    → IfOk q (λ y. OfOpen accounts user (Part y)) → FindsIn Denied user Part r accounts
 found_ok Denied user Part q x r is told accounts found =
-    subst (λ o. FindsIn Denied user Part o accounts) (sym told) (subst (λ o. IfOk o (λ y. OfUser accounts user (Part y))) is found)
+    subst (λ o. FindsIn Denied user Part o accounts) (sym told) (subst (λ o. IfOk o (λ y. OfOpen accounts user (Part y))) is found)
 
 pub found_none : {X : Type 0} (Denied : Fault → Type 0) (user : List ℕ) (Part : X → Account → Type 0) (q : Result X Refusal) (e : Refusal) (r : Result X Fault) → q ≡ Err e → r ≡ Err (Refused e) → (e ≡ NoUser) ⊎ IsTransient e → (accounts : Accounts)
-    → IfErr q (λ y. y ≡ NoUser → IsFree user accounts) → FindsIn Denied user Part r accounts
+    → IfErr q (λ y. y ≡ NoUser → HasNoOpen user accounts) → FindsIn Denied user Part r accounts
 found_none Denied user Part q e r is told named accounts absent =
-    let free : e ≡ NoUser → IsFree user accounts = subst (λ o. IfErr o (λ y. y ≡ NoUser → IsFree user accounts)) is absent in
+    let free : e ≡ NoUser → HasNoOpen user accounts = subst (λ o. IfErr o (λ y. y ≡ NoUser → HasNoOpen user accounts)) is absent in
     subst (λ o. FindsIn Denied user Part o accounts) (sym told) (elim named [
       | inl none ↦ inr (ap Refused none, free none)
       | inr transient ↦ inl (transient_hinders ⊥ ⊥ Denied e transient)

@@ -1,12 +1,11 @@
 -- Messages that go from a folder into a sink.
 use Rattle.std.specs.Prelude.{◌≡◌, ◌⊎◌, ℕ, suc, ◌<◌, ◌≤◌, Bool, true, false, List, [], ◌∷◌, ◌++◌, codes, decimal, take, replicate, Option, Some, None, Result, Ok, Err, is_ok, IfErr, IsTrue, option_copied}
 use Rattle.std.specs.Io.KnownBytes.{Keeps}
-use Rattle.std.specs.FinMap.{get}
 use Rattle.octets.specs.Decimal.{Writes}
 use Rattle.sqlite.specs.Effect.{Database}
 use Rattle.sqlite.specs.State.{State, HasCleanDisk, Survives}
-use Rattle.mailstore.specs.Account.{Account, Accounts, messages_in}
-use Rattle.mailstore.specs.Promises.{HasUser, IsFree}
+use Rattle.mailstore.specs.Account.{Account, Accounts, open_of, messages_in}
+use Rattle.mailstore.specs.Promises.{HasOpen, HasNoOpen}
 use Rattle.mailstore.specs.Schema.{no_schema}
 use Rattle.mailtables.specs.Rows.{Tables}
 use Rattle.mailsinks.specs.Kept.{kept_mail}
@@ -32,9 +31,9 @@ abbrev pub mail_of : Option Account → List ℕ → List (List ℕ)
 mail_of None folder = []
 mail_of (Some a) folder = messages_in a.folders folder
 
--- the messages of the user's folder, in the order in which they came; none where the user or the folder is absent
+-- the messages of the folder of the user's open account, in the order in which they came; none where there is no such account or folder
 abbrev pub mail_in : Accounts → List ℕ → List ℕ → List (List ℕ)
-mail_in accounts user folder = mail_of (get accounts user) folder
+mail_in accounts user folder = mail_of (open_of accounts user) folder
 
 -- that many messages leave the user's folder, each the first of it: an event of the machine takes it, and answers so
 abbrev pub Leave : List ℕ → List ℕ → ℕ → Accounts → Accounts → Type 0
@@ -123,9 +122,9 @@ module _ (user folder : List ℕ) (Grew : List (List ℕ) → Type 0) where
   abbrev pub BrokeOff : ℕ → Fault → Accounts → Accounts → Type 0
   BrokeOff most fault accounts later = (count : ℕ) × StoppedShort count accounts later × (count ≤ most) × (NothingMoved count ⊎ (status_of fault ≡ 75))
 
-  -- of a user who has an account
+  -- of a user who has an open account
   abbrev pub Drained : ℕ → Result ℕ Fault → Accounts → Accounts → Type 0
-  Drained most (Ok count) accounts later = HasUser user accounts × AllMoved most count accounts later
+  Drained most (Ok count) accounts later = HasOpen user accounts × AllMoved most count accounts later
   Drained most (Err fault) accounts later = BrokeOff most fault accounts later
 
 -- ---- a call over a store, and a sink that tells what it keeps or doesn't, before and afterwards
@@ -139,7 +138,7 @@ MovesAll user folder tells had has most result = MovesMail user folder (GrowsBy 
 -- and there is no such user where that is said
 abbrev pub Drains : List ℕ → List ℕ → Bool → List KeptMail → List KeptMail → ℕ → Result ℕ Fault → State → State → Type 0
 Drains user folder tells had has most result =
-    MovesMail user folder (GrowsBy user folder tells had has) (is_ok result) (λ accounts later. Drained user folder (GrowsBy user folder tells had has) most result accounts later × (result ≡ Err no_user → IsFree user accounts))
+    MovesMail user folder (GrowsBy user folder tells had has) (is_ok result) (λ accounts later. Drained user folder (GrowsBy user folder tells had has) most result accounts later × (result ≡ Err no_user → HasNoOpen user accounts))
 
 -- ---- the word
 
@@ -160,10 +159,10 @@ HasRefused refuses error = (asked : _) × refuses asked error
 abbrev pub IsUnkept : (SinkError → Type 0) → Type 0
 IsUnkept Sunk = (error : SinkError) × Sunk error
 
--- why a folder isn't drained to its end: no account has the name; the place for the messages is no Maildir; or the word is kept from it, by the sink too
+-- why a folder isn't drained to its end: no open account has the name; the place for the messages is no Maildir; or the word is kept from it, by the sink too
 abbrev pub StopsDraining : (SinkError → Type 0) → Type 0 → (Fault → Type 0) → List ℕ → Fault → Accounts → Type 0
 StopsDraining Sunk Wrong Denied user fault accounts =
-    IsHindered (IsUnkept Sunk) Wrong Denied fault ⊎ ((fault ≡ NoMaildir) × Sunk sink.NoMaildir × (Wrong → ⊥)) ⊎ ((fault ≡ no_user) × IsFree user accounts × (Wrong → ⊥))
+    IsHindered (IsUnkept Sunk) Wrong Denied fault ⊎ ((fault ≡ NoMaildir) × Sunk sink.NoMaildir × (Wrong → ⊥)) ⊎ ((fault ≡ no_user) × HasNoOpen user accounts × (Wrong → ⊥))
 
 -- over tables: a store of theirs was drained, and where it wasn't to its end the cause is told
 abbrev pub MovesTables : (SinkError → Type 0) → (Fault → Type 0) → Drain → Bool → List KeptMail → List KeptMail → ℕ → Result ℕ Fault → Database → Database → Type 0

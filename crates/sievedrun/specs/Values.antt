@@ -28,6 +28,16 @@ IsNoPort digits = (port : ℕ) → port < 65536 → Writes digits port → ⊥
 abbrev pub IsNoSalt : List ℕ → Type 0
 IsNoSalt digits = (salt : List ℕ) → WritesSalt digits salt → ⊥
 
+-- the salt that the words have in hexadecimal digits, or else the system's random octets
+abbrev pub IsSalt : Option (List ℕ) → Option (List ℕ) → List ℕ → Type 0
+IsSalt (Some digits) random salt = WritesSalt digits salt
+IsSalt None random salt = random ≡ Some salt
+
+-- the words have digits there, which are no salt
+abbrev pub HasNoSalt : Option (List ℕ) → Type 0
+HasNoSalt (Some digits) = IsNoSalt digits
+HasNoSalt None = ⊥
+
 -- the moment that the words have in decimal, or else the clock's
 abbrev pub IsMoment : Option (List ℕ) → Option ℕ → ℕ → Type 0
 IsMoment (Some digits) clock moment = Writes digits moment

@@ -12,7 +12,7 @@ use Rattle.mailsinks.specs.declared.kept.KeptMail.{KeptMail}
 use Rattle.mailsinks.specs.declared.sink.SinkError.{SinkError}
 use Rattle.mailstore.specs.Account.{Account, Accounts, no_accounts, messages_in, row_with}
 use Rattle.mailstore.specs.HeadRows.{head_of}
-use Rattle.mailstore.specs.Promises.{IsFree, OfUser}
+use Rattle.mailstore.specs.Promises.{HasNoOpen, OfOpen}
 use Rattle.mailstore.specs.Schema.{no_schema}
 use Rattle.mailstore.specs.Shows.{Presents}
 use Rattle.mailstore.specs.Tally.{size_of}
@@ -22,7 +22,9 @@ use Rattle.mailengine.specs.World.{Next}
 use Rattle.mailengine.specs.declared.answer.Answer.{Answer}
 use Rattle.mailengine.specs.declared.answer.Answer.TheVariants as answer
 use Rattle.mailengine.specs.declared.event.Event.{Event}
-use Rattle.mailengine.specs.declared.event.Event.TheVariants.{Deliver, AddUser, TakeOut}
+use Rattle.mailengine.specs.declared.event.Event.TheVariants.{Deliver, AddUser, TakeOut, Keep}
+use Rattle.mailengine.specs.declared.upkeep.Upkeep.{Upkeep}
+use Rattle.mailengine.specs.declared.upkeep.Upkeep.TheVariants as upkeep
 use Rattle.reportlines.specs.Listings.{queue_listing, notice_listing}
 use Rattle.reportlines.specs.Reports.{with_end, delivery_report}
 use Rattle.clap.specs.Words.{kind_of}
@@ -40,7 +42,7 @@ use Rattle.sievedrun.specs.Faults.{memory, no_user, status_of, line_of, troubles
 use Rattle.sievedrun.specs.Promise.{first_line, world_of, status_after}
 use Rattle.sievedrun.specs.Streams.{ReadsAll, AppendsSome, InputFailed, IsWritten}
 use Rattle.sievedrun.specs.TryScript.{Runs}
-use Rattle.sievedrun.specs.Values.{IsNoNumber, HasNoNumber, WritesSalt, IsNoSalt, IsMoment, IsSeparator, HasNoSeparator, envelope_with}
+use Rattle.sievedrun.specs.Values.{IsNoNumber, HasNoNumber, IsSalt, HasNoSalt, IsMoment, IsSeparator, HasNoSeparator, envelope_with}
 use Rattle.sievedrun.specs.declared.fault.Fault.{Fault}
 use Rattle.sievedrun.specs.declared.fault.Fault.TheVariants.{Refused, NoMessage, BadArgument}
 
@@ -66,12 +68,44 @@ Finishes Deed Cause old new (Err fault) accounts later = IsUndone Cause old new 
 -- ---- words that are an event of the machine
 
 -- `adduser`: the account of these words, whose password is the first line of what was read
-pub record Adds (salt name address : List ℕ) (given : Option (List ℕ)) (event : Event) : Type 0 where
+pub record Adds (digits random : Option (List ℕ)) (name address : List ℕ) (given : Option (List ℕ)) (event : Event) : Type 0 where
   pub octets : List ℕ
   pub read : ReadsAll given octets
-  pub random : List ℕ
-  pub salted : WritesSalt salt random
-  pub same : event ≡ AddUser name address random (first_line octets)
+  pub salt : List ℕ
+  pub salted : IsSalt digits random salt
+  pub same : event ≡ AddUser name address salt (first_line octets)
+
+-- `passwd`: the user's other password is the first line of what was read
+pub record Guards (digits random : Option (List ℕ)) (user : List ℕ) (given : Option (List ℕ)) (event : Event) : Type 0 where
+  pub octets : List ℕ
+  pub read : ReadsAll given octets
+  pub salt : List ℕ
+  pub salted : IsSalt digits random salt
+  pub same : event ≡ Keep user (upkeep.SetPassword salt (first_line octets))
+
+-- `address`, `open`, `remove`: this is done to the user's account
+abbrev pub IsKeeping : List ℕ → Upkeep → Event → Type 0
+IsKeeping user upkeep event = event ≡ Keep user upkeep
+
+-- no text is looked at, so that it is done or refused
+abbrev pub IsPlain : Upkeep → Type 0
+IsPlain (upkeep.StoreScript name text activate) = ⊥
+IsPlain other = Unit {0}
+
+-- it was done, or the machine's refusal is the fault
+abbrev pub IsDoneBy : Answer → Result (Unit {0}) Fault → Type 0
+IsDoneBy (answer.Refused refusal) result = result ≡ Err (Refused refusal)
+IsDoneBy other result = result ≡ Ok tt
+
+-- what is answered where it is done
+abbrev pub said_of : Upkeep → Answer
+said_of (upkeep.SetPassword salt password) = answer.Changed
+said_of (upkeep.SetAddress address) = answer.Changed
+said_of (upkeep.StoreScript name text activate) = answer.Stored
+said_of upkeep.CloseAccount = answer.Closed
+said_of upkeep.OpenAccount = answer.Opened
+said_of (upkeep.RemoveAccount mail) = answer.Removed
+said_of (upkeep.TakeNotices until) = answer.NoticesTaken
 
 -- `deliver`: all that was read is for the user, with these addresses, at the moment of these words or of the clock
 pub record Posts (from to : List ℕ) (at : Option (List ℕ)) (user : List ℕ) (clock : Option ℕ) (given : Option (List ℕ)) (event : Event) : Type 0 where
@@ -92,6 +126,9 @@ abbrev pub Tells : Event → Answer → List ℕ → Type 0
 Tells (AddUser name address salt password) answer.Added text = text ≡ with_end (codes "added " ++ name)
 Tells (Deliver user envelope message moment) (answer.Delivered report) text = text ≡ delivery_report report
 Tells (TakeOut user id) (answer.Taken row) text = text ≡ with_end (codes "taken " ++ decimal id)
+Tells (Keep user upkeep) answer.Changed text = text ≡ with_end (codes "changed " ++ user)
+Tells (Keep user upkeep) answer.Opened text = text ≡ with_end (codes "opened " ++ user)
+Tells (Keep user upkeep) answer.Removed text = text ≡ with_end (codes "removed " ++ user)
 Tells event answer text = ⊥
 
 -- an event of the word's own was made, and this tells of it
@@ -122,20 +159,20 @@ DoesEvent Broken Wrong Denied Own old new result = TurnsTables (Finishes (Makes 
 
 -- ---- words that only read
 
--- no account changes, and the text shows the user's account so
+-- no account changes, and the text shows the user's open account so
 pub record Shows (user : List ℕ) (IsShown : Account → List ℕ → Type 0) (accounts later : Accounts) (text : List ℕ) : Type 0 where
   pub stays : later ≡ accounts
-  pub shown : OfUser accounts user (λ a. IsShown a text)
+  pub shown : OfOpen accounts user (λ a. IsShown a text)
 
--- what was read of the user's account: this is found in it; or no account has the name, or the word was kept from it
+-- what was read of the user's open account: this is found in it; or there is none, or the word was kept from it
 abbrev pub FindsIn : {X : Type 0} → (Fault → Type 0) → List ℕ → (X → Account → Type 0) → Result X Fault → Accounts → Type 0
-FindsIn Denied user Finds (Ok found) accounts = OfUser accounts user (Finds found)
-FindsIn Denied user Finds (Err fault) accounts = IsHindered ⊥ ⊥ Denied fault ⊎ ((fault ≡ no_user) × IsFree user accounts)
+FindsIn Denied user Finds (Ok found) accounts = OfOpen accounts user (Finds found)
+FindsIn Denied user Finds (Err fault) accounts = IsHindered ⊥ ⊥ Denied fault ⊎ ((fault ≡ no_user) × HasNoOpen user accounts)
 
--- why nothing is shown: the word was kept from it; no value in the words is wrong, and no account has the name; or what was asked for isn't there, which
+-- why nothing is shown: the word was kept from it; no value in the words is wrong, and there is no open account of the name; or what was asked for isn't there, which
 -- this fault tells
 abbrev pub HasNone : Type 0 → (Fault → Type 0) → List ℕ → (Fault → Account → Type 0) → Fault → Accounts → Type 0
-HasNone Wrong Denied user Lacks fault accounts = IsHindered ⊥ Wrong Denied fault ⊎ ((fault ≡ no_user) × IsFree user accounts × (Wrong → ⊥)) ⊎ OfUser accounts user (Lacks fault)
+HasNone Wrong Denied user Lacks fault accounts = IsHindered ⊥ Wrong Denied fault ⊎ ((fault ≡ no_user) × HasNoOpen user accounts × (Wrong → ⊥)) ⊎ OfOpen accounts user (Lacks fault)
 
 -- the word over tables: it shows a part of the user's account
 abbrev pub DoesRead : Type 0 → (Fault → Type 0) → List ℕ → (Account → List ℕ → Type 0) → (Fault → Account → Type 0) → Option (List ℕ) → Option (List ℕ) → Result (Unit {0}) Fault → Database → Database → Type 0
@@ -223,22 +260,32 @@ DoesQueue Denied out_old out_new user (Some digits) result = DoesRead (IsNoNumbe
 abbrev pub PostFailed : Option (List ℕ) → Option ℕ → Type 0
 PostFailed at clock = InputFailed ⊎ ((at ≡ None) × (clock ≡ None))
 
+-- what `adduser` and `passwd` read broke: their input, or the system's random octets, which are the salt where the words have none
+abbrev pub SaltFailed : Option (List ℕ) → Option (List ℕ) → Type 0
+SaltFailed digits random = InputFailed ⊎ ((digits ≡ None) × (random ≡ None))
+
 -- the store was denied once all of the input was read
 abbrev pub DeniedAtEnd : (Fault → Type 0) → Option (List ℕ) → Fault → Type 0
 DeniedAtEnd Denied left fault = Denied fault × IsAtEnd left
 
--- whoever denies the store at a place, why a sink refused, the clock, what was to be read and what is left of it, whether a sink tells what it keeps and
+-- whoever denies the store at a place, why a sink refused, the clock, the system's random octets, what was to be read and what is left of it, whether a sink tells what it keeps and
 -- what that was and is, and the output before and after
-module _ (Denied : StoreLocation → Fault → Type 0) (Sunk : SinkError → Type 0) (clock : Option ℕ) (given left : Option (List ℕ)) (tells : Bool) (had has : List KeptMail) (out_old out_new : Option (List ℕ)) where
+module _ (Denied : StoreLocation → Fault → Type 0) (Sunk : SinkError → Type 0) (clock : Option ℕ) (random : Option (List ℕ)) (given left : Option (List ℕ)) (tells : Bool) (had has : List KeptMail) (out_old out_new : Option (List ℕ)) where
   -- no message came to the sink, and nothing of the input was read
   abbrev pub Idle : Type 0
   Idle = StaysAsItWas tells had has × (left ≡ given)
 
-  -- each word does its own work; only `init` makes a store, only `drain` moves messages into the sink, and only `adduser` and `deliver` read
+  -- each word does its own work; only `init` makes a store, only `drain` moves messages into the sink, and only `adduser`, `passwd` and `deliver` read
   abbrev pub Does : Subcommand → Result (Unit {0}) Fault → Database → Database → Type 0
   Does (word.Init a) result old new = Idle × DoesInit (Denied a.location) out_old out_new result old new
   Does (word.AddUser a) result old new =
-      StaysAsItWas tells had has × DoesEvent InputFailed (IsNoSalt a.salt.now) (DeniedAtEnd (Denied a.location) left) (Adds a.salt.now a.name.now a.address.now given) out_old out_new result old new
+      StaysAsItWas tells had has × DoesEvent (SaltFailed (option_copied a.salt) random) (HasNoSalt (option_copied a.salt)) (DeniedAtEnd (Denied a.location) left) (Adds (option_copied a.salt) random a.name.now a.address.now given) out_old out_new result old new
+  Does (word.Passwd a) result old new =
+      StaysAsItWas tells had has
+      × DoesEvent (SaltFailed (option_copied a.salt) random) (HasNoSalt (option_copied a.salt)) (DeniedAtEnd (Denied a.location) left) (Guards (option_copied a.salt) random a.user.now given) out_old out_new result old new
+  Does (word.Address a) result old new = Idle × DoesEvent ⊥ ⊥ (Denied a.location) (IsKeeping a.user.now (upkeep.SetAddress a.address.now)) out_old out_new result old new
+  Does (word.Open a) result old new = Idle × DoesEvent ⊥ ⊥ (Denied a.location) (IsKeeping a.user.now upkeep.OpenAccount) out_old out_new result old new
+  Does (word.Remove a) result old new = Idle × DoesEvent ⊥ ⊥ (Denied a.location) (IsKeeping a.user.now (upkeep.RemoveAccount a.mail)) out_old out_new result old new
   Does (word.Deliver a) result old new =
       StaysAsItWas tells had has
       × DoesEvent (PostFailed (option_copied a.at) clock) (HasNoNumber (option_copied a.at)) (DeniedAtEnd (Denied a.location) left) (Posts a.from.now a.to.now (option_copied a.at) a.user.now clock given) out_old out_new result old new
@@ -259,6 +306,10 @@ module _ (Denied : StoreLocation → Fault → Type 0) (Sunk : SinkError → Typ
 abbrev pub Reaches : (StoreLocation → Type 0) → (List ℕ → Type 0) → Subcommand → Type 0
 Reaches Given At (word.Init a) = Given a.location
 Reaches Given At (word.AddUser a) = Given a.location
+Reaches Given At (word.Passwd a) = Given a.location
+Reaches Given At (word.Address a) = Given a.location
+Reaches Given At (word.Open a) = Given a.location
+Reaches Given At (word.Remove a) = Given a.location
 Reaches Given At (word.Deliver a) = Given a.location
 Reaches Given At (word.Folders a) = Given a.location
 Reaches Given At (word.Show a) = Given a.location
@@ -327,11 +378,11 @@ pub record Works (Did : Result (Unit {0}) Fault → Type 0) (Reached : Type 0) (
   pub did : Did ending
   pub reached : OnOk ending Reached
 
-module _ (Denied : StoreLocation → Fault → Type 0) (Sunk : SinkError → Type 0) (Given : StoreLocation → Type 0) (At : List ℕ → Type 0) (cause : Fault → Option (List ℕ)) (clock : Option ℕ) (given left : Option (List ℕ)) (tells : Bool) (had has : List KeptMail) (out_old out_new err_old err_new : Option (List ℕ)) (status : ℕ) (old new : Database) where
+module _ (Denied : StoreLocation → Fault → Type 0) (Sunk : SinkError → Type 0) (Given : StoreLocation → Type 0) (At : List ℕ → Type 0) (cause : Fault → Option (List ℕ)) (clock : Option ℕ) (random : Option (List ℕ)) (given left : Option (List ℕ)) (tells : Bool) (had has : List KeptMail) (out_old out_new err_old err_new : Option (List ℕ)) (status : ℕ) (old new : Database) where
   -- what comes of words that were read so: a script was tried; a word did its work; or the words ask for nothing, which is told
   abbrev pub RunsAs : Result Subcommand ReadError → Type 0
   RunsAs (Ok (word.Try a)) = Runs (envelope_with a.from.now a.to.now) given out_old out_new err_old err_new status × Untouched tells had has old new
-  RunsAs (Ok asked) = Works (λ ending. Does Denied Sunk clock given left tells had has out_old out_new asked ending old new) (Reaches Given At asked) cause err_old err_new status
+  RunsAs (Ok asked) = Works (λ ending. Does Denied Sunk clock random given left tells had has out_old out_new asked ending old new) (Reaches Given At asked) cause err_old err_new status
   RunsAs (Err error) = IsUnread error out_old out_new err_old err_new status × Untouched tells had has old new × (left ≡ given)
 
   -- a run of the program with these words

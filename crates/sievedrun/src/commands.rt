@@ -7,15 +7,15 @@ ghost use Rattle.mailengine.specs.declared.event.Event.TheVariants as machine;
 ghost use Rattle.sievedrun.specs.Draining.{TurnsTables};
 ghost use Rattle.sievedrun.specs.Promise.{status_after};
 ghost use Rattle.sievedrun.specs.Serving.{HasDenied, HasGiven};
-ghost use Rattle.sievedrun.specs.Streams.{InputFailed, ReadsToEnd};
-ghost use Rattle.sievedrun.specs.Values.{IsNoNumber, HasNoNumber, IsNoSalt};
-ghost use Rattle.sievedrun.specs.Words.{Adds, Posts, PostFailed, DeniedAtEnd, Puts, DoesEvent, DoesRead, DoesInit, ShowsMessage, LacksMessage};
+ghost use Rattle.sievedrun.specs.Streams.{ReadsToEnd};
+ghost use Rattle.sievedrun.specs.Values.{IsNoNumber, HasNoNumber, HasNoSalt};
+ghost use Rattle.sievedrun.specs.Words.{Adds, Posts, PostFailed, SaltFailed, DeniedAtEnd, Puts, DoesEvent, DoesRead, DoesInit, ShowsMessage, LacksMessage};
 
 use crate::account_read::{MessageOf, read_once};
 use crate::fault::Fault;
 use crate::report::print_report;
 use crate::stream::{read_all, write_all, write_line};
-use crate::values::{decimal, envelope_of, first_line, moment_of, salt_of};
+use crate::values::{decimal, envelope_of, first_line, given_salt, moment_of};
 use keepers::Keeper;
 use mailengine::{Envelope, Report, add_user, deliver};
 use mailstore::Store;
@@ -39,10 +39,11 @@ pub fn run_init<W: Write, K: Keeper>(
     write_all(output, b"ready\n")
 }
 
-/// `adduser`: a new account. Its password is the first line of the input.
+/// `adduser`: a new account. Its password is the first line of the input. `random` is the salt where the words have none.
 pub fn run_adduser<R: Read, W: Write, K: Keeper>(
     alloc: Global,
     asked: AddUser<'_>,
+    random: Option<[u8; 16]>,
     input: &mut R,
     output: &mut W,
     keeper: &mut K,
@@ -50,13 +51,13 @@ pub fn run_adduser<R: Read, W: Write, K: Keeper>(
     ensures unread { status_after result ≡ 64 → input.new ≡ input.old }
     ensures reads { OnOk result (ReadsToEnd R.remaining input.old input.new) }
     ensures back { K.is_out keeper.old ≡ false → K.is_out keeper.new ≡ false }
-    ensures does { IsTrue K.tells → DoesEvent InputFailed (IsNoSalt asked.entry.salt.now)
+    ensures does { IsTrue K.tells → DoesEvent (SaltFailed (option_copied asked.entry.salt) random) (HasNoSalt (option_copied asked.entry.salt))
         (DeniedAtEnd (HasDenied K.refuses K.will_wait asked.entry.location) (R.remaining input.new))
-        (Adds asked.entry.salt.now asked.entry.name.now asked.entry.address.now (R.remaining input.old))
+        (Adds (option_copied asked.entry.salt) random asked.entry.name.now asked.entry.address.now (R.remaining input.old))
         (W.contents output.old) (W.contents output.new) result (K.holds keeper.old) (K.holds keeper.new) }
     ensures given { OnOk result (HasGiven K.gives K.will_wait asked.entry.location) }
 {
-    let salt = salt_of(asked.salt)?;
+    let salt = given_salt(asked.salt, random)?;
     let octets = read_all(alloc, input)?;
     let password = first_line(octets.as_slice());
     add(

@@ -154,7 +154,7 @@ fn move_all<S: Alter, T: MailSink>(
 ///
 /// # Errors
 ///
-/// `NoUser` where there is no such account, and then nothing moved. `Memory`, `Store`, and `Stream` where the sink failed,
+/// `NoUser` where there is no such account that is open, and then nothing moved. `Memory`, `Store`, and `Stream` where the sink failed,
 /// may come at any place: what moved until then stays so, and the next message may be kept though it is in the folder still.
 fn drain<S: Alter, T: MailSink>(
     store: &mut Store<S>,
@@ -167,8 +167,6 @@ fn drain<S: Alter, T: MailSink>(
     ensures stays { (path : List ℕ) → T.is_at sink.old path → T.is_at sink.new path }
     ensures fault { IfErr result (λ fault. IsSudden (IsUnkept (HasRefused T.refuses)) fault ⊎ (fault ≡ no_user)) }
 {
-    let Some(_account) = store.account(user)? else {
-        return Err(Fault::Refused(Refusal::NoUser));
-    };
+    let _ = store.enter(user)?;
     move_all(store, user, folder, most, sink)
 }

@@ -17,6 +17,7 @@ use crate::queue::{run_done, run_queue};
 use crate::stream::write_all;
 use crate::trouble::Trouble;
 use crate::try_script::try_run;
+use crate::upkeep::{run_address, run_open, run_passwd, run_remove};
 use crate::values::envelope_of;
 use clap::Error;
 use clap::error::ErrorKind;
@@ -35,7 +36,8 @@ const USAGE: u8 = 64;
 /// Does what the words after the program's name ask for, and answers the exit status. The message, the password or the
 /// script is read from the input, the answer is written to the output, and what goes wrong to the errors.
 ///
-/// `clock` is the moment in seconds since 1970, where the clock could be read. Where words or values are wrong nothing is
+/// `clock` is the moment in seconds since 1970, where the clock could be read, and `random` are 16 octets that nobody can guess,
+/// where the system gave some. Where words or values are wrong nothing is
 /// read. The store is taken at most once, and handed back before the answer is written. Messages that leave it go into the
 /// sink.
 pub fn drive<R: Read, W: Write, E: Write, K: Keeper, T: MailSink>(
@@ -46,13 +48,14 @@ pub fn drive<R: Read, W: Write, E: Write, K: Keeper, T: MailSink>(
     errors: &mut E,
     keeper: &mut K,
     clock: Option<u64>,
+    random: Option<[u8; 16]>,
     sink: &mut T,
 ) -> u8
     ensures unread { result ≡ 64 → input.new ≡ input.old }
     ensures reads { result ≡ 0 → ReadsAllOrNone R.remaining input.old input.new }
     ensures back { K.is_out keeper.old ≡ false → K.is_out keeper.new ≡ false }
     ensures runs { IsTrue K.tells → RunsWords (HasDenied K.refuses K.will_wait) (HasRefused T.refuses) (HasGiven K.gives K.will_wait) (T.is_at sink.new)
-        (cause_of (K.said keeper.new) (text_said (T.said sink.new))) clock
+        (cause_of (K.said keeper.new) (text_said (T.said sink.new))) clock random
         (R.remaining input.old) (R.remaining input.new) T.tells (T.kept sink.old) (T.kept sink.new) (W.contents output.old) (W.contents output.new)
         (E.contents errors.old) (E.contents errors.new) result (K.holds keeper.old) (K.holds keeper.new) words.now }
     ensures asked { K.unclosed keeper.old ≡ None → K.unclosed keeper.new ≡ None }
@@ -64,7 +67,7 @@ pub fn drive<R: Read, W: Write, E: Write, K: Keeper, T: MailSink>(
     match asked {
         Subcommand::Try(asked) => try_script(alloc, asked, input, output, errors),
         _ => {
-            let done = act(alloc, asked, input, output, keeper, clock, sink);
+            let done = act(alloc, asked, input, output, keeper, clock, random, sink);
             conclude(done, errors, keeper, sink)
         }
     }
@@ -97,19 +100,24 @@ fn act<R: Read, W: Write, K: Keeper, T: MailSink>(
     output: &mut W,
     keeper: &mut K,
     clock: Option<u64>,
+    random: Option<[u8; 16]>,
     sink: &mut T,
 ) -> Result<(), Fault>
     ensures unread { status_after result ≡ 64 → input.new ≡ input.old }
     ensures reads { OnOk result (ReadsAllOrNone R.remaining input.old input.new) }
     ensures back { K.is_out keeper.old ≡ false → K.is_out keeper.new ≡ false }
-    ensures does { IsTrue K.tells → Does (HasDenied K.refuses K.will_wait) (HasRefused T.refuses) clock (R.remaining input.old) (R.remaining input.new)
+    ensures does { IsTrue K.tells → Does (HasDenied K.refuses K.will_wait) (HasRefused T.refuses) clock random (R.remaining input.old) (R.remaining input.new)
         T.tells (T.kept sink.old) (T.kept sink.new) (W.contents output.old) (W.contents output.new) asked.entry result
         (K.holds keeper.old) (K.holds keeper.new) }
     ensures reaches { OnOk result (Reaches (HasGiven K.gives K.will_wait) (T.is_at sink.new) asked.entry) }
 {
     match asked {
         Subcommand::Init(asked) => run_init(asked, output, keeper),
-        Subcommand::AddUser(asked) => run_adduser(alloc, asked, input, output, keeper),
+        Subcommand::AddUser(asked) => run_adduser(alloc, asked, random, input, output, keeper),
+        Subcommand::Passwd(asked) => run_passwd(alloc, asked, random, input, output, keeper),
+        Subcommand::Address(asked) => run_address(alloc, asked, output, keeper),
+        Subcommand::Open(asked) => run_open(alloc, asked, output, keeper),
+        Subcommand::Remove(asked) => run_remove(alloc, asked, output, keeper),
         Subcommand::Deliver(asked) => run_deliver(alloc, asked, clock, input, output, keeper),
         Subcommand::Folders(asked) => run_folders(alloc, asked, output, keeper),
         Subcommand::Show(asked) => run_show(asked, output, keeper),

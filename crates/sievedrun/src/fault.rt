@@ -47,7 +47,9 @@ impl Fault {
         match self {
             Fault::BadArgument => 64,
             Fault::Refused(Refusal::NoUser) => 67,
-            Fault::Refused(Refusal::Memory | Refusal::Store) | Fault::Busy | Fault::Stream => 75,
+            Fault::Refused(Refusal::Memory | Refusal::Store | Refusal::AccountClosed)
+            | Fault::Busy
+            | Fault::Stream => 75,
             _ => 65,
         }
     }
@@ -91,6 +93,12 @@ fn refusal_line(refusal: Refusal) -> &'static [u8]
         Refusal::UserExists => b"sieved: user exists\n",
         Refusal::BadUser => b"sieved: bad user\n",
         Refusal::NoRow => b"sieved: no such row\n",
+        Refusal::AccountClosed => b"sieved: account is closed\n",
+        Refusal::UserIsOpen => b"sieved: user is open\n",
+        Refusal::UserHasMail => b"sieved: user has mail\n",
+        Refusal::BadScriptName => b"sieved: bad script name\n",
+        Refusal::ScriptTooLarge => b"sieved: script too large\n",
+        Refusal::TooManyScripts => b"sieved: too many scripts\n",
     }
 }
 

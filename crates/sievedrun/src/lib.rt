@@ -15,4 +15,5 @@ pub mod session;
 mod stream;
 pub mod trouble;
 pub mod try_script;
+mod upkeep;
 pub mod values;

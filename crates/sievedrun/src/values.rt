@@ -4,7 +4,7 @@ ghost use Rattle.std.specs.List.{prefix_len};
 ghost use Rattle.octets.specs.Decimal.{Writes};
 ghost use Rattle.sievedrun.specs.Promise as promise;
 ghost use Rattle.sievedrun.specs.Promise.{is_in_line};
-ghost use Rattle.sievedrun.specs.Values.{IsNoNumber, HasNoNumber, IsNoPort, WritesSalt, IsNoSalt, IsMoment, IsSeparator, HasNoSeparator, envelope_with};
+ghost use Rattle.sievedrun.specs.Values.{IsNoNumber, HasNoNumber, IsNoPort, WritesSalt, IsNoSalt, IsSalt, HasNoSalt, IsMoment, IsSeparator, HasNoSeparator, envelope_with};
 
 use crate::fault::Fault;
 use hex::FromHex;
@@ -51,12 +51,26 @@ pub fn separator_of(text: Option<&str>) -> Result<Separator, Fault>
 /// A salt in 32 hexadecimal digits.
 pub fn salt_of(text: &str) -> Result<[u8; 16], Fault>
     ensures ok { IfOk result (λ salt. WritesSalt text.now salt) }
+    ensures right { OnOk result (IsNoSalt text.now → ⊥) }
     ensures fault { IfErr result (λ fault. fault ≡ Fault.BadArgument) }
     ensures none { IfErr result (λ fault. IsNoSalt text.now) }
 {
     match <[u8; 16] as FromHex>::from_hex(text) {
         Ok(salt) => Ok(salt),
         Err(_) => Err(Fault::BadArgument),
+    }
+}
+
+/// The salt that the words have, or else the system's random octets.
+pub fn given_salt(digits: Option<&str>, random: Option<[u8; 16]>) -> Result<[u8; 16], Fault>
+    ensures ok { IfOk result (IsSalt (option_copied digits.entry) random) }
+    ensures right { OnOk result (HasNoSalt (option_copied digits.entry) → ⊥) }
+    ensures fault { IfErr result (λ fault. ((fault ≡ Fault.BadArgument) × HasNoSalt (option_copied digits.entry))
+        ⊎ ((fault ≡ Fault.Stream) × (option_copied digits.entry ≡ None) × (random ≡ None))) }
+{
+    match digits {
+        Some(text) => salt_of(text),
+        None => random.ok_or(Fault::Stream),
     }
 }
 

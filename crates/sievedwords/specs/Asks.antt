@@ -16,6 +16,10 @@ use Rattle.sievedwords.specs.declared.subcommand.try_script.Try.{Try}
 use Rattle.sievedwords.specs.declared.subcommand.init.Init.{Init}
 use Rattle.sievedwords.specs.declared.subcommand.adduser.AddUser.{AddUser}
 use Rattle.sievedwords.specs.declared.subcommand.deliver.Deliver.{Deliver}
+use Rattle.sievedwords.specs.declared.subcommand.passwd.Passwd.{Passwd}
+use Rattle.sievedwords.specs.declared.subcommand.address.SetAddress.{SetAddress}
+use Rattle.sievedwords.specs.declared.subcommand.remove.Remove.{Remove}
+use Rattle.sievedwords.specs.declared.subcommand.open.Open.{Open}
 use Rattle.sievedwords.specs.declared.subcommand.folders.Folders.{Folders}
 use Rattle.sievedwords.specs.declared.subcommand.show.Show.{Show}
 use Rattle.sievedwords.specs.declared.subcommand.queue.Queue.{Queue}
@@ -68,9 +72,28 @@ pub record IsInit (line : CommandLine) (m : ArgMatches) (a : Init) : Type 0 wher
 
 pub record IsAddUser (line : CommandLine) (m : ArgMatches) (a : AddUser) : Type 0 where
   pub location : IsLocation m a.location
-  pub salt : a.salt.now ≡ text_in m (codes "salt")
+  pub salt : option_copied a.salt ≡ value_in m (codes "salt")
   pub name : a.name.now ≡ text_in m (codes "name")
   pub address : a.address.now ≡ text_in m (codes "address")
+
+pub record IsPasswd (line : CommandLine) (m : ArgMatches) (a : Passwd) : Type 0 where
+  pub location : IsLocation m a.location
+  pub salt : option_copied a.salt ≡ value_in m (codes "salt")
+  pub user : a.user.now ≡ text_in m (codes "name")
+
+pub record IsSetAddress (line : CommandLine) (m : ArgMatches) (a : SetAddress) : Type 0 where
+  pub location : IsLocation m a.location
+  pub user : a.user.now ≡ text_in m (codes "name")
+  pub address : a.address.now ≡ text_in m (codes "address")
+
+pub record IsRemove (line : CommandLine) (m : ArgMatches) (a : Remove) : Type 0 where
+  pub location : IsLocation m a.location
+  pub mail : IsFlag m (codes "mail") a.mail
+  pub user : a.user.now ≡ text_in m (codes "name")
+
+pub record IsOpen (line : CommandLine) (m : ArgMatches) (a : Open) : Type 0 where
+  pub location : IsLocation m a.location
+  pub user : a.user.now ≡ text_in m (codes "name")
 
 pub record IsDeliver (line : CommandLine) (m : ArgMatches) (a : Deliver) : Type 0 where
   pub location : IsLocation m a.location
@@ -132,6 +155,8 @@ pub record IsDaemon (line : CommandLine) (m : ArgMatches) (a : Daemon) : Type 0 
   pub managesieve : option_copied a.managesieve ≡ value_in m (codes "managesieve")
   pub lmtp : option_copied a.lmtp ≡ value_in m (codes "lmtp")
   pub names : option_copied a.names ≡ value_in m (codes "names")
+  pub mail : option_copied a.mail ≡ value_in m (codes "mail")
+  pub separator : option_copied a.separator ≡ value_in m (codes "separator")
   pub host : option_copied a.host ≡ value_in m (codes "host")
   pub quiet : IsFlag m (codes "quiet") a.quiet
   pub check : IsFlag m (codes "check") a.check
@@ -141,6 +166,10 @@ abbrev pub AsksFor : CommandLine → ArgMatches → Word → Subcommand → Type
 AsksFor line m word.Try (asked.Try a) = IsTry line m a
 AsksFor line m word.Init (asked.Init a) = IsInit line m a
 AsksFor line m word.AddUser (asked.AddUser a) = IsAddUser line m a
+AsksFor line m word.Passwd (asked.Passwd a) = IsPasswd line m a
+AsksFor line m word.Address (asked.Address a) = IsSetAddress line m a
+AsksFor line m word.Remove (asked.Remove a) = IsRemove line m a
+AsksFor line m word.Open (asked.Open a) = IsOpen line m a
 AsksFor line m word.Deliver (asked.Deliver a) = IsDeliver line m a
 AsksFor line m word.Folders (asked.Folders a) = IsFolders line m a
 AsksFor line m word.Show (asked.Show a) = IsShow line m a

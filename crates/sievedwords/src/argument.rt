@@ -31,6 +31,7 @@ pub enum Argument {
     Managesieve,
     Lmtp,
     Names,
+    Mail,
     Host,
     Quiet,
     Check,
@@ -38,6 +39,7 @@ pub enum Argument {
     HostName,
     MostRows,
     SendEightBit,
+    WithMail,
 }
 
 /// How an argument is written.
@@ -73,7 +75,8 @@ impl Argument {
             | Argument::Directories
             | Argument::Quiet
             | Argument::Check
-            | Argument::SendEightBit => Form::Flag,
+            | Argument::SendEightBit
+            | Argument::WithMail => Form::Flag,
             Argument::Db
             | Argument::From
             | Argument::To
@@ -87,6 +90,7 @@ impl Argument {
             | Argument::Managesieve
             | Argument::Lmtp
             | Argument::Names
+            | Argument::Mail
             | Argument::Host
             | Argument::Smtp
             | Argument::HostName
@@ -127,11 +131,13 @@ impl Argument {
             Argument::Managesieve => "managesieve",
             Argument::Lmtp => "lmtp",
             Argument::Names => "names",
+            Argument::Mail => "mail",
             Argument::Host | Argument::HostName => "host",
             Argument::Quiet => "quiet",
             Argument::Check => "check",
             Argument::Smtp => "smtp",
             Argument::SendEightBit => "send-8bit",
+            Argument::WithMail => "mail",
         }
     }
 
@@ -142,7 +148,8 @@ impl Argument {
             | Argument::Directories
             | Argument::Quiet
             | Argument::Check
-            | Argument::SendEightBit => "",
+            | Argument::SendEightBit
+            | Argument::WithMail => "",
             Argument::Separator => ".|/",
             Argument::From | Argument::To | Argument::AnyTo => "A",
             Argument::At | Argument::Number | Argument::Sessions => "N",
@@ -154,6 +161,7 @@ impl Argument {
             Argument::Name | Argument::Host | Argument::HostName => "NAME",
             Argument::Lmtp => "P|PATH|-",
             Argument::Names => "local|whole",
+            Argument::Mail => "DIR",
             Argument::Address => "ADDRESS",
             Argument::User => "USER",
             Argument::Folder => "FOLDER",
@@ -170,7 +178,7 @@ impl Argument {
             Argument::To => "The envelope's recipient",
             Argument::AnyTo => "The envelope's recipient [default: none]",
             Argument::At => "Seconds since 1970 [default: the clock]",
-            Argument::Salt => "16 random octets in hexadecimal",
+            Argument::Salt => "16 random octets in hexadecimal [default: the system's]",
             Argument::Name => "1 to 64 of letters, digits and . _ - @",
             Argument::Address => "The mail address, without a display name",
             Argument::User => "The account's name",
@@ -187,6 +195,7 @@ impl Argument {
             Argument::Managesieve => "The port for ManageSieve; 0 for any that is free",
             Argument::Lmtp => "The port or the path of a socket for LMTP; - for descriptor 0",
             Argument::Names => "What of an address names its account [default: local]",
+            Argument::Mail => "Moves mail on into the users' Maildirs in this directory",
             Argument::Host => "The name that clients of LMTP are greeted with [default: localhost]",
             Argument::Quiet => "Tells of no delivery that was made",
             Argument::Check => "Says what would go wrong, and serves nobody",
@@ -194,6 +203,7 @@ impl Argument {
             Argument::HostName => "The name that EHLO says [default: localhost]",
             Argument::MostRows => "Tries at most K rows [default: all]",
             Argument::SendEightBit => "Sends octets over 127 where 8BITMIME isn't offered too",
+            Argument::WithMail => "Removes its messages too",
         }
     }
 
@@ -212,12 +222,15 @@ impl Argument {
                 | Argument::Managesieve
                 | Argument::Lmtp
                 | Argument::Names
+                | Argument::Mail
                 | Argument::Host
                 | Argument::Quiet
                 | Argument::Check
                 | Argument::HostName
                 | Argument::MostRows
                 | Argument::SendEightBit
+                | Argument::Salt
+                | Argument::WithMail
         )
     }
 }

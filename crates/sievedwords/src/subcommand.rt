@@ -3,6 +3,7 @@ ghost use Rattle.std.specs.Prelude.{◌≡◌, IfSome, None};
 ghost use Rattle.sievedwords.specs.Asks.{AsksFor};
 ghost use Rattle.sievedwords.specs.Ids.{IsNoWord, name_of};
 
+pub mod address;
 pub mod adduser;
 pub mod daemon;
 pub mod deliver;
@@ -11,13 +12,17 @@ pub mod drain;
 pub mod folders;
 pub mod init;
 pub mod notices;
+pub mod open;
+pub mod passwd;
 pub mod queue;
+pub mod remove;
 pub mod send;
 pub mod serve;
 pub mod session;
 pub mod show;
 pub mod try_script;
 
+use self::address::{ADDRESS, SetAddress};
 use self::adduser::{ADDUSER, AddUser};
 use self::daemon::{DAEMON, Daemon};
 use self::deliver::{DELIVER, Deliver};
@@ -26,7 +31,10 @@ use self::drain::{DRAIN, Drain};
 use self::folders::{FOLDERS, Folders};
 use self::init::{INIT, Init};
 use self::notices::{NOTICES, Notices};
+use self::open::{OPEN, Open};
+use self::passwd::{PASSWD, Passwd};
 use self::queue::{QUEUE, Queue};
+use self::remove::{REMOVE, Remove};
 use self::send::{SEND, Send};
 use self::serve::{SERVE, Serve};
 use self::session::{SESSION, Session};
@@ -41,6 +49,10 @@ pub enum Subcommand<'a> {
     Try(Try<'a>),
     Init(Init<'a>),
     AddUser(AddUser<'a>),
+    Passwd(Passwd<'a>),
+    Address(SetAddress<'a>),
+    Remove(Remove<'a>),
+    Open(Open<'a>),
     Deliver(Deliver<'a>),
     Folders(Folders<'a>),
     Show(Show<'a>),
@@ -60,6 +72,10 @@ pub enum Word {
     Try,
     Init,
     AddUser,
+    Passwd,
+    Address,
+    Remove,
+    Open,
     Deliver,
     Folders,
     Show,
@@ -75,10 +91,14 @@ pub enum Word {
 
 impl Word {
     /// All, in the order of the help.
-    pub const ALL: [Word; 14] = [
+    pub const ALL: [Word; 18] = [
         Word::Try,
         Word::Init,
         Word::AddUser,
+        Word::Passwd,
+        Word::Address,
+        Word::Remove,
+        Word::Open,
         Word::Deliver,
         Word::Folders,
         Word::Show,
@@ -119,6 +139,10 @@ impl Word {
             Word::Try => &TRY,
             Word::Init => &INIT,
             Word::AddUser => &ADDUSER,
+            Word::Passwd => &PASSWD,
+            Word::Address => &ADDRESS,
+            Word::Remove => &REMOVE,
+            Word::Open => &OPEN,
             Word::Deliver => &DELIVER,
             Word::Folders => &FOLDERS,
             Word::Show => &SHOW,
@@ -141,6 +165,10 @@ impl Word {
             Word::Try => Subcommand::Try(Try::read(given)),
             Word::Init => Subcommand::Init(Init::read(given)),
             Word::AddUser => Subcommand::AddUser(AddUser::read(given)),
+            Word::Passwd => Subcommand::Passwd(Passwd::read(given)),
+            Word::Address => Subcommand::Address(SetAddress::read(given)),
+            Word::Remove => Subcommand::Remove(Remove::read(given)),
+            Word::Open => Subcommand::Open(Open::read(given)),
             Word::Deliver => Subcommand::Deliver(Deliver::read(given)),
             Word::Folders => Subcommand::Folders(Folders::read(given)),
             Word::Show => Subcommand::Show(Show::read(given)),

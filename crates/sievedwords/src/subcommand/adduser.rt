@@ -10,6 +10,7 @@ pub static ADDUSER: Row = Row {
     name: "adduser",
     about: "Adds an account",
     more: "Reads the password, up to the first line end. Prints `added NAME`.
+An account of the name that is closed is opened anew, with what it remembers of senders.
 Status 0: added. 64: wrong words or salt. 65: such a user is not allowed, or there already. 75: try again later.",
     arguments: &[
         Argument::Db,
@@ -24,8 +25,8 @@ Status 0: added. 64: wrong words or salt. 65: such a user is not allowed, or the
 #[derive(Clone, Copy)]
 pub struct AddUser<'a> {
     pub location: StoreLocation<'a>,
-    /// The salt in hexadecimal digits.
-    pub salt: &'a str,
+    /// The salt in hexadecimal digits; where it is left out the system's random octets are one.
+    pub salt: Option<&'a str>,
     /// The account's name.
     pub name: &'a str,
     /// The account's address.
@@ -38,7 +39,7 @@ impl<'a> AddUser<'a> {
     {
         AddUser {
             location: given.location(),
-            salt: given.text(Argument::Salt),
+            salt: given.value(Argument::Salt),
             name: given.text(Argument::Name),
             address: given.text(Argument::Address),
         }

@@ -7,15 +7,18 @@ use crate::row::Row;
 
 pub static DAEMON: Row = Row {
     name: "daemon",
-    about: "Serves many clients of ManageSieve and of LMTP at once",
-    more: "At least one of --managesieve and --lmtp. Ports are of the loopback address; a PATH of digits alone is a port.
+    about: "Serves many clients of ManageSieve and of LMTP at once, and moves mail into Maildirs",
+    more: "At least one of --managesieve, --lmtp and --mail. Ports are of the loopback address; a PATH of digits alone is a port.
+--mail: INBOX moves into DIR/USER, another folder into its directory there (folders --maildir --separator), one message after ten events.
 Prints `listening on 127.0.0.1:P`, `listening on PATH` or `listening on -` for each once all listen. Ends by a signal alone.
-Status 0: all is right (--check). 64: wrong words or numbers, or no socket at PATH. 65: no store. 75: can't listen, another daemon, or try again later.",
+Status 0: all is right (--check). 64: wrong words or numbers, or no socket at PATH. 65: no store, no DIR. 75: can't listen, another daemon, or try again later.",
     arguments: &[
         Argument::Db,
         Argument::Managesieve,
         Argument::Lmtp,
         Argument::Names,
+        Argument::Mail,
+        Argument::Separator,
         Argument::Host,
         Argument::Quiet,
         Argument::Check,
@@ -33,6 +36,10 @@ pub struct Daemon<'a> {
     pub lmtp: Option<&'a str>,
     /// What of a recipient's address names its account: `local` or `whole`.
     pub names: Option<&'a str>,
+    /// The directory of the users' Maildirs into which mail moves, where it does.
+    pub mail: Option<&'a str>,
+    /// What separates the levels of a folder's name there: `.` or `/`.
+    pub separator: Option<&'a str>,
     /// The name with which clients of LMTP are greeted.
     pub host: Option<&'a str>,
     /// Whether no delivery that was made is told of.
@@ -50,6 +57,8 @@ impl<'a> Daemon<'a> {
             managesieve: given.value(Argument::Managesieve),
             lmtp: given.value(Argument::Lmtp),
             names: given.value(Argument::Names),
+            mail: given.value(Argument::Mail),
+            separator: given.value(Argument::Separator),
             host: given.value(Argument::Host),
             quiet: given.flag(Argument::Quiet),
             check: given.flag(Argument::Check),

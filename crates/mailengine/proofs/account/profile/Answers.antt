@@ -1,7 +1,10 @@
-use Rattle.std.proofs.Common.{ap, ◌∙◌, Ok}
+use Rattle.std.proofs.Common.{◌≡◌}
 use Rattle.sqlite.specs.Held.{state}
-use Rattle.mailengine.proofs.LookupLemmas.{profile_there}
+use Rattle.mailstore.specs.Account.{Account}
+use Rattle.mailstore.specs.AccountRows.{profile_of}
+use Rattle.mailstore.specs.declared.profile.Profile.{Profile}
+use Rattle.mailengine.proofs.LookupLemmas.{looked}
 use Rattle.mailengine.proofs.account.profile.Goals as goal
 
-pub returns-in-Some : goal.returns-in-Some
-returns-in-Some g c = profile_there c.args.user.now (state g.S.Store c.args.store.now) (state g.S.Store c.account.new.self) c.account.result c.account.ensures c.in-Some.profile (c.in_ok-profile.was ∙ ap Ok c.in-Some.is)
+pub returns : goal.returns
+returns g c = looked c.args.user.now (λ (profile : Profile) (a : Account). profile ≡ profile_of a) (state g.S.Store c.args.store.now) (state g.S.Store c.enter.new.self) c.enter.result c.enter.ensures

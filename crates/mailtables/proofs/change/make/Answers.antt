@@ -41,3 +41,30 @@ returns-in-RemoveReply g c = rw c.in-RemoveReply.is c.remove_reply.ensures
 
 pub returns-in-AddNotice : goal.returns-in-AddNotice
 returns-in-AddNotice g c = rw c.in-AddNotice.is (rw (c.in-AddNotice.is) at c.add_notice.ensures)
+
+pub returns-in-SetAddress : goal.returns-in-SetAddress
+returns-in-SetAddress g c = rw c.in-SetAddress.is c.set_address.ensures
+
+pub returns-in-SetPassword : goal.returns-in-SetPassword
+returns-in-SetPassword g c = rw c.in-SetPassword.is c.set_password.ensures
+
+pub returns-in-SetRounds : goal.returns-in-SetRounds
+returns-in-SetRounds g c = rw c.in-SetRounds.is c.set_rounds.ensures
+
+pub returns-in-RemoveScripts : goal.returns-in-RemoveScripts
+returns-in-RemoveScripts g c = rw c.in-RemoveScripts.is c.remove_scripts.ensures
+
+pub returns-in-RemoveQueue : goal.returns-in-RemoveQueue
+returns-in-RemoveQueue g c = rw c.in-RemoveQueue.is c.remove_queue.ensures
+
+pub returns-in-RemoveMessages : goal.returns-in-RemoveMessages
+returns-in-RemoveMessages g c = rw c.in-RemoveMessages.is c.remove_messages.ensures
+
+pub returns-in-RemoveCopies : goal.returns-in-RemoveCopies
+returns-in-RemoveCopies g c = rw c.in-RemoveCopies.is c.remove_copies.ensures
+
+pub returns-in-RemoveNotices : goal.returns-in-RemoveNotices
+returns-in-RemoveNotices g c = rw c.in-RemoveNotices.is c.remove_notices.ensures
+
+pub returns-in-RemoveEarlyNotices : goal.returns-in-RemoveEarlyNotices
+returns-in-RemoveEarlyNotices g c = rw c.in-RemoveEarlyNotices.is c.remove_early_notices.ensures

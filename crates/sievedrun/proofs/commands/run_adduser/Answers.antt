@@ -1,28 +1,28 @@
 -- The event's password is the first line of what was read, and the line is printed after it was made.
-use Rattle.std.proofs.Common.{Ok, Err, ◌≡◌, ◌++◌, codes, ap, ◌∙◌, rules}
+use Rattle.std.proofs.Common.{Ok, Err, ◌≡◌, ◌++◌, codes, ap, ◌∙◌, inl, inr, rules}
+use Rattle.std.specs.Option.{option_copied}
 use Rattle.mailengine.specs.declared.answer.Answer.TheVariants.{Added}
 use Rattle.mailengine.specs.declared.event.Event.TheVariants.{AddUser}
 use Rattle.reportlines.specs.Reports.{with_end}
 use Rattle.sievedrun.specs.Promise.{first_line}
 use Rattle.sievedrun.specs.Serving.{HasDenied}
-use Rattle.sievedrun.specs.Values.{IsNoSalt}
-use Rattle.sievedrun.specs.Streams.{InputFailed}
-use Rattle.sievedrun.specs.Words.{Adds, DeniedAtEnd}
-use Rattle.sievedrun.proofs.WordLemmas.{event_hindered, event_unmade, event_made, put_at_end, wrong, unread}
+use Rattle.sievedrun.specs.Values.{HasNoSalt}
+use Rattle.sievedrun.specs.Words.{Adds, DeniedAtEnd, SaltFailed}
+use Rattle.sievedrun.proofs.WordLemmas.{event_hindered, event_unmade, event_made, put_at_end, wrong, broken, unread}
 use Rattle.sievedrun.proofs.commands.run_adduser.Goals as goal
 
 pub returns-in_err-salt-clause-does : goal.returns-in_err-salt-clause-does
 returns-in_err-salt-clause-does g c tells =
     let user = c.args.asked in
-    event_hindered InputFailed (IsNoSalt user.salt.now) (DeniedAtEnd (HasDenied g.K.Keeper.refuses g.K.Keeper.will_wait c.args.asked.location) (g.R.Read.remaining c.args.input.now)) (Adds user.salt.now user.name.now user.address.now (g.R.Read.remaining c.args.input.now)) (g.W.Write.contents c.args.output.now)
-    (g.K.Keeper.holds c.args.keeper.now) c.in_err-salt.field-0.0 c.from_residual.result (search rules) (wrong InputFailed (IsNoSalt user.salt.now) (DeniedAtEnd (HasDenied g.K.Keeper.refuses g.K.Keeper.will_wait c.args.asked.location) (g.R.Read.remaining c.args.input.now)) _ c.in_err-salt.ensures.fault c.in_err-salt.ensures.none)
+    event_hindered (SaltFailed (option_copied user.salt) c.args.random) (HasNoSalt (option_copied user.salt)) (DeniedAtEnd (HasDenied g.K.Keeper.refuses g.K.Keeper.will_wait c.args.asked.location) (g.R.Read.remaining c.args.input.now)) (Adds (option_copied user.salt) c.args.random user.name.now user.address.now (g.R.Read.remaining c.args.input.now)) (g.W.Write.contents c.args.output.now)
+    (g.K.Keeper.holds c.args.keeper.now) c.in_err-salt.field-0.0 c.from_residual.result (search rules) (elim c.in_err-salt.ensures.fault [ inl bad ↦ wrong (SaltFailed (option_copied user.salt) c.args.random) (HasNoSalt (option_copied user.salt)) (DeniedAtEnd (HasDenied g.K.Keeper.refuses g.K.Keeper.will_wait c.args.asked.location) (g.R.Read.remaining c.args.input.now)) _ bad.0 bad.1 | inr none ↦ broken (SaltFailed (option_copied user.salt) c.args.random) (HasNoSalt (option_copied user.salt)) (DeniedAtEnd (HasDenied g.K.Keeper.refuses g.K.Keeper.will_wait c.args.asked.location) (g.R.Read.remaining c.args.input.now)) _ none.0 (inr (none.1, none.2)) ])
 
 pub returns-in_err-octets-clause-does : goal.returns-in_err-octets-clause-does
 returns-in_err-octets-clause-does g c tells =
     let user = c.args.asked in
     let fault = c.in_err-octets.field-0.0 in
-    event_hindered InputFailed (IsNoSalt user.salt.now) (DeniedAtEnd (HasDenied g.K.Keeper.refuses g.K.Keeper.will_wait c.args.asked.location) (g.R.Read.remaining c.read_all.new.input)) (Adds user.salt.now user.name.now user.address.now (g.R.Read.remaining c.args.input.now)) (g.W.Write.contents c.args.output.now)
-    (g.K.Keeper.holds c.args.keeper.now) fault c.from_residual-in_err-octets.result (search rules) (unread InputFailed (IsNoSalt user.salt.now) (DeniedAtEnd (HasDenied g.K.Keeper.refuses g.K.Keeper.will_wait c.args.asked.location) (g.R.Read.remaining c.read_all.new.input)) fault c.in_err-octets.ensures.err c.in_err-octets.ensures.failed)
+    event_hindered (SaltFailed (option_copied user.salt) c.args.random) (HasNoSalt (option_copied user.salt)) (DeniedAtEnd (HasDenied g.K.Keeper.refuses g.K.Keeper.will_wait c.args.asked.location) (g.R.Read.remaining c.read_all.new.input)) (Adds (option_copied user.salt) c.args.random user.name.now user.address.now (g.R.Read.remaining c.args.input.now)) (g.W.Write.contents c.args.output.now)
+    (g.K.Keeper.holds c.args.keeper.now) fault c.from_residual-in_err-octets.result (search rules) (unread (SaltFailed (option_copied user.salt) c.args.random) (HasNoSalt (option_copied user.salt)) (DeniedAtEnd (HasDenied g.K.Keeper.refuses g.K.Keeper.will_wait c.args.asked.location) (g.R.Read.remaining c.read_all.new.input)) fault c.in_err-octets.ensures.err (λ is. inl (c.in_err-octets.ensures.failed is)))
 
 pub returns-in_err-add-clause-does : goal.returns-in_err-add-clause-does
 returns-in_err-add-clause-does g c tells =
@@ -37,9 +37,9 @@ returns-in_err-add-clause-does g c tells =
     let line : password ≡ first_line octets = search rules in
     let same : event ≡ AddUser user.name.now user.address.now salt (first_line octets) =
     ap (λ n. AddUser n c.as_bytes-2.result.now salt password) name ∙ (ap (λ a. AddUser user.name.now a salt password) address ∙ ap (AddUser user.name.now user.address.now salt) line) in
-    event_unmade InputFailed (IsNoSalt user.salt.now) (DeniedAtEnd (HasDenied g.K.Keeper.refuses g.K.Keeper.will_wait c.args.asked.location) (g.R.Read.remaining c.read_all.new.input)) (Adds user.salt.now user.name.now user.address.now given) {X = Unit {0}} event
-    (record { octets = octets; read = c.in_ok-octets.ensures.ok; random = salt; salted = c.in_ok-salt.ensures.ok; same = same }) (λ done. Added) (g.K.Keeper.holds c.args.keeper.now) (g.K.Keeper.holds c.add.new.keeper)
-    (g.W.Write.contents c.args.output.now) (λ none. none salt c.in_ok-salt.ensures.ok) c.in_err-add.field-0.0 c.from_residual-in_err-add.result (search rules) (put_at_end {X = Unit {0}} (HasDenied g.K.Keeper.refuses g.K.Keeper.will_wait c.args.asked.location) (g.R.Read.remaining c.read_all.new.input) c.in_ok-octets.ensures.end event (λ done. Added) (Err c.in_err-add.field-0.0) (g.K.Keeper.holds c.args.keeper.now) (g.K.Keeper.holds c.add.new.keeper) (c.in_err-add.ensures.puts tells))
+    event_unmade (SaltFailed (option_copied user.salt) c.args.random) (HasNoSalt (option_copied user.salt)) (DeniedAtEnd (HasDenied g.K.Keeper.refuses g.K.Keeper.will_wait c.args.asked.location) (g.R.Read.remaining c.read_all.new.input)) (Adds (option_copied user.salt) c.args.random user.name.now user.address.now given) {X = Unit {0}} event
+    (record { octets = octets; read = c.in_ok-octets.ensures.ok; salt = salt; salted = c.in_ok-salt.ensures.ok; same = same }) (λ done. Added) (g.K.Keeper.holds c.args.keeper.now) (g.K.Keeper.holds c.add.new.keeper)
+    (g.W.Write.contents c.args.output.now) c.in_ok-salt.ensures.right c.in_err-add.field-0.0 c.from_residual-in_err-add.result (search rules) (put_at_end {X = Unit {0}} (HasDenied g.K.Keeper.refuses g.K.Keeper.will_wait c.args.asked.location) (g.R.Read.remaining c.read_all.new.input) c.in_ok-octets.ensures.end event (λ done. Added) (Err c.in_err-add.field-0.0) (g.K.Keeper.holds c.args.keeper.now) (g.K.Keeper.holds c.add.new.keeper) (c.in_err-add.ensures.puts tells))
 
 pub returns-clause-does : goal.returns-clause-does
 returns-clause-does g c tells =
@@ -57,6 +57,6 @@ returns-clause-does g c tells =
     let same : event ≡ AddUser user.name.now user.address.now salt (first_line octets) =
     ap (λ n. AddUser n c.as_bytes-2.result.now salt password) name ∙ (ap (λ a. AddUser user.name.now a salt password) address ∙ ap (AddUser user.name.now user.address.now salt) line) in
     let told : c.as_bytes-3.result.now ≡ c.as_bytes.result.now = search rules in
-    event_made InputFailed (IsNoSalt user.salt.now) (DeniedAtEnd (HasDenied g.K.Keeper.refuses g.K.Keeper.will_wait c.args.asked.location) (g.R.Read.remaining c.read_all.new.input)) (Adds user.salt.now user.name.now user.address.now given) {X = Unit {0}} event
-    (record { octets = octets; read = c.in_ok-octets.ensures.ok; random = salt; salted = c.in_ok-salt.ensures.ok; same = same }) (λ done. Added) (g.K.Keeper.holds c.args.keeper.now) (g.K.Keeper.holds c.add.new.keeper)
+    event_made (SaltFailed (option_copied user.salt) c.args.random) (HasNoSalt (option_copied user.salt)) (DeniedAtEnd (HasDenied g.K.Keeper.refuses g.K.Keeper.will_wait c.args.asked.location) (g.R.Read.remaining c.read_all.new.input)) (Adds (option_copied user.salt) c.args.random user.name.now user.address.now given) {X = Unit {0}} event
+    (record { octets = octets; read = c.in_ok-octets.ensures.ok; salt = salt; salted = c.in_ok-salt.ensures.ok; same = same }) (λ done. Added) (g.K.Keeper.holds c.args.keeper.now) (g.K.Keeper.holds c.add.new.keeper)
     tt (with_end (codes "added " ++ c.as_bytes-3.result.now)) (ap (λ n. with_end (codes "added " ++ n)) told) (put_at_end {X = Unit {0}} (HasDenied g.K.Keeper.refuses g.K.Keeper.will_wait c.args.asked.location) (g.R.Read.remaining c.read_all.new.input) c.in_ok-octets.ensures.end event (λ done. Added) (Ok tt) (g.K.Keeper.holds c.args.keeper.now) (g.K.Keeper.holds c.add.new.keeper) (c.in_ok-add.ensures.puts tells)) old new c.write_line.result c.write_line.ensures

@@ -7,7 +7,7 @@ use Rattle.mailstore.proofs.CallLemmas.{carries_account}
 use Rattle.mailstore.proofs.KeepLemmas.{writes}
 use Rattle.mailstore.proofs.store.Store.add_user.Goals as goal
 
-pub returns : goal.returns
-returns g c =
+pub returns-clause-writes : goal.returns-clause-writes
+returns-clause-writes g c =
     writes c.apply.result (state g.S.Store c.args.self.now) (state g.S.Store c.apply.new.self) (AddAccount c.args.name c.args.address c.args.salt c.args.rounds c.args.digest ∷ []) (IsFree c.args.name.now) (new_user c.args.name.now c.args.address.now c.args.salt.now c.args.rounds c.args.digest.now)
     (carries_account c.args.name c.args.address c.args.salt c.args.rounds c.args.digest) c.apply.ensures.made c.apply.ensures.settled c.apply.ensures.same c.apply.ensures.crash c.apply.ensures.named

@@ -7,6 +7,7 @@ use Rattle.mailstore.specs.Refusals.{IsTransient}
 use Rattle.mailstore.specs.declared.refusal.Refusal.TheVariants.{Memory}
 use Rattle.mailstore.proofs.DeliveryLemmas.{delivery_shows, stores_once}
 use Rattle.mailstore.proofs.KeepLemmas.{account_absent}
+use Rattle.mailstore.proofs.StandingLemmas.{free_shut}
 use Rattle.mailstore.proofs.AfterLemmas.{writes_then, write_refused, write_failed}
 use Rattle.mailstore.proofs.store.Store.commit_delivery.Goals as goal
 
@@ -38,7 +39,7 @@ returns-in_err-counters-clause-writes g c =
     let e = c.in_err-counters.field-0.0 in
     let is : c.from_residual.result ≡ Err e = search rules in
     let read = c.in_err-counters.ensures in
-    write_refused old new c.counters.result c.args.user.now (delivers c.args.plan.now) e c.from_residual.result is c.counters.ensures.keeps (λ clean accounts p none. account_absent accounts c.args.user.now p.0 p.2 (read.absent clean p.0 p.1 none)) read.named
+    write_refused old new c.counters.result c.args.user.now (delivers c.args.plan.now) e c.from_residual.result is c.counters.ensures.keeps (λ clean accounts p none. free_shut accounts c.args.user.now (account_absent accounts c.args.user.now p.0 p.2 (read.absent clean p.0 p.1 none))) read.named
 
 pub returns-in_err-folded-clause-writes : goal.returns-in_err-folded-clause-writes
 returns-in_err-folded-clause-writes g c =

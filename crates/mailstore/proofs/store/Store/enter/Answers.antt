@@ -1,7 +1,7 @@
-use Rattle.std.proofs.Common.{◌≡◌, Ok, Some, None, OnOk, IfErr, rules}
+use Rattle.std.proofs.Common.{◌≡◌, ◌∙◌, sym, Ok, Some, None, OnOk, IfErr, rules}
 use Rattle.sqlite.specs.Held.{state}
 use Rattle.mailstore.specs.Refusals.{IsTransient}
-use Rattle.mailstore.proofs.AfterLemmas.{account_entered, account_missing, account_unread}
+use Rattle.mailstore.proofs.AfterLemmas.{account_entered, account_shut, account_missing, account_unread}
 use Rattle.mailstore.proofs.store.Store.enter.Goals as goal
 
 pub returns-in_err-profile : goal.returns-in_err-profile
@@ -15,7 +15,12 @@ returns-in_default g c =
     let is : c.account.result ≡ Ok None = cc in
     account_missing c.args.user.now (state g.S.Store c.args.self.now) (state g.S.Store c.account.new.self) c.account.result c.account.ensures is
 
+pub returns-then-is_closed : goal.returns-then-is_closed
+returns-then-is_closed g c =
+    let is : c.account.result ≡ Ok (Some c.in-Some.profile) = cc in
+    account_shut c.args.user.now (state g.S.Store c.args.self.now) (state g.S.Store c.account.new.self) c.account.result c.account.ensures c.in-Some.profile is (sym c.is_closed.ensures ∙ c.if-is_closed.true)
+
 pub returns : goal.returns
 returns g c =
     let is : c.account.result ≡ Ok (Some c.in-Some.profile) = cc in
-    account_entered c.args.user.now (state g.S.Store c.args.self.now) (state g.S.Store c.account.new.self) c.account.result c.account.ensures c.in-Some.profile is
+    account_entered c.args.user.now (state g.S.Store c.args.self.now) (state g.S.Store c.account.new.self) c.account.result c.account.ensures c.in-Some.profile is (sym c.is_closed.ensures ∙ c.if-is_closed.false)

@@ -1,0 +1,13 @@
+use Rattle.std.proofs.Common.{[], ◌∷◌}
+use Rattle.sqlite.specs.Held.{state}
+use Rattle.mailtables.specs.declared.change.Change.TheVariants.{SetRounds}
+use Rattle.mailstore.specs.Account.{with_user, opens}
+use Rattle.mailstore.specs.Promises.{HasUser}
+use Rattle.mailstore.proofs.UpkeepLemmas.{carries_rounds}
+use Rattle.mailstore.proofs.KeepLemmas.{writes}
+use Rattle.mailstore.proofs.store.Store.open_account.Goals as goal
+
+pub returns : goal.returns
+returns g c =
+    writes c.apply.result (state g.S.Store c.args.self.now) (state g.S.Store c.apply.new.self) (SetRounds c.args.user c.args.rounds ∷ []) (HasUser c.args.user.now) (λ all. with_user all c.args.user.now (opens c.args.rounds))
+    (carries_rounds c.args.user c.args.rounds) c.apply.ensures.made c.apply.ensures.settled c.apply.ensures.same c.apply.ensures.crash c.apply.ensures.named

@@ -1,0 +1,8 @@
+use Rattle.mailtables.proofs.WriteLemmas.{statement_makes}
+use Rattle.mailtables.proofs.StatementLemmas.{sets_rounds}
+use Rattle.mailtables.proofs.account.set_rounds.Goals as goal
+
+pub returns : goal.returns
+returns g c =
+    statement_makes g.S.Store _ _ _ c.args.tx.now c.execute.new.tx c.execute.result (sets_rounds _ _ c.args.name.now c.args.rounds)
+    (rw (c.params-to_sql.ensures, c.params-to_sql-2.ensures) at c.execute.ensures)

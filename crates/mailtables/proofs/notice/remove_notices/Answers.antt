@@ -1,0 +1,8 @@
+use Rattle.mailtables.proofs.WriteLemmas.{statement_makes}
+use Rattle.mailtables.proofs.StatementLemmas.{removes_notices}
+use Rattle.mailtables.proofs.notice.remove_notices.Goals as goal
+
+pub returns : goal.returns
+returns g c =
+    statement_makes g.S.Store _ _ _ c.args.tx.now c.execute.new.tx c.execute.result (removes_notices _ _ c.args.owner.now)
+    (rw c.params-to_sql.ensures at c.execute.ensures)

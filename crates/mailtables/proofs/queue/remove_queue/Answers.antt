@@ -1,0 +1,8 @@
+use Rattle.mailtables.proofs.WriteLemmas.{statement_makes}
+use Rattle.mailtables.proofs.StatementLemmas.{removes_queue}
+use Rattle.mailtables.proofs.queue.remove_queue.Goals as goal
+
+pub returns : goal.returns
+returns g c =
+    statement_makes g.S.Store _ _ _ c.args.tx.now c.execute.new.tx c.execute.result (removes_queue _ _ c.args.owner.now)
+    (rw c.params-to_sql.ensures at c.execute.ensures)
