@@ -1,15 +1,20 @@
 -- Events of others, and what follows them, on accounts that are kept in memory.
-use Rattle.std.proofs.Common.{◌≡◌, ℕ, inl, inr, true, List, [], ◌∷◌, ◌++◌, ◌∙◌, refl, ap}
+use Rattle.std.proofs.Common.{◌≡◌, ℕ, inl, inr, true, List, [], ◌∷◌, ◌++◌, ◌∙◌, refl, sym, ap, subst}
 use Rattle.lmtp.specs.declared.receiver.Lookup.{Lookup}
 use Rattle.mailstore.specs.Account.{Accounts}
 use Rattle.mailengine.specs.Hosts.{Kept}
 use Rattle.mailengine.specs.World.{World, Clients, Next}
 use Rattle.mailengine.specs.declared.answer.Answer.{Answer}
 use Rattle.mailengine.specs.declared.event.Event.{Event}
-use Rattle.mailengine.specs.declared.event.Event.TheVariants.{Deliver, AddUser, TakeOut, TakeMail}
+use Rattle.mailengine.specs.declared.event.Event.TheVariants.{Deliver, AddUser, TakeOut, TakeMail, Keep}
 use Rattle.sieveddaemon.specs.Desk.{IsOthers, AreOthers, IsDone, IsAsked}
 use Rattle.sieveddaemon.proofs.EventLemmas.{runs_then, runs_one}
-use Rattle.daemonfakes.specs.Shelves.{IsApplied, IsSought, LetsOthers, is_of_accounts}
+use Rattle.mailmoves.specs.declared.moving.Moving.{Moving}
+use Rattle.mailmoves.specs.declared.moving.Moving.TheVariants as moving
+use Rattle.mailsinks.specs.declared.kept.KeptMail.{KeptMail}
+use Rattle.sieveddaemon.specs.Moves.{HasKept, IsMoved}
+use Rattle.sieveddaemon.proofs.MoveLemmas.{moved_then}
+use Rattle.daemonfakes.specs.Shelves.{IsApplied, IsSought, IsMovedOn, LetsOthers, StillHas, is_of_accounts}
 
 -- no event
 pub lets_none : {S : Type 0} (holds : S → Accounts → Type 0) (s : S) (kept : Kept) → LetsOthers holds [] s kept s kept
@@ -21,6 +26,7 @@ stranger sessions (Deliver user envelope message moment) is = tt
 stranger sessions (AddUser name address salt password) is = tt
 stranger sessions (TakeOut user id) is = tt
 stranger sessions (TakeMail user folder) is = tt
+stranger sessions (Keep user upkeep) is = tt
 stranger sessions _ is = let never : ⊥ = cc in absurd never
 
 apart_at : (w next : World) (event : Event) (answer : Answer) → is_of_accounts event ≡ true → Next w event answer next → next.sessions ≡ w.sessions
@@ -29,6 +35,7 @@ apart_at w next (Deliver user envelope message moment) answer is (inl made) = ap
 apart_at w next (AddUser name address salt password) answer is (inl made) = ap (λ (v : World). v.sessions) made.2
 apart_at w next (TakeOut user id) answer is (inl made) = ap (λ (v : World). v.sessions) made.2
 apart_at w next (TakeMail user folder) answer is (inl made) = ap (λ (v : World). v.sessions) made.2
+apart_at w next (Keep user upkeep) answer is (inl made) = ap (λ (v : World). v.sessions) made.2
 apart_at w next _ answer is (inl made) = let never : ⊥ = cc in absurd never
 
 strangers_then : (sessions : Clients) (others : List Event) (event : Event) → AreOthers sessions others → IsOthers sessions event → AreOthers sessions (others ++ event ∷ [])
@@ -69,3 +76,18 @@ asked_behind holds others user lookup s mid t before between lets sought = λ w 
       record { strangers = let_them.1.strangers; told = let_them.1.told; theirs = let_them.1.runs; apart = let_them.1.apart; found = seen.0 },
       record { shown = seen.1; sessions = let_them.2.sessions },
     )
+
+-- and then a message moves on
+pub moved_behind : {S : Type 0} (holds : S → Accounts → Type 0) (others : List Event) (m : Moving) (s mid t : S) (before between : Kept) → LetsOthers holds others s before mid between → IsMovedOn holds m mid t → IsMoved holds others m s before t between
+moved_behind holds others m s mid t before between lets moved = λ w is.
+    let let_them = lets w is in
+    let it = moved let_them.0.accounts let_them.2.shown in
+    moved_then holds others t between w let_them.0 (record { strangers = let_them.1.strangers; told = let_them.1.told; theirs = let_them.1.runs; apart = let_them.1.apart }) let_them.2.sessions m it.0 it.1 it.2
+
+-- which the sink has, where others' events leave what it has
+pub kept_behind : {S : Type 0} (has : S → List KeptMail → Type 0) (m : Moving) (s mid t u : S) → StillHas has s mid → u ≡ t → HasKept has m mid t → HasKept has m s u
+kept_behind has (moving.Kept mail answer) s mid t u still same kept = λ mails had. subst (λ x. has x (mails ++ mail ∷ [])) (sym same) (kept mails (still mails had))
+kept_behind has moving.Nothing s mid t u still same kept = tt
+kept_behind has moving.Passed s mid t u still same kept = tt
+kept_behind has (moving.Failed refusal) s mid t u still same kept = tt
+kept_behind has (moving.Stays stay) s mid t u still same kept = tt

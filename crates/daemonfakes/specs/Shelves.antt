@@ -3,10 +3,13 @@ use Rattle.std.specs.Prelude.{◌≡◌, ℕ, Bool, true, false, List}
 use Rattle.lmtp.specs.declared.receiver.Lookup.{Lookup}
 use Rattle.mailstore.specs.Account.{Accounts}
 use Rattle.mailengine.specs.Hosts.{Kept}
+use Rattle.mailsinks.specs.declared.kept.KeptMail.{KeptMail}
+use Rattle.mailmoves.specs.Moving.{Moves}
+use Rattle.mailmoves.specs.declared.moving.Moving.{Moving}
 use Rattle.mailengine.specs.World.{World, Next, Runs}
 use Rattle.mailengine.specs.declared.answer.Answer.{Answer}
 use Rattle.mailengine.specs.declared.event.Event.{Event}
-use Rattle.mailengine.specs.declared.event.Event.TheVariants.{Deliver, AddUser, TakeOut, TakeMail}
+use Rattle.mailengine.specs.declared.event.Event.TheVariants.{Deliver, AddUser, TakeOut, TakeMail, Keep}
 use Rattle.sieveddaemon.specs.Desk.{IsWorld, AreOthers, IsFoundIn}
 
 -- whatever accounts were had, the event with this answer leads from them to those that are had
@@ -16,6 +19,14 @@ IsApplied holds event answer s before t after = (w : World) → IsWorld holds s 
 -- that was found of an account of that name, and whatever accounts were had are had
 abbrev pub IsSought : {S : Type 0} → (S → Accounts → Type 0) → List ℕ → Lookup → S → S → Type 0
 IsSought holds user lookup s t = (accounts : Accounts) → holds s accounts → IsFoundIn accounts user lookup × holds t accounts
+
+-- a message moved on so, whatever accounts were had
+abbrev pub IsMovedOn : {S : Type 0} → (S → Accounts → Type 0) → Moving → S → S → Type 0
+IsMovedOn holds moving s t = (accounts : Accounts) → holds s accounts → (later : Accounts) × Moves moving accounts later × holds t later
+
+-- the messages that moved on are those that did
+abbrev pub StillHas : {S : Type 0} → (S → List KeptMail → Type 0) → S → S → Type 0
+StillHas has s t = (mails : List KeptMail) → has s mails → has t mails
 
 -- events of others lead from whatever accounts were had to those that are had, and no session is another
 pub record LetsAt (others : List Event) (w between : World) : Type 0 where
@@ -33,4 +44,5 @@ is_of_accounts (Deliver user envelope message moment) = true
 is_of_accounts (AddUser name address salt password) = true
 is_of_accounts (TakeOut user id) = true
 is_of_accounts (TakeMail user folder) = true
+is_of_accounts (Keep user upkeep) = true
 is_of_accounts event = false

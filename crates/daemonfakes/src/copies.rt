@@ -84,6 +84,7 @@ pub fn is_of_accounts(event: &Event) -> bool
         Event::AddUser { .. } => true,
         Event::TakeOut { .. } => true,
         Event::TakeMail { .. } => true,
+        Event::Keep { .. } => true,
         _ => false,
     }
 }

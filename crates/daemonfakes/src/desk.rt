@@ -4,12 +4,13 @@ ghost use Rattle.wires.specs.Told.{IsOwn};
 ghost use Rattle.wires.specs.declared.act.Act.TheVariants.{Noted};
 ghost use Rattle.mailengine.specs.Hosts.{Kept, IsGivenUp};
 ghost use Rattle.sieveddaemon.specs.Desk.{Carries};
-ghost use Rattle.daemonfakes.specs.Shelves.{LetsOthers, is_of_accounts};
+ghost use Rattle.daemonfakes.specs.Shelves.{LetsOthers, StillHas, is_of_accounts};
 
 use crate::copies::{copy_answer, copy_delivery, copy_event, is_of_accounts};
 use crate::shelf::Shelf;
 use lmtp::Lookup;
 use mailengine::{Answer, Clients, Event};
+use mailmoves::span_behind;
 use mailposts::Parcel;
 use octets::{List, Octets};
 use sieveddaemon::desk::Desk;
@@ -147,6 +148,7 @@ impl<S: Shelf + Drop> DeskFake<S> {
 
     /// Lets all events of others happen that wait, each where there is room to tell it, and tells which did.
     fn let_others(&mut self, clients: &mut Clients) -> List<Event>
+        ensures still { StillHas S.has self.old.stage.fake.rest self.new.stage.fake.rest }
         ensures others { LetsOthers S.holds result self.old.stage.fake.rest clients.old.sessions self.new.stage.fake.rest clients.new.sessions }
         ensures acts { self.new.stage.fake.acts ≡ self.old.stage.fake.acts }
         ensures lost { self.new.stage.fake.lost ≡ self.old.stage.fake.lost }
@@ -161,6 +163,7 @@ impl<S: Shelf + Drop> DeskFake<S> {
     /// Lets an event happen, where it is one of accounts and there is room to tell it, and tells it behind those before it.
     fn let_one(&mut self, clients: &mut Clients, event: Event, others: &mut Vec<Event>)
         ensures lets { (s : S) (kept : Kept) → LetsOthers S.holds others.old.items s kept self.old.stage.fake.rest clients.old.sessions → LetsOthers S.holds others.new.items s kept self.new.stage.fake.rest clients.new.sessions }
+        ensures still { StillHas S.has self.old.stage.fake.rest self.new.stage.fake.rest }
         ensures acts { self.new.stage.fake.acts ≡ self.old.stage.fake.acts }
         ensures lost { self.new.stage.fake.lost ≡ self.old.stage.fake.lost }
         ensures left { self.new.others ≡ self.old.others }
@@ -179,7 +182,8 @@ fn change_other<S: Shelf + Drop>(
     others: &mut Vec<Event>,
 )
     requires { is_of_accounts event ≡ true }
-    ensures { (s : S) (kept : Kept) → LetsOthers S.holds others.old.items s kept shelf.old clients.old.sessions → LetsOthers S.holds others.new.items s kept shelf.new clients.new.sessions }
+    ensures still { StillHas S.has shelf.old shelf.new }
+    ensures lets { (s : S) (kept : Kept) → LetsOthers S.holds others.old.items s kept shelf.old clients.old.sessions → LetsOthers S.holds others.new.items s kept shelf.new clients.new.sessions }
 {
     if others.reserve(1).is_err() {
         return;
@@ -306,6 +310,20 @@ impl<S: Shelf + Drop> Desk for DeskFake<S> {
                 None
             }
         }
+    }
+
+    ghost has = { S.has };
+
+    fn move_on(&mut self, clients: &mut Clients, now: u64, fresh: bool) -> Option<u64> {
+        if self.is_away() {
+            self.stage.keep(Act::Worked(Note::Away));
+            return None;
+        }
+        let others = self.let_others(clients);
+        let moving = self.stage.fake.rest.move_on(now, fresh);
+        let span = span_behind(&moving);
+        self.stage.keep(Act::Worked(Note::Moved { others, moving }));
+        Some(span)
     }
 
     fn tell_answered(&mut self, id: u32) {

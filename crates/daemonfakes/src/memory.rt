@@ -4,15 +4,19 @@ ghost use Rattle.std.specs.Prelude.{◌≡◌};
 use crate::shelf::Shelf;
 use lmtp::Lookup;
 use mailengine::{Answer, Clients, Event, Refusal, apply};
+use mailmoves::{Moving, Route, move_next};
+use mailsinks::MemorySink;
 use mailstore::Store;
 use sieveddaemon::account::find_account;
 use sqlite::MemStore;
 use std::alloc::AllocError;
 
-/// A store of mailengine, in memory.
+/// A store of mailengine, in memory, and where its mail moves on to.
 #[derive(Drop)]
 pub struct MemShelf {
     pub store: Store<MemStore>,
+    pub sink: MemorySink,
+    pub route: Route,
 }
 
 impl Shelf for MemShelf {
@@ -21,6 +25,8 @@ impl Shelf for MemShelf {
     ghost use Rattle.sessions.specs.Acts.{HasAccounts};
 
     ghost holds = { λ shelf accounts. HasAccounts (state over_memory shelf.store) accounts };
+
+    ghost has = { λ shelf mails. shelf.sink.messages ≡ mails };
 
     fn change(&mut self, clients: &mut Clients, event: &Event) -> Answer {
         match apply(clients, &mut self.store, event) {
@@ -31,5 +37,9 @@ impl Shelf for MemShelf {
 
     fn find(&mut self, user: &[u8]) -> Lookup {
         find_account(&mut self.store, user)
+    }
+
+    fn move_on(&mut self, now: u64, fresh: bool) -> Moving {
+        move_next(&mut self.store, &mut self.sink, &mut self.route, now, fresh)
     }
 }

@@ -2,23 +2,36 @@
 ghost use Rattle.mailstore.specs.Account.{Accounts};
 ghost use Rattle.mailposts.specs.Posts.{IsFound};
 ghost use Rattle.mailengine.specs.Hosts.{IsGivenUp};
-ghost use Rattle.daemonfakes.specs.Shelves.{IsApplied, IsSought};
+ghost use Rattle.std.specs.Prelude.{List};
+ghost use Rattle.mailsinks.specs.declared.kept.KeptMail.{KeptMail};
+ghost use Rattle.sieveddaemon.specs.Moves.{HasKept};
+ghost use Rattle.daemonfakes.specs.Shelves.{IsApplied, IsSought, IsMovedOn, StillHas};
 
 use lmtp::Lookup;
 use mailengine::{Answer, Clients, Event};
+use mailmoves::Moving;
 
 /// Accounts that events change, with the sessions beside them.
 pub trait Shelf {
     /// Which accounts it has.
     ghost holds: { Self → Accounts → Type 0 };
 
+    /// The messages that moved on.
+    ghost has: { Self → List KeptMail → Type 0 };
+
     /// One event, as [`mailengine::apply`] applies it.
     fn change(&mut self, clients: &mut Clients, event: &Event) -> Answer
         requires { ¬ IsGivenUp event.now }
-        ensures { IsApplied holds event.now result self.old clients.old.sessions self.new clients.new.sessions };
+        ensures applied { IsApplied holds event.now result self.old clients.old.sessions self.new clients.new.sessions }
+        ensures still { StillHas has self.old self.new };
 
     /// Whether there is an account of that name.
     fn find(&mut self, user: &[u8]) -> Lookup
         ensures found { IsFound result }
         ensures sought { IsSought holds user.now result self.old self.new };
+
+    /// Has the first message of a folder move on, as [`mailmoves::move_next`] has it.
+    fn move_on(&mut self, now: u64, fresh: bool) -> Moving
+        ensures moves { IsMovedOn holds result self.old self.new }
+        ensures keeps { HasKept has result self.old self.new };
 }

@@ -1,5 +1,5 @@
 -- What a store shows that is had now and then, from one call to the next.
-use Rattle.std.proofs.Common.{◌≡◌, ℕ, Bool, false, List, [], Option, Some, None, Result, IsTrue, refl, sym, subst, inl}
+use Rattle.std.proofs.Common.{◌≡◌, ℕ, Bool, false, List, [], ◌∷◌, ◌++◌, Option, Some, None, Result, IsTrue, refl, sym, ◌∙◌, ap, subst, inl}
 use Rattle.sqlite_trees.specs.declared.store.Store.{Ghosts}
 use Rattle.sqlite.specs.Effect.{Database}
 use Rattle.sqlite.specs.Held.{Held, state}
@@ -19,8 +19,15 @@ use Rattle.mailengine.specs.declared.answer.Answer.TheVariants.{Delivered}
 use Rattle.mailengine.proofs.HostLemmas.{account_event, delivery_may}
 use Rattle.mailengine.specs.declared.answer.Answer.{Answer}
 use Rattle.mailengine.specs.declared.event.Event.{Event}
+use Rattle.mailsinks.specs.declared.kept.KeptMail.{KeptMail}
+use Rattle.mailmoves.specs.Moving.{KeepsIt, Moves}
+use Rattle.mailmoves.specs.declared.moving.Moving.{Moving}
+use Rattle.mailmoves.specs.declared.moving.Moving.TheVariants as moving
+use Rattle.sieveddaemon.specs.Moves.{HasKept, IsMoved}
+use Rattle.sieveddaemon.proofs.MoveLemmas.{let_none, moved_then}
 use Rattle.sieveddaemon.specs.Desk.{StillShows, IsDone, IsAsked, IsFoundIn, NothingDone, delivery_of}
-use Rattle.daemonhosts.specs.Held.{ShowsBy}
+use Rattle.daemonhosts.specs.Held.{HasMail, ShowsBy}
+use Rattle.daemonhosts.specs.declared.held.HeldStore.{HeldStore}
 
 -- tables of ours are tables that `open` takes
 presented : (db : Database) (accounts : Accounts) → Presents db accounts → Offers db accounts
@@ -78,3 +85,26 @@ delivered_as parcel moment user message envelope old new kept r is_user is_envel
     (subst (λ e. ActsDelivery user e parcel.message moment old new r) is_envelope (subst (λ m. ActsDelivery user envelope m moment old new r) is_message acts)) in
     account_event (delivery_of parcel moment) (λ accounts. Delivery accounts parcel.user own parcel.message moment) (MayRefuseDelivery own parcel.message moment) (λ w answer next done. done)
     (delivery_may parcel.user parcel.message own moment) old new kept Delivered r made
+
+-- what a sink keeps, as the daemon sees it
+pub has_kept : {K S T : Type 0} (tells : Bool) (kept : T → List KeptMail) (r q : HeldStore K T S) (m : Moving) → KeepsIt tells (kept r.sink) (kept q.sink) m → HasKept (HasMail tells kept) m r q
+has_kept tells kept r q (moving.Kept mail answer) keeps = λ mails had told. keeps told ∙ ap (λ l. l ++ mail ∷ []) (had told)
+has_kept tells kept r q moving.Nothing keeps = tt
+has_kept tells kept r q moving.Passed keeps = tt
+has_kept tells kept r q (moving.Failed refusal) keeps = tt
+has_kept tells kept r q (moving.Stays stay) keeps = tt
+
+-- the same behind calls that leave the sink as it is
+pub kept_behind : {K S T : Type 0} (tells : Bool) (kept : T → List KeptMail) (r a b q : HeldStore K T S) (m : Moving) → a.sink ≡ r.sink → q ≡ b → HasKept (HasMail tells kept) m a b → HasKept (HasMail tells kept) m r q
+kept_behind tells kept r a b q (moving.Kept mail answer) same then has = λ mails had.
+    subst (λ held. HasMail tells kept held (mails ++ mail ∷ [])) (sym then) (has mails (λ told. ap kept same ∙ had told))
+kept_behind tells kept r a b q moving.Nothing same then has = tt
+kept_behind tells kept r a b q moving.Passed same then has = tt
+kept_behind tells kept r a b q (moving.Failed refusal) same then has = tt
+kept_behind tells kept r a b q (moving.Stays stay) same then has = tt
+
+-- a message moved on, and nobody came between
+pub moved_alone : {R : Type 0} (shows : R → Accounts → Type 0) (r q : R) (m : Moving) (kept : Kept) → ((accounts : Accounts) → shows r accounts → (later : Accounts) × Moves m accounts later × shows q later) → IsMoved shows [] m r kept q kept
+moved_alone shows r q m kept moves = λ w is.
+    let it = moves w.accounts is.shown in
+    moved_then shows [] q kept w w (let_none w) is.sessions m it.0 it.1 it.2

@@ -9,6 +9,9 @@ use Rattle.mailstore.specs.Account.{Accounts}
 use Rattle.mailstore.specs.Shows.{Offers}
 use Rattle.sessions.specs.Acts.{HasAccounts}
 use Rattle.mailengine.specs.Hosts.{Kept}
+use Rattle.mailmoves.specs.Moving.{Moves}
+use Rattle.mailmoves.specs.declared.moving.Moving.{Moving}
+use Rattle.mailsinks.specs.declared.kept.KeptMail.{KeptMail}
 use Rattle.mailengine.specs.declared.answer.Answer.{Answer}
 use Rattle.mailengine.specs.declared.event.Event.{Event}
 use Rattle.keepers.specs.declared.keeper.Unavailable.{Unavailable}
@@ -26,14 +29,14 @@ IsCleanBy g tells (Some store) = HasCleanDisk (state g store)
 IsCleanBy g tells None = IsTrue tells
 
 -- of a keeper, and its store while it is had
-abbrev pub Shows : {K S : Type 0} → Ghosts S → Bool → (K → Database) → HeldStore K S → Accounts → Type 0
+abbrev pub Shows : {K S T : Type 0} → Ghosts S → Bool → (K → Database) → HeldStore K T S → Accounts → Type 0
 Shows g tells holds held accounts = ShowsBy g tells (holds held.keeper) held.store accounts
 
-abbrev pub IsClean : {K S : Type 0} → Ghosts S → Bool → HeldStore K S → Type 0
+abbrev pub IsClean : {K S T : Type 0} → Ghosts S → Bool → HeldStore K T S → Type 0
 IsClean g tells held = IsCleanBy g tells held.store
 
 -- whatever accounts were shown, they are shown
-abbrev pub StillShown : {K S : Type 0} → Ghosts S → Bool → (K → Database) → HeldStore K S → HeldStore K S → Type 0
+abbrev pub StillShown : {K S T : Type 0} → Ghosts S → Bool → (K → Database) → HeldStore K T S → HeldStore K T S → Type 0
 StillShown g tells holds held later = StillShows (Shows g tells holds) held later
 
 -- the event was done, and no other process came between; or nothing was
@@ -41,7 +44,7 @@ abbrev pub Changes : {R : Type 0} → (R → Accounts → Type 0) → (R → Typ
 Changes shows clean event (Some answer) r before q after = clean q → IsDone shows [] event answer r before q after
 Changes shows clean event None r before q after = NothingDone shows r before q after
 
-abbrev pub Brings : {K S : Type 0} → Ghosts S → Bool → (K → Database) → Event → Option Answer → HeldStore K S → Kept → HeldStore K S → Kept → Type 0
+abbrev pub Brings : {K S T : Type 0} → Ghosts S → Bool → (K → Database) → Event → Option Answer → HeldStore K T S → Kept → HeldStore K T S → Kept → Type 0
 Brings g tells holds event answer held before later after = Changes (Shows g tells holds) (IsClean g tells) event answer held before later after
 
 -- a keeper that waits for nobody refused the store at this path so
@@ -57,5 +60,17 @@ abbrev pub Finds : {R : Type 0} → (R → Accounts → Type 0) → (R → Type 
 Finds shows clean user (Some lookup) r q = clean q → (accounts : Accounts) → shows r accounts → IsFoundIn accounts user lookup × shows q accounts
 Finds shows clean user None r q = StillShows shows r q
 
-abbrev pub Seeks : {K S : Type 0} → Ghosts S → Bool → (K → Database) → List ℕ → Option Lookup → HeldStore K S → HeldStore K S → Type 0
+abbrev pub Seeks : {K S T : Type 0} → Ghosts S → Bool → (K → Database) → List ℕ → Option Lookup → HeldStore K T S → HeldStore K T S → Type 0
 Seeks g tells holds user lookup held later = Finds (Shows g tells holds) (IsClean g tells) user lookup held later
+
+-- a message moved on so, whatever accounts were shown; or nothing was asked
+abbrev pub MovesBy : {R : Type 0} → (R → Accounts → Type 0) → (R → Type 0) → Option Moving → R → R → Type 0
+MovesBy shows clean (Some moving) r q = clean q → (accounts : Accounts) → shows r accounts → (later : Accounts) × Moves moving accounts later × shows q later
+MovesBy shows clean None r q = StillShows shows r q
+
+abbrev pub Goes : {K S T : Type 0} → Ghosts S → Bool → (K → Database) → Option Moving → HeldStore K T S → HeldStore K T S → Type 0
+Goes g tells holds moving held later = MovesBy (Shows g tells holds) (IsClean g tells) moving held later
+
+-- the messages that the sink has, where it tells them
+abbrev pub HasMail : {K S T : Type 0} → Bool → (T → List KeptMail) → HeldStore K T S → List KeptMail → Type 0
+HasMail tells kept held mails = IsTrue tells → kept held.sink ≡ mails

@@ -3,31 +3,43 @@ ghost use Rattle.std.specs.Prelude.{◌≡◌, None, IsTrue, IfErr, IfOk, IfSome
 ghost use Rattle.mailposts.specs.Posts.{IsFound};
 ghost use Rattle.mailengine.specs.Hosts.{IsGivenUp, Kept};
 ghost use Rattle.sieveddaemon.specs.Desk.{delivery_of};
-ghost use Rattle.daemonhosts.specs.Held.{IsClean, StillShown, Brings, DeniesAtOnce, GivesAtOnce, Seeks};
+ghost use Rattle.daemonhosts.specs.Held.{IsClean, StillShown, Brings, DeniesAtOnce, GivesAtOnce, Goes, HasMail, Seeks};
+ghost use Rattle.sieveddaemon.specs.Moves.{HasKept};
 
 use keepers::{Keeper, Unavailable};
 use lmtp::Lookup;
 use mailengine::{Answer, Clients, Envelope, Event, Refusal, apply, deliver};
+use mailmoves::{Moving, Route, move_next};
 use mailposts::Parcel;
+use mailsinks::MailSink;
 use mailstore::Store;
 use sieveddaemon::account::find_account;
 use sqlite::ErrorCode;
 use std::alloc::{AllocError, Global};
+use std::io::ErrorKind;
 
 /// The keeper of a store, and the store while it is had.
 #[derive(Drop)]
-pub struct HeldStore<K: Keeper + Drop> {
+pub struct HeldStore<K: Keeper + Drop, T: MailSink + Drop> {
     keeper: K,
     store: Option<Store<K::S>>,
+    /// Who keeps the mail that moves on.
+    sink: T,
 }
 
-impl<K: Keeper + Drop> HeldStore<K> {
+impl<K: Keeper + Drop, T: MailSink + Drop> HeldStore<K, T> {
     /// The store isn't had yet.
-    pub fn new(keeper: K) -> HeldStore<K> {
+    pub fn new(keeper: K, sink: T) -> HeldStore<K, T> {
         HeldStore {
             keeper,
             store: None,
+            sink,
         }
+    }
+
+    /// What the system said of the last failure of the sink.
+    pub fn sink_cause(&self) -> Option<ErrorKind> {
+        self.sink.cause()
     }
 
     /// Whether the store is had.
@@ -48,6 +60,7 @@ impl<K: Keeper + Drop> HeldStore<K> {
     /// Whether somebody waits for the store.
     pub fn is_awaited(&mut self, path: &str) -> bool
         ensures shown { StillShown K.S.Store K.tells K.holds self.old self.new }
+        ensures sink { self.new.sink ≡ self.old.sink }
     {
         self.keeper.is_awaited(path)
     }
@@ -60,6 +73,7 @@ impl<K: Keeper + Drop> HeldStore<K> {
     pub fn take(&mut self, path: &str) -> Result<(), Unavailable>
         ensures denied { IfErr result (DeniesAtOnce K.refuses K.will_wait path.now) }
         ensures given { OnOk result (self.old.store ≡ None → GivesAtOnce K.gives K.will_wait path.now) }
+        ensures sink { self.new.sink ≡ self.old.sink }
         ensures shown { StillShown K.S.Store K.tells K.holds self.old self.new }
     {
         if self.store.is_some() {
@@ -125,6 +139,17 @@ impl<K: Keeper + Drop> HeldStore<K> {
             Ok(report) => Some(Answer::Delivered(report)),
             Err(refusal) => Some(Answer::Refused(refusal)),
         }
+    }
+
+    /// Has the first message of a folder move on, as [`mailmoves::move_next`] has it. None where the store isn't had.
+    pub fn move_on(&mut self, route: &mut Route, now: u64, fresh: bool) -> Option<Moving>
+        ensures moves { Goes K.S.Store K.tells K.holds result self.old self.new }
+        ensures keeps { IfSome result (λ moving. HasKept (HasMail T.tells T.kept) moving self.old self.new) }
+    {
+        let Some(store) = &mut self.store else {
+            return None;
+        };
+        Some(move_next(store, &mut self.sink, route, now, fresh))
     }
 }
 

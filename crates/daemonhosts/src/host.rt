@@ -4,22 +4,21 @@ ghost use Rattle.mailposts.specs.Posts.{IsFound};
 ghost use Rattle.mailengine.specs.Hosts.{IsGivenUp, Kept};
 ghost use Rattle.sieveddaemon.specs.Desk.{delivery_of};
 ghost use Rattle.wires.specs.Told.{IsOwn};
-ghost use Rattle.daemonhosts.specs.Held.{Shows, IsClean, StillShown, Brings, Seeks};
+ghost use Rattle.daemonhosts.specs.Held.{Shows, IsClean, StillShown, Brings, Goes, HasMail, Seeks};
+ghost use Rattle.sieveddaemon.specs.Moves.{HasKept};
 
 use crate::held::HeldStore;
-use crate::log::{is_delivered, of_delivery};
-use crate::pause::Pause;
+use crate::news::News;
 use crate::queue::Queue;
-use keepers::cause::of_sqlite;
 use keepers::{Keeper, Unavailable};
 use lmtp::Lookup;
-use mailengine::{Answer, Clients, Event, Refusal};
+use mailengine::{Answer, Clients, Event};
+use mailmoves::{Moving, Route, span_behind};
 use mailposts::Parcel;
+use mailsinks::MailSink;
 use sieveddaemon::desk::Desk;
 use sieveddaemon::note::Note;
-use sievedrun::fault::Fault;
-use sievedrun::trouble::{FirstTrouble, Trouble};
-use sqlite::ErrorCode;
+use sievedrun::trouble::Trouble;
 use std::alloc::Global;
 use std::collections::VecDeque;
 use std::io::Write;
@@ -36,27 +35,30 @@ use wires::outside::{Clock, Outside, Sockets};
 /// The store is taken without waiting, and not while somebody waits for it; where it fails it is given back at the next look, and left
 /// alone for a while. Connections that wait for it come to it in the order in which they came.
 #[derive(Drop)]
-pub struct Host<'a, N: Net + time::Clock, E: Write + Drop, K: Keeper + Drop> {
+pub struct Host<'a, N: Net + time::Clock, E: Write + Drop, K: Keeper + Drop, T: MailSink + Drop> {
     alloc: Global,
     system: &'a N,
     sockets: SystemSockets<'a, N>,
     /// A wait has failed.
     broken: bool,
-    held: HeldStore<K>,
+    held: HeldStore<K, T>,
+    /// Where mail moves on to, where it does.
+    route: Option<Route>,
     path: &'a str,
     /// Which connections wait for the store.
     queue: Queue,
-    /// The store failed, and is to be given back.
-    failed: bool,
-    pause: Pause,
-    /// The first trouble with the store since it was taken.
-    trouble: FirstTrouble,
-    /// No delivery that was made is told of.
-    quiet: bool,
-    errors: E,
+    /// The moment at which nobody waited for it, where it was last looked.
+    looked: Option<u64>,
+    news: News<E>,
 }
 
-impl<'a, N: Net + time::Clock, E: Write + Drop, K: Keeper + Drop> Host<'a, N, E, K> {
+impl<'a, N: Net + time::Clock, E: Write + Drop, K: Keeper + Drop, T: MailSink + Drop> Host<
+    'a,
+    N,
+    E,
+    K,
+    T,
+> {
     /// The store isn't had yet. What goes wrong with it is told on the errors, and what becomes of messages; unless it is `quiet`
     /// of those that were delivered too.
     pub fn new(
@@ -64,37 +66,50 @@ impl<'a, N: Net + time::Clock, E: Write + Drop, K: Keeper + Drop> Host<'a, N, E,
         system: &'a N,
         sockets: SystemSockets<'a, N>,
         keeper: K,
+        sink: T,
+        route: Option<Route>,
         path: &'a str,
         quiet: bool,
         errors: E,
-    ) -> Host<'a, N, E, K> {
+    ) -> Host<'a, N, E, K, T> {
         Host {
             alloc,
             system,
             sockets,
             broken: false,
-            held: HeldStore::new(keeper),
+            held: HeldStore::new(keeper, sink),
+            route,
             path,
             queue: Queue::new(alloc),
-            failed: false,
-            pause: Pause::none(),
-            trouble: FirstTrouble::none(),
-            quiet,
-            errors,
+            looked: None,
+            news: News::new(alloc, errors, quiet),
         }
     }
 
     /// Tells of trouble that ends the daemon, and gives its exit status.
     pub fn refuse(&mut self, trouble: Trouble) -> u8 {
-        trouble.tell(&mut self.errors);
-        trouble.fault.status()
+        self.news.refuse(trouble)
     }
 
     /// Whether the store may be asked now for a connection: it is its turn, the store didn't fail, and nobody waits for it.
     fn may_ask(&mut self, id: u32) -> bool
         ensures shown { StillShown K.S.Store K.tells K.holds self.old.held self.new.held }
     {
-        self.queue.comes_next(id) && !self.failed && !self.held.is_awaited(self.path)
+        self.queue.comes_next(id) && !self.news.has_failed() && !self.is_awaited()
+    }
+
+    /// Whether somebody waits for the store. A store that is had isn't looked after again within the millisecond in which nobody did.
+    fn is_awaited(&mut self) -> bool
+        ensures shown { StillShown K.S.Store K.tells K.holds self.old.held self.new.held }
+        ensures sink { self.new.held.sink ≡ self.old.held.sink }
+    {
+        let now = self.sockets.now();
+        if self.held.is_had() && self.looked == Some(now) {
+            return false;
+        }
+        let awaited = self.held.is_awaited(self.path);
+        self.looked = if awaited { None } else { Some(now) };
+        awaited
     }
 
     /// Brings an event to the store, where that may be asked and is to be had.
@@ -107,7 +122,7 @@ impl<'a, N: Net + time::Clock, E: Write + Drop, K: Keeper + Drop> Host<'a, N, E,
         }
         self.reach();
         let answer = self.held.change(clients, event)?;
-        self.note_answer(&answer);
+        self.news.note_answer(&answer, self.held.code());
         Some(answer)
     }
 
@@ -121,7 +136,7 @@ impl<'a, N: Net + time::Clock, E: Write + Drop, K: Keeper + Drop> Host<'a, N, E,
         }
         self.reach();
         let lookup = self.held.find(user)?;
-        self.note_lookup(lookup);
+        self.news.note_lookup(lookup, self.held.code());
         Some(lookup)
     }
 
@@ -136,96 +151,63 @@ impl<'a, N: Net + time::Clock, E: Write + Drop, K: Keeper + Drop> Host<'a, N, E,
         let moment = seconds(self.system);
         match self.held.deliver(self.alloc, parcel, moment) {
             Some(answer) => {
-                self.note_delivery(parcel, &answer);
+                self.news.note_delivery(parcel, &answer, self.held.code());
                 Some(answer)
             }
             None => None,
         }
     }
 
+    /// Has a message move on, where the store may be asked and is to be had.
+    fn carry_on(&mut self, now: u64, fresh: bool) -> Option<Moving>
+        ensures moves { Goes K.S.Store K.tells K.holds result self.old.held self.new.held }
+        ensures keeps { IfSome result (λ moving. HasKept (HasMail T.tells T.kept) moving self.old.held self.new.held) }
+    {
+        if !self.may_move() {
+            return None;
+        }
+        let fresh = fresh || !self.held.is_had();
+        self.reach();
+        let moving = self.go_on(now, fresh)?;
+        self.news
+            .note_moving(&moving, self.held.code(), self.held.sink_cause());
+        Some(moving)
+    }
+
+    /// Whether the store may be asked now for a message: it didn't fail, and nobody waits for it.
+    fn may_move(&mut self) -> bool
+        ensures shown { StillShown K.S.Store K.tells K.holds self.old.held self.new.held }
+        ensures sink { self.new.held.sink ≡ self.old.held.sink }
+    {
+        !self.news.has_failed() && !self.is_awaited()
+    }
+
+    /// Has a message move on, where mail does, and the store is had.
+    fn go_on(&mut self, now: u64, fresh: bool) -> Option<Moving>
+        ensures moves { Goes K.S.Store K.tells K.holds result self.old.held self.new.held }
+        ensures keeps { IfSome result (λ moving. HasKept (HasMail T.tells T.kept) moving self.old.held self.new.held) }
+    {
+        let Some(route) = &mut self.route else {
+            return None;
+        };
+        self.held.move_on(route, now, fresh)
+    }
+
     /// Takes the store, where it isn't had and isn't left alone.
     fn reach(&mut self)
         ensures shown { StillShown K.S.Store K.tells K.holds self.old.held self.new.held }
+        ensures sink { self.new.held.sink ≡ self.old.held.sink }
     {
-        if self.held.is_had() || self.pause.lasts(self.sockets.now()) {
+        if self.held.is_had() || self.news.lasts(self.sockets.now()) {
             return;
         }
         match self.held.take(self.path) {
-            Ok(()) => {
-                self.trouble = FirstTrouble::none();
-            }
+            Ok(()) => self.news.note_taken(),
             Err(Unavailable::Busy) => {}
-            Err(Unavailable::Refused(refusal)) => self.leave_alone(refusal),
-        }
-    }
-
-    /// The store can't be taken: that is told, and it is left alone for a while.
-    fn leave_alone(&mut self, refusal: Refusal)
-        ensures { self.new.held ≡ self.old.held }
-    {
-        tell(&mut self.errors, refusal, self.held.cause());
-        let now = self.sockets.now();
-        self.pause.begin(now);
-    }
-
-    /// Notes what an answer says of the store. The first failure since it was taken is told; after one that isn't lack of room the store
-    /// is given back.
-    fn note_answer(&mut self, answer: &Answer)
-        ensures { self.new.held ≡ self.old.held }
-    {
-        match answer {
-            Answer::Refused(Refusal::Store) => self.note_failure(),
-            Answer::Refused(_) => {}
-            _ => {
-                self.pause = Pause::none();
+            Err(Unavailable::Refused(refusal)) => {
+                let now = self.sockets.now();
+                self.news.leave_alone(refusal, self.held.cause(), now)
             }
-        }
-    }
-
-    /// The same of a delivery, of which is told.
-    fn note_delivery(&mut self, parcel: &Parcel, answer: &Answer)
-        ensures { self.new.held ≡ self.old.held }
-    {
-        self.note_answer(answer);
-        self.tell_delivery(parcel, answer);
-    }
-
-    /// Tells of a delivery, where it is to be told of and there is memory for that.
-    fn tell_delivery(&mut self, parcel: &Parcel, answer: &Answer)
-        ensures { self.new.held ≡ self.old.held }
-    {
-        if self.quiet && is_delivered(answer) {
-            return;
-        }
-        if let Ok(line) = of_delivery(self.alloc, parcel, answer) {
-            let _ = self.errors.write_all(line.as_slice());
-        }
-    }
-
-    /// The same of a look for an account.
-    fn note_lookup(&mut self, lookup: Lookup)
-        ensures { self.new.held ≡ self.old.held }
-    {
-        match lookup {
-            Lookup::Fault => self.note_failure(),
-            Lookup::NoRoom => {}
-            _ => {
-                self.pause = Pause::none();
-            }
-        }
-    }
-
-    fn note_failure(&mut self)
-        ensures { self.new.held ≡ self.old.held }
-    {
-        let code = self.held.code();
-        self.trouble.note(Trouble {
-            fault: Fault::Refused(Refusal::Store),
-            cause: code.and_then(of_sqlite),
-        });
-        self.trouble.tell(&mut self.errors);
-        if code != Some(ErrorCode::DiskFull) {
-            self.failed = true;
         }
     }
 
@@ -233,14 +215,9 @@ impl<'a, N: Net + time::Clock, E: Write + Drop, K: Keeper + Drop> Host<'a, N, E,
     fn give_back(&mut self)
         ensures shown { IsClean K.S.Store K.tells self.new.held → StillShown K.S.Store K.tells K.holds self.old.held self.new.held }
     {
-        if let Some(refusal) = self.held.give_back() {
-            tell(&mut self.errors, refusal, self.held.cause());
-        }
-        if self.failed {
-            self.failed = false;
-            let now = self.sockets.now();
-            self.pause.begin(now);
-        }
+        let refusal = self.held.give_back();
+        let now = self.sockets.now();
+        self.news.note_given(refusal, self.held.cause(), now);
     }
 }
 
@@ -255,20 +232,11 @@ fn seconds<C: time::Clock>(clock: &C) -> u64 {
     }
 }
 
-/// Tells of trouble with the store, and of its cause, where that is known.
-fn tell<E: Write>(errors: &mut E, refusal: Refusal, cause: Option<&'static str>) {
-    let fault = Fault::Refused(refusal);
-    let cause = match refusal {
-        Refusal::Store => cause,
-        _ => None,
-    };
-    Trouble { fault, cause }.tell(errors);
-}
-
-impl<N: Net + time::Clock, E: Write + Drop, K: Keeper + Drop> Outside for Host<'_, N, E, K> {
+impl<N: Net + time::Clock, E: Write + Drop, K: Keeper + Drop, T: MailSink + Drop> Outside
+    for Host<'_, N, E, K, T> {
     type Note = Note;
 
-    type Rest = HeldStore<K>;
+    type Rest = HeldStore<K, T>;
 
     ghost tells = { λ _. false };
 
@@ -280,7 +248,8 @@ impl<N: Net + time::Clock, E: Write + Drop, K: Keeper + Drop> Outside for Host<'
     ghost broken = { λ host. host.broken };
 }
 
-impl<N: Net + time::Clock, E: Write + Drop, K: Keeper + Drop> Sockets for Host<'_, N, E, K> {
+impl<N: Net + time::Clock, E: Write + Drop, K: Keeper + Drop, T: MailSink + Drop> Sockets
+    for Host<'_, N, E, K, T> {
     fn wait(&mut self, within: u32, ready: &mut VecDeque<Wake>) -> Result<(), outcome::Fault> {
         match self.sockets.wait(within, ready) {
             Ok(()) => Ok(()),
@@ -334,13 +303,15 @@ impl<N: Net + time::Clock, E: Write + Drop, K: Keeper + Drop> Sockets for Host<'
     }
 }
 
-impl<N: Net + time::Clock, E: Write + Drop, K: Keeper + Drop> Clock for Host<'_, N, E, K> {
+impl<N: Net + time::Clock, E: Write + Drop, K: Keeper + Drop, T: MailSink + Drop> Clock
+    for Host<'_, N, E, K, T> {
     fn now(&mut self) -> u64 {
         self.sockets.now()
     }
 }
 
-impl<N: Net + time::Clock, E: Write + Drop, K: Keeper + Drop> Desk for Host<'_, N, E, K> {
+impl<N: Net + time::Clock, E: Write + Drop, K: Keeper + Drop, T: MailSink + Drop> Desk
+    for Host<'_, N, E, K, T> {
     ghost use Rattle.keepers.specs.Laws.{never_told};
 
     ghost shows = { Shows K.S.Store K.tells K.holds };
@@ -390,6 +361,15 @@ impl<N: Net + time::Clock, E: Write + Drop, K: Keeper + Drop> Desk for Host<'_, 
         }
     }
 
+    ghost has = { HasMail T.tells T.kept };
+
+    fn move_on(&mut self, _clients: &mut Clients, now: u64, fresh: bool) -> Option<u64> {
+        match self.carry_on(now, fresh) {
+            Some(moving) => Some(span_behind(&moving)),
+            None => None,
+        }
+    }
+
     fn tell_answered(&mut self, id: u32) {
         self.queue.leave(id);
     }
@@ -397,7 +377,7 @@ impl<N: Net + time::Clock, E: Write + Drop, K: Keeper + Drop> Desk for Host<'_, 
     fn tell_spoke(&mut self, _id: u32) {}
 
     fn look(&mut self, rests: bool) -> bool {
-        let wanted = self.failed || self.held.is_awaited(self.path);
+        let wanted = self.news.has_failed() || self.held.is_awaited(self.path);
         let gives = rests || wanted;
         if gives {
             self.give_back();

@@ -4,5 +4,6 @@
 pub mod held;
 pub mod host;
 mod log;
+mod news;
 mod pause;
 mod queue;

@@ -64,6 +64,14 @@ impl MailSink for Maildir<'_> {
         }
     }
 
+    fn make(&mut self, path: &str) -> Result<(), SinkError> {
+        self.cause = None;
+        match make_maildir(self.rt, path) {
+            Ok(()) => Ok(()),
+            Err(error) => Err(self.refusal(error)),
+        }
+    }
+
     fn keep(
         &mut self,
         user: &[u8],
@@ -105,6 +113,24 @@ fn is_directory(rt: &HostRuntime, path: &str) -> io::Result<bool> {
             | ErrorKind::InvalidInput => Ok(false),
             _ => Err(error),
         },
+    }
+}
+
+/// Makes a Maildir, with its directories `tmp`, `new` and `cur`, where they aren't there. On Ok their names are on the disk.
+fn make_maildir(rt: &HostRuntime, path: &str) -> io::Result<()> {
+    make_directory(rt, path)?;
+    for part in ["tmp", "new", "cur"] {
+        make_directory(rt, format!(in rt.alloc(); "{path}/{part}")?.as_str())?;
+    }
+    File::open(rt, path)?.sync_all()?;
+    File::open(rt, format!(in rt.alloc(); "{path}/..")?.as_str())?.sync_all()
+}
+
+/// Makes a directory, where it isn't there.
+fn make_directory(rt: &HostRuntime, path: &str) -> io::Result<()> {
+    match fs::create_dir(rt, path) {
+        Err(error) if error.kind() == ErrorKind::AlreadyExists => Ok(()),
+        made => made,
     }
 }
 

@@ -69,6 +69,10 @@ impl MailSink for MemorySink {
         Ok(())
     }
 
+    fn make(&mut self, _path: &str) -> Result<(), SinkError> {
+        Ok(())
+    }
+
     fn keep(
         &mut self,
         user: &[u8],

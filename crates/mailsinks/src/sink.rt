@@ -60,6 +60,16 @@ pub trait MailSink {
         ensures same { IsTrue tells → kept self.new ≡ kept self.old }
         ensures denied { IfErr result (refuses self.old) };
 
+    /// Makes the place at the path, where that isn't there, within one that is. What is open stays open.
+    ///
+    /// # Errors
+    ///
+    /// Why it can't be made. A part of it may be there then.
+    fn make(&mut self, path: &str) -> Result<(), SinkError>
+        ensures unmoved { (before : List ℕ) → is_at self.old before → is_at self.new before }
+        ensures same { IsTrue tells → kept self.new ≡ kept self.old }
+        ensures denied { IfErr result (refuses self.old) };
+
     /// Keeps the message that has this number in the user's folder, so that a crash after Ok doesn't lose it. What a try
     /// before kept of the same message under the same number isn't kept twice (a Maildir: while it is still in `new`).
     ///

@@ -1,12 +1,11 @@
 -- One step of a client of LMTP, put together from what is told and known.
-use Rattle.std.proofs.Common.{◌≡◌, ℕ, Bool, List, [], Some, None, IsTrue, inl, inr, refl, sym, subst, ap, ◌∙◌}
+use Rattle.std.proofs.Common.{◌≡◌, ℕ, Bool, List, Some, None, IsTrue, inl, inr, refl}
 use Rattle.lmtp.specs.declared.receiver.Lookup.{Lookup}
 use Rattle.mailstore.specs.Account.{Accounts}
-use Rattle.mailengine.specs.Hosts.{Kept}
 use Rattle.mailengine.specs.declared.answer.Answer.{Answer}
 use Rattle.mailengine.specs.declared.clients.Clients.{Clients}
-use Rattle.mailposts.specs.Posts.{Deed, Answered, Asked, Away, Brought, AsksStore}
-use Rattle.mailposts.specs.Stands.{Stands, Keeps, Does, Demands, AsksIt}
+use Rattle.mailposts.specs.Posts.{Deed, Answered, Asked, Away, Brought}
+use Rattle.mailposts.specs.Stands.{Keeps, Does, Demands, AsksIt}
 use Rattle.mailposts.specs.declared.addressee.Became.{Became}
 use Rattle.mailposts.specs.declared.demand.Demand.TheVariants as demand
 use Rattle.mailposts.specs.declared.demand.Parcel.{Parcel}
@@ -15,7 +14,7 @@ use Rattle.mailposts.specs.declared.post.Post.{Post}
 use Rattle.wires.specs.declared.act.Act.{Act}
 use Rattle.wires.specs.declared.act.Act.TheVariants.{Noted}
 use Rattle.wires.specs.Told.{TellsIf}
-use Rattle.sieveddaemon.specs.DaemonRules.{asked_at}
+use Rattle.sieveddaemon.specs.Holds.{asked_at}
 use Rattle.sieveddaemon.specs.Deeds.{IsBecame, DoesOneIf}
 use Rattle.sieveddaemon.specs.Desk.{LooksUp, Delivers, StillShowsIf, delivery_of}
 use Rattle.sieveddaemon.specs.declared.daemon.Daemon.{Daemon}
@@ -47,7 +46,7 @@ module _ {O R : Type 0} (tells : O → Bool) (seen : O → List (Act Note)) (res
   )
 
   pub asked : (user : List ℕ) (lookup : Lookup) → LooksUp tells seen rest shows clean id user o d.clients.sessions (Some lookup) p c.sessions → Does now (Asked user lookup) said before after
-      → (h : Holding) → h ≡ asked_at now → One (record d { clients = c; holding = h })
+      → (h : Holding) → h ≡ asked_at now d.holding → One (record d { clients = c; holding = h })
   asked user lookup looks does h had = λ tell. (
     note.Asked looks.0 user lookup,
     looks.2 tell,
@@ -62,7 +61,7 @@ module _ {O R : Type 0} (tells : O → Bool) (seen : O → List (Act Note)) (res
   )
 
   pub brought : (parcel : Parcel) (answer : Answer) (became : Became) → Delivers tells seen rest shows clean id parcel o d.clients.sessions (Some answer) p c.sessions → IsBecame parcel.sender answer became
-      → Does now (Brought parcel became) said before after → (h : Holding) → h ≡ asked_at now → One (record d { clients = c; holding = h })
+      → Does now (Brought parcel became) said before after → (h : Holding) → h ≡ asked_at now d.holding → One (record d { clients = c; holding = h })
   brought parcel answer became delivers is does h had = λ tell. (
     note.Did delivers.1.0 (delivery_of parcel delivers.0) answer,
     delivers.1.2 tell,

@@ -1,18 +1,22 @@
 -- From the moves of a life to its headline.
-use Rattle.std.proofs.Common.{◌≡◌, inl, ℕ, ◌==◌, Bool, true, false, List, [], ◌∷◌, ◌++◌, Option, Some, None, IfSome, refl, sym, ◌∙◌, ap, subst}
+use Rattle.std.proofs.Common.{◌≡◌, ℕ, ◌==◌, Bool, true, false, List, [], ◌∷◌, ◌++◌, Option, Some, None, IfSome, refl, sym, ◌∙◌, ap, subst}
 use Rattle.std.specs.Ordering.{nat_cmp}
 use Rattle.std.specs.BTreeMap as tree
 use Rattle.std.specs.Map.{lookup}
 use Rattle.lmtp.specs.declared.name.Names.{Names}
 use Rattle.mailstore.specs.Account.{Accounts}
+use Rattle.std.proofs.lemmas.List.{append-nil}
 use Rattle.mailengine.specs.World.{World, Next, Runs}
+use Rattle.mailmoves.specs.declared.moving.Moving.{Moving}
+use Rattle.mailmoves.specs.declared.moving.Moving.TheVariants as moving
 use Rattle.mailengine.specs.declared.answer.Answer.{Answer}
-use Rattle.mailengine.specs.declared.event.Event.TheVariants.{Open, Give, Close}
+use Rattle.mailengine.specs.declared.event.Event.{Event}
+use Rattle.mailengine.specs.declared.event.Event.TheVariants.{Open, Give, Close, TakeMail}
 use Rattle.mailengine.proofs.AloneLemmas.{projection}
 use Rattle.mailengine.proofs.SoundLemmas.{runs_sound}
 use Rattle.mailengine.proofs.SpacingLemmas.{spacing}
 use Rattle.wires.specs.declared.act.Act.{Act}
-use Rattle.wires.specs.declared.act.Act.TheVariants.{Displaced, Came, Heard, Noted, Full, Ended}
+use Rattle.wires.specs.declared.act.Act.TheVariants.{Displaced, Came, Heard, Noted, Worked, Full, Ended}
 use Rattle.wires.specs.declared.turn.Turn.TheVariants.{Stuffed}
 use Rattle.wires.specs.Life.{Move, acts_of, Passes, Fresh, IsFrontOf}
 use Rattle.wires.specs.Moves.{Moment, Moves}
@@ -23,18 +27,35 @@ use Rattle.sieveddaemon.specs.Desk.{IsWorld}
 use Rattle.sieveddaemon.specs.Headline.{world_of, HoldsAfter, Headline, IsNew}
 use Rattle.sieveddaemon.specs.MailActs.{MailLine, Tells, TellsOn}
 use Rattle.sieveddaemon.specs.MailRules.{mail_rules, post_at}
+use Rattle.sieveddaemon.specs.Moves.{LetAt, MovedAt, takes_of, answers_of}
 use Rattle.sieveddaemon.specs.declared.mail.MailDaemon.{MailDaemon}
 use Rattle.sieveddaemon.specs.declared.note.Note.{Note}
-use Rattle.sieveddaemon.specs.declared.note.Note.TheVariants.{Did, Away, Freed, Spoke, Answered, Asked, Looked}
+use Rattle.sieveddaemon.specs.declared.note.Note.TheVariants.{Did, Away, Freed, Spoke, Answered, Asked, Looked, Moved}
 use Rattle.sieveddaemon.proofs.EventLemmas.{runs_then, runs_one, none_open}
 use Rattle.sieveddaemon.proofs.LeadLemmas.{Led, leads}
 use Rattle.sieveddaemon.proofs.LineLemmas.{TiedBy, moment_is, tied_after, right_at}
 use Rattle.sieveddaemon.proofs.MailLemmas.{IsSetUp, stays_set_up, BoundBy, FitsBy as MailFits, words_of as mail_words, mail_after}
-use Rattle.sieveddaemon.proofs.SentLemmas.{Fits, front}
+use Rattle.sieveddaemon.proofs.SentLemmas.{front}
 use Rattle.sieveddaemon.proofs.TurnLemmas.{IsFull, fulls}
 use Rattle.sieveddaemon.proofs.WordLemmas.{FitsBy, words_of, none_sent, line_after}
 
 -- ---- acts as events
+
+-- a message that moved, or none
+runs_let : (w v : World) (others : List Event) → LetAt others w v → (told : List Answer) × Runs w (others ++ []) told v × ((before : List Answer) × (told ≡ before ++ []))
+runs_let w v others led = (led.told, subst (λ events. Runs w events led.told v) (sym (append-nil others)) led.theirs, (led.told, sym (append-nil led.told)))
+
+runs_moved : (w v : World) (others : List Event) (m : Moving) → MovedAt others m w v → (told : List Answer) × Runs w (others ++ takes_of m) told v × ((before : List Answer) × (told ≡ before ++ answers_of m))
+runs_moved w v others (moving.Kept mail answer) led =
+    let event : Event = TakeMail mail.user mail.folder in (
+      led.done.told ++ answer ∷ [],
+      runs_then others (event ∷ []) led.done.told (answer ∷ []) w led.done.between v led.done.theirs (runs_one led.done.between v event answer led.done.ours),
+      (led.done.told, refl),
+    )
+runs_moved w v others moving.Nothing led = runs_let w v others led
+runs_moved w v others moving.Passed led = runs_let w v others led
+runs_moved w v others (moving.Failed refusal) led = runs_let w v others led
+runs_moved w v others (moving.Stays stay) led = runs_let w v others led
 
 runs_by : (w v : World) (note : Note) → LeadsBy w note v → (told : List Answer) × Runs w (events_by note) told v × AnswersBy note told
 runs_by w v (Did others event answer) led =
@@ -47,6 +68,7 @@ runs_by w v Spoke led = ([], led, refl)
 runs_by w v Answered led = ([], led, refl)
 runs_by w v (Asked others user lookup) led = (led.told, led.theirs, tt)
 runs_by w v (Looked wanted) led = ([], led, refl)
+runs_by w v (Moved others moving) led = runs_moved w v others moving led
 
 runs_opened : (b : Bool) (w v : World) (id : ℕ) (more : List (Act Note)) → LeadsIn b w id more v → (told : List Answer) × Runs w (opened_by b id) told v
 runs_opened true w v id more led = ([], led)
@@ -57,6 +79,7 @@ runs_at w v (Came id kind) more led = let run = runs_opened (kind == lmtp) w v i
 runs_at w v (Heard id piece) more led = (led.0 ∷ [], runs_one w v (Give id piece) led.0 led.2, tt)
 runs_at w v (Ended id) more led = (led.0 ∷ [], runs_one w v (Close id) led.0 led.1, tt)
 runs_at w v (Noted id note) more led = runs_by w v note led
+runs_at w v (Worked note) more led = runs_by w v note led
 runs_at w v (Displaced id) more led = ([], led.0, tt)
 runs_at w v _ more led = ([], led, tt)
 

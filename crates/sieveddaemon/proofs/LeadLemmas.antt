@@ -3,7 +3,7 @@ use Rattle.std.proofs.Common.{◌≡◌, ◌⊎◌, inl, inr, ℕ, ◌==◌, Boo
 use Rattle.std.specs.FinMap.{get}
 use Rattle.sessions.specs.Clients.{Client}
 use Rattle.mailstore.specs.Account.{Accounts}
-use Rattle.mailengine.specs.Hosts.{KeepsClients, IsSessionEvent}
+use Rattle.mailengine.specs.Hosts.{Kept, HasClients, KeepsClients, IsSessionEvent}
 use Rattle.mailengine.specs.World.{World, Clients, Next}
 use Rattle.mailengine.specs.declared.answer.Answer.{Answer}
 use Rattle.mailengine.specs.declared.clients.Clients.{Clients as CodeClients}
@@ -17,8 +17,8 @@ use Rattle.wires.specs.declared.turn.Turn.TheVariants.{Stuffed}
 use Rattle.wires.specs.Moves.{Leaves}
 use Rattle.wires.specs.Turns.{Turns, Opens as Enters, Goes, Lacks, Parting, is_open_of, room_by, makes_room}
 use Rattle.wires.specs.Talk.{client_of, kind_of}
-use Rattle.sieveddaemon.specs.Acts.{LeadsBy, LeadsIn, Leads, LacksThen, IsMadeOr, IsHeardOr, IsGuest}
-use Rattle.sieveddaemon.specs.DaemonRules.{lmtp, displaced_of, Happened, Made, Makes, Rests, LacksFor}
+use Rattle.sieveddaemon.specs.Acts.{LeadsBy, LeadsIn, Leads, LacksThen, IsMadeOr, IsGuest}
+use Rattle.sieveddaemon.specs.DaemonRules.{lmtp, displaced_of, Happened, Made, Makes, WorksBy}
 use Rattle.sieveddaemon.specs.Deeds.{IsDeed, Stores}
 use Rattle.sieveddaemon.specs.Desk.{IsWorld, NothingDone, StillShows}
 use Rattle.sieveddaemon.specs.MailRules.{mail_rules, displaced_for, OpensBy, GivesBy, GoesBy, LacksBy}
@@ -28,7 +28,7 @@ use Rattle.sieveddaemon.proofs.RoomLemmas.{no_user_goes}
 use Rattle.sieveddaemon.specs.declared.daemon.Daemon.{Daemon}
 use Rattle.sieveddaemon.specs.declared.mail.MailDaemon.{MailDaemon}
 use Rattle.sieveddaemon.specs.declared.note.Note.{Note}
-use Rattle.sieveddaemon.specs.declared.note.Note.TheVariants.{Did, Away, Freed, Spoke, Answered, Asked, Looked}
+use Rattle.sieveddaemon.specs.declared.note.Note.TheVariants.{Did, Away, Freed, Spoke, Answered, Asked, Looked, Moved}
 use Rattle.sieveddaemon.proofs.EventLemmas.{clients_one, open_refused, give_refused, give_unheard}
 
 -- who makes room is the one that the machine names
@@ -115,6 +115,7 @@ module _ {R : Type 0} (shows : R → Accounts → Type 0) (d e : MailDaemon) (r 
   noted Answered w is makes = absurd makes
   noted (Asked others user lookup) w is makes = absurd makes
   noted (Looked wanted) w is makes = absurd makes
+  noted (Moved others moving) w is makes = absurd makes
 
   -- what is done for a client of LMTP
   did : (note : Note) (deed : Deed) (w : World) → IsWorld shows r d.daemon.clients.sessions w → IsDeed note deed → Stores shows r d.daemon.clients.sessions note q e.daemon.clients.sessions
@@ -126,19 +127,23 @@ module _ {R : Type 0} (shows : R → Accounts → Type 0) (d e : MailDaemon) (r 
   did (Freed event answer) deed w is told stores = absurd told
   did Spoke deed w is told stores = absurd told
   did (Looked wanted) deed w is told stores = absurd told
+  did (Moved others moving) deed w is told stores = absurd told
 
   goes : (now id : ℕ) (note : Note) (said : List ℕ) (w : World) → IsWorld shows r d.daemon.clients.sessions w → GoesBy shows d r now id note said e q → (v : World) × LeadsBy w note v × IsWorld shows q e.daemon.clients.sessions v
   goes now id note said w is (inl g) = did note g.does.deed w is g.does.is g.does.stores
   goes now id note said w is (inr g) = noted note w is g.goes.makes
 
-  rested : (now : ℕ) (note : Note) → Rests d.daemon now note e.daemon → KeepsClients d.daemon.clients.sessions e.daemon.clients.sessions
-  rested now (Looked wanted) rests = subst (λ (k : Daemon). KeepsClients d.daemon.clients.sessions k.clients.sessions) (sym rests) (λ clients has. has)
-  rested now (Did others event answer) rests = absurd rests
-  rested now Away rests = absurd rests
-  rested now (Freed event answer) rests = absurd rests
-  rested now Spoke rests = absurd rests
-  rested now Answered rests = absurd rests
-  rested now (Asked others user lookup) rests = absurd rests
+  -- what the daemon does by itself
+  worked : (now : ℕ) (note : Note) (w : World) → IsWorld shows r d.daemon.clients.sessions w → WorksBy shows d.daemon r now note e.daemon.clients.sessions e.daemon.holding q
+      → (v : World) × LeadsBy w note v × IsWorld shows q e.daemon.clients.sessions v
+  worked now (Looked wanted) w is works = (w, refl, record { shown = works.0 w.accounts is.shown; sessions = subst (λ (k : Kept). HasClients k w.sessions) (sym works.1) is.sessions })
+  worked now (Moved others moving) w is works = works.1 w is
+  worked now Away w is works = (w, refl, nothing w is works.1)
+  worked now (Did others event answer) w is works = absurd works
+  worked now (Freed event answer) w is works = absurd works
+  worked now Spoke w is works = absurd works
+  worked now Answered w is works = absurd works
+  worked now (Asked others user lookup) w is works = absurd works
 
   -- who makes room is a guest
   guest_goes : (s : Service) (kind id : ℕ) → makes_room (mail_rules shows) d s kind ≡ Some id → (w : World) → IsWorld shows r d.daemon.clients.sessions w → IsGuest w id
@@ -192,7 +197,7 @@ module _ {R : Type 0} (shows : R → Accounts → Type 0) (d e : MailDaemon) (r 
     leads (Heard id piece) said w turns left is = heard id piece said turns.count w is left turns.goes
     leads (Ended id) said w turns left is = happened (Close id) w is turns.0.closes.event left
     leads (Noted id note) said w turns left is = goes s.moment id note said w is turns.0
-    leads (Worked note) said w turns left is = (w, refl, record { shown = turns.0.shown w.accounts is.shown; sessions = rested s.moment note turns.0.rests w.sessions is.sessions })
+    leads (Worked note) said w turns left is = worked s.moment note w is turns.0.does.works
     leads (Late id) said w turns left is = (w, refl, same w is (late id said turns.2) left)
     leads (Displaced id) said w turns left is = (w, (refl, guest_goes s turns.0.0 id turns.0.2 w is), same w is (late id said turns.1) left)
     leads (Listened kind) said w turns left is = (w, refl, same w is (kept turns.0.0) left)

@@ -6,6 +6,7 @@ pub mod LeadLemmas
 pub mod LineLemmas
 pub mod MailExamples
 pub mod MailLemmas
+pub mod MoveLemmas
 pub mod RoomLemmas
 pub mod SentLemmas
 pub mod StepLemmas

@@ -1,6 +1,8 @@
 -- What acts tell of one client of ManageSieve agrees with what the daemon and the loop keep of it.
-use Rattle.std.proofs.Common.{◌≡◌, ◌⊎◌, inl, inr, ℕ, ◌==◌, ◌≤◌, nat_lt, Bool, true, false, cond, List, ◌++◌, Option, Some, None, IfSome, option_map, refl, sym, ◌∙◌, ap, subst}
+use Rattle.std.proofs.Common.{◌≡◌, ◌⊎◌, inl, inr, ℕ, ◌==◌, ◌≤◌, nat_lt, Bool, true, false, cond, List, ◌++◌, Option, Some, None, IfSome, refl, sym, ◌∙◌, ap, subst}
 use Rattle.std.proofs.lemmas.Bool.{ltb-false}
+use Rattle.std.specs.Ordering.{nat_cmp}
+use Rattle.std.specs.BTreeMap as tree
 use Rattle.mailstore.specs.Account.{Accounts}
 use Rattle.mailposts.specs.declared.post.Post.{Post}
 use Rattle.sessions.specs.Clients.{Client as SessionClient}
@@ -13,15 +15,14 @@ use Rattle.wires.specs.Moves.{Ticks}
 use Rattle.wires.specs.Talk.{same, client_of, kind_of, task_wanted}
 use Rattle.wires.specs.Turns.{Turns, GoesOn, Goes as Went, Lacks, Parting, Opens as Enters}
 use Rattle.wires.proofs.TalkLemmas.{one_number}
-use Rattle.sieveddaemon.specs.Acts.{Line, new_line, line_came, moment_after, noted, idled, tell, tell_line, IsRight}
-use Rattle.sieveddaemon.specs.DaemonRules.{lmtp, place_at, Rests}
-use Rattle.sieveddaemon.specs.MailRules.{mail_rules, post_at, wants_by, OpensBy, GivesBy, GoesBy, PostGives, PostGoes, SessionGives, SessionGoes, Looks, LacksBy, SamePosts}
+use Rattle.sieveddaemon.specs.Acts.{Line, new_line, line_came, moment_after, noted, idled, tell_line, IsRight}
+use Rattle.sieveddaemon.specs.DaemonRules.{lmtp, place_at}
+use Rattle.sieveddaemon.specs.MailRules.{mail_rules, post_at, wants_by, OpensBy, GivesBy, GoesBy, SessionGoes, Works, LacksBy}
 use Rattle.sieveddaemon.specs.Places.{client_at, want_of, want_by, place_given, place_behind, new_place}
 use Rattle.sieveddaemon.specs.Waiting.{Allows, IsDue, waits_behind}
 use Rattle.sieveddaemon.specs.declared.daemon.Daemon.{Daemon}
 use Rattle.sieveddaemon.specs.declared.mail.MailDaemon.{MailDaemon}
 use Rattle.sieveddaemon.specs.declared.note.Note.{Note}
-use Rattle.sieveddaemon.specs.declared.note.Note.TheVariants.{Looked, Did, Away, Freed, Spoke, Answered, Asked}
 use Rattle.sieveddaemon.specs.declared.place.Place.{Place}
 use Rattle.sieveddaemon.specs.declared.place.Waits.{Waits as Waiting}
 use Rattle.sieveddaemon.specs.declared.place.Waits.TheVariants as waits
@@ -197,19 +198,11 @@ module _ {R : Type 0} (shows : R → Accounts → Type 0) (d e : MailDaemon) (r 
     lacked n (inr (inl t)) = subst (λ k. Tied e id k) (same_line (same n id) l) (gone n t.0 l l tied)
     lacked n (inr (inr t)) = still t.0
 
-    rests_at : (note : Note) → Rests d.daemon s.moment note e.daemon → place_at e.daemon id ≡ place_at d.daemon id
-    rests_at (Looked wanted) is = ap (λ (k : Daemon). place_at k id) is
-    rests_at (Did others event answer) is = absurd is
-    rests_at Away is = absurd is
-    rests_at (Freed event answer) is = absurd is
-    rests_at Spoke is = absurd is
-    rests_at Answered is = absurd is
-    rests_at (Asked others user lookup) is = absurd is
-
-    rested : (note : Note) → Looks shows d r s.moment note e q → Tied e id l
-    rested note looks =
-        let post : post_at e id ≡ post_at d id = ap (λ posts. post_at (record d { posts = posts }) id) looks.same.posts in
-        record { none = post ∙ tied.none; waits = λ it at. tied.waits it (sym (rests_at note looks.rests) ∙ at) }
+    rested : (note : Note) → Works shows d r s.moment note e q → Tied e id l
+    rested note work =
+        let post : post_at e id ≡ post_at d id = ap (λ posts. post_at (record d { posts = posts }) id) work.same.posts in
+        let place : place_at e.daemon id ≡ place_at d.daemon id = ap (λ places. tree.get nat_cmp places id) work.does.places in
+        record { none = post ∙ tied.none; waits = λ it at. tied.waits it (sym place ∙ at) }
 
     tied_then : (act : Act Note) (said : List ℕ) → Turns (mail_rules shows) d r s act said e q u → TiedBy e id (tell_line id s.moment (Some l) act)
     tied_then (Came n kind) said t = came n kind said (Some l) t.3 tied

@@ -1,13 +1,13 @@
 -- Right cases of the definitions on clients of LMTP, and near misses.
-use Rattle.std.proofs.Common.{◌≡◌, ◌⊎◌, ℕ, List, [], ◌∷◌, ◌++◌, Option, Some, None, IfSome, codes, refl, sym, ◌∙◌, ap, subst, arith, inl, inr}
+use Rattle.std.proofs.Common.{◌≡◌, ℕ, List, [], ◌∷◌, Option, Some, None, IfSome, codes, refl, sym, ◌∙◌, ap, subst, arith}
 use Rattle.std.specs.FinMap.{get}
 use Rattle.lmtp.specs.Replies.{greeting}
 use Rattle.lmtp.specs.declared.name.Names.{Names}
-use Rattle.lmtp.specs.declared.receiver.Lookup.TheVariants.{Unknown, Known}
+use Rattle.lmtp.specs.declared.receiver.Lookup.TheVariants.{Unknown}
 use Rattle.lmtp.specs.declared.reply.Reply.TheVariants.{NoSuchUser, LocalFault, BadSender}
-use Rattle.mailposts.specs.Posts.{Deed, Asked, Away}
+use Rattle.mailposts.specs.Posts.{Deed, Away}
 use Rattle.mailposts.specs.declared.addressee.Became.TheVariants.{Delivered, Refused}
-use Rattle.mailstore.specs.Account.{Account}
+use Rattle.mailstore.specs.Account.{Account, known_one}
 use Rattle.mailstore.specs.declared.refusal.Refusal.TheVariants.{NoUser, Store, BadEnvelope}
 use Rattle.mailengine.specs.World.{World, Runs}
 use Rattle.mailengine.specs.declared.answer.Answer.{Answer}
@@ -55,11 +55,11 @@ not_freed told deed is = is
 -- ---- what was found of an account
 
 -- near misses: there is none, though there is one; there is one, though there is none
-unknown_to_all : (w v : World) (user : List ℕ) (a : Account) → get w.accounts user ≡ Some a → LeadsBy w (note.Asked [] user Unknown) v → ⊥
+unknown_to_all : (w v : World) (user : List ℕ) (a : Account) → known_one (get w.accounts user) ≡ Some a → LeadsBy w (note.Asked [] user Unknown) v → ⊥
 unknown_to_all w v user a there led = by led.told led.theirs
   where
     by : (told : List Answer) → Runs w [] told v → ⊥
-    by [] run = let never : None ≡ Some a = sym led.found ∙ ap (λ (x : World). get x.accounts user) run ∙ there in cc
+    by [] run = let never : None ≡ Some a = sym led.found ∙ ap (λ (x : World). known_one (get x.accounts user)) run ∙ there in cc
     by (told ∷ more) run = run
 
 -- ---- what is sent

@@ -1,5 +1,7 @@
 -- What acts tell of one client of LMTP agrees with what the daemon and the loop keep of it; and what was sent is a front of what they spell.
 use Rattle.std.proofs.Common.{◌≡◌, ◌⊎◌, inl, inr, ℕ, ◌==◌, Bool, true, false, cond, List, [], ◌++◌, Option, Some, None, refl, sym, ◌∙◌, ap, subst}
+use Rattle.std.specs.Ordering.{nat_cmp}
+use Rattle.std.specs.BTreeMap as tree
 use Rattle.lmtp.specs.Replies.{greeting, line_of}
 use Rattle.lmtp.specs.declared.name.Names.{Names}
 use Rattle.lmtp.specs.declared.reply.Reply.TheVariants.{Idle}
@@ -15,16 +17,15 @@ use Rattle.wires.specs.declared.turn.Turn.{Turn}
 use Rattle.wires.specs.Talk.{same, client_of, kind_of, Talks}
 use Rattle.wires.specs.Turns.{Turns, Goes as Went, Lacks, Parting, Opens as Enters}
 use Rattle.wires.proofs.TalkLemmas.{one_number}
-use Rattle.sieveddaemon.specs.DaemonRules.{lmtp, place_at, Rests}
+use Rattle.sieveddaemon.specs.DaemonRules.{lmtp, place_at}
 use Rattle.sieveddaemon.specs.MailActs.{MailLine, new_mail, mail_came, says_more, sent_more, IsNoted, Its, TellsOf, Tells}
-use Rattle.sieveddaemon.specs.MailRules.{mail_rules, post_at, OpensBy, GivesBy, GoesBy, PostGives, PostGoes, SameHost, IsFarewell, Parts, Looks, LacksBy}
+use Rattle.sieveddaemon.specs.MailRules.{mail_rules, post_at, OpensBy, GivesBy, GoesBy, SameHost, IsFarewell, Parts, Works, LacksBy}
 use Rattle.sieveddaemon.specs.declared.daemon.Daemon.{Daemon}
 use Rattle.sieveddaemon.specs.declared.mail.MailDaemon.{MailDaemon}
 use Rattle.sieveddaemon.specs.declared.note.Note.{Note}
-use Rattle.sieveddaemon.specs.declared.note.Note.TheVariants.{Did, Away, Freed, Spoke, Answered, Asked, Looked}
 use Rattle.sieveddaemon.specs.declared.place.Place.{Place}
 use Rattle.sieveddaemon.proofs.LineLemmas.{Touches, touch_same, touch_post}
-use Rattle.sieveddaemon.proofs.SentLemmas.{Words, spells, begins, Fits, words_after, fits_new, fits_after}
+use Rattle.sieveddaemon.proofs.SentLemmas.{Words, spells, Fits, words_after, fits_new, fits_after}
 
 -- ---- how the daemon is set up stays
 
@@ -251,19 +252,11 @@ module _ {R : Type 0} (shows : R → Accounts → Type 0) (names : Names) (host 
     lacked n (inr (inl t)) = subst (λ k. Bound e id k) (same_post (same n id) l.post) (gone n t.0 l.post l.post bound)
     lacked n (inr (inr t)) = still t.0
 
-    rests_at : (note : Note) → Rests d.daemon s.moment note e.daemon → place_at e.daemon id ≡ place_at d.daemon id
-    rests_at (Looked wanted) is = ap (λ (k : Daemon). place_at k id) is
-    rests_at (Did others event answer) is = absurd is
-    rests_at Away is = absurd is
-    rests_at (Freed event answer) is = absurd is
-    rests_at Spoke is = absurd is
-    rests_at Answered is = absurd is
-    rests_at (Asked others user lookup) is = absurd is
-
-    rested : (note : Note) → Looks shows d r s.moment note e q → Bound e id l.post
-    rested note looks =
-        let post : post_at e id ≡ post_at d id = ap (λ posts. post_at (record d { posts = posts }) id) looks.same.posts in
-        record { none = rests_at note looks.rests ∙ bound.none; stands = λ c at. bound.stands c (sym post ∙ at) }
+    rested : (note : Note) → Works shows d r s.moment note e q → Bound e id l.post
+    rested note work =
+        let post : post_at e id ≡ post_at d id = ap (λ posts. post_at (record d { posts = posts }) id) work.same.posts in
+        let place : place_at e.daemon id ≡ place_at d.daemon id = ap (λ places. tree.get nat_cmp places id) work.does.places in
+        record { none = place ∙ bound.none; stands = λ c at. bound.stands c (sym post ∙ at) }
 
     ended : (n : ℕ) → Touches d n None None e → Bound e id l.post
     ended n t = touched_still n None None t l.post (λ is. none_kept l.post) bound

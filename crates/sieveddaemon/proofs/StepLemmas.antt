@@ -6,7 +6,7 @@ use Rattle.mailengine.proofs.HostLemmas.{clients_are}
 use Rattle.mailengine.specs.World.{if_open}
 use Rattle.sessions.specs.Steps.{may_fail}
 use Rattle.mailengine.specs.declared.answer.Answer.{Answer}
-use Rattle.mailengine.specs.declared.answer.Answer.TheVariants.{Out, Delivered, Added, Taken, MailTaken, Ignored, Refused}
+use Rattle.mailengine.specs.declared.answer.Answer.TheVariants.{Out, Delivered, Added, Taken, MailTaken, Changed, Stored, Invalid, Closed, Opened, Removed, NoticesTaken, Ignored, Refused}
 use Rattle.mailengine.specs.declared.clients.Clients.{Clients as CodeClients}
 use Rattle.mailengine.specs.declared.event.Event.{Event}
 use Rattle.mailengine.specs.declared.event.Event.TheVariants.{Step, GiveUp}
@@ -14,14 +14,15 @@ use Rattle.wires.specs.declared.act.Act.{Act}
 use Rattle.wires.specs.declared.act.Act.TheVariants.{Noted}
 use Rattle.wires.specs.Rules.{StepsIf}
 use Rattle.wires.specs.Told.{TellsIf}
-use Rattle.sieveddaemon.specs.DaemonRules.{daemon_rules, place_at, AtPlace, AsksFor, Makes, Places, Renews, asked_at}
+use Rattle.sieveddaemon.specs.DaemonRules.{daemon_rules, place_at, AtPlace, AsksFor, Makes, Places, Renews}
+use Rattle.sieveddaemon.specs.Holds.{asked_at}
 use Rattle.sieveddaemon.specs.Desk.{Carries, IsDone, NothingDone, StillShowsIf}
 use Rattle.sieveddaemon.specs.Places.{client_at, renewed, is_out, is_user}
 use Rattle.sieveddaemon.specs.Waiting.{Allows, MayAsk, MayGiveUp, said_at_once, waits_after, waits_behind}
 use Rattle.sieveddaemon.specs.declared.daemon.Daemon.{Daemon}
 use Rattle.sieveddaemon.specs.declared.daemon.Holding.{Holding}
 use Rattle.sieveddaemon.specs.declared.note.Note.{Note}
-use Rattle.sieveddaemon.specs.declared.note.Note.TheVariants.{Did, Away, Freed, Spoke, Answered, Asked, Looked}
+use Rattle.sieveddaemon.specs.declared.note.Note.TheVariants.{Did, Away, Freed, Spoke, Answered, Asked, Looked, Moved}
 use Rattle.sieveddaemon.specs.declared.place.Place.{Place}
 use Rattle.sieveddaemon.specs.declared.place.Waits.{Waits}
 
@@ -34,6 +35,13 @@ made_out (Delivered report) is = tt
 made_out Added is = tt
 made_out (Taken row) is = tt
 made_out MailTaken is = tt
+made_out Changed is = tt
+made_out Stored is = tt
+made_out (Invalid fault) is = tt
+made_out Closed is = tt
+made_out Opened is = tt
+made_out Removed is = tt
+made_out NoticesTaken is = tt
 made_out Ignored is = tt
 made_out (Refused refusal) is = let never : false ≡ true = is in absurd (let no_one : ⊥ = cc in no_one)
 
@@ -61,7 +69,7 @@ module _ {O R : Type 0} (tells : O → Bool) (seen : O → List (Act Note)) (res
     (o p : O) (d e : Daemon) (c : CodeClients) (now id : ℕ) (said : List ℕ) where
   -- an event was done by the store
   pub did : (answer : Answer) → Carries tells seen rest shows clean id (Step id) o d.clients.sessions (Some answer) p c.sessions → AsksStore (Step id) d.clients.sessions
-      → AtPlace d id (λ place. MayAsk now place.waits) → Renews (mid_of d c (asked_at now)) now id (waits_after now answer) (is_out answer) e → said ≡ said_at_once answer → StepsIf tells seen rest (daemon_rules shows) o d now id said p e
+      → AtPlace d id (λ place. MayAsk now place.waits) → Renews (mid_of d c (asked_at now d.holding)) now id (waits_after now answer) (is_out answer) e → said ≡ said_at_once answer → StepsIf tells seen rest (daemon_rules shows) o d now id said p e
   did answer carries asks may r says tell = record {
     note = Did carries.0 (Step id) answer;
     grows = carries.2 tell;
@@ -72,7 +80,7 @@ module _ {O R : Type 0} (tells : O → Bool) (seen : O → List (Act Note)) (res
       asks = asks;
       makes = subst (λ (k : CodeClients). IsDone shows carries.0 (Step id) answer (rest o) d.clients.sessions (rest p) k.sessions) (sym r.clients) (carries.1 (sure p tell));
       says = says;
-      place = place_by d e c (asked_at now) now id (waits_after now answer) (is_out answer) may.0 r may.1;
+      place = place_by d e c (asked_at now d.holding) now id (waits_after now answer) (is_out answer) may.0 r may.1;
       holding = r.holding;
     };
   }
@@ -123,6 +131,7 @@ module _ {O R : Type 0} (tells : O → Bool) (seen : O → List (Act Note)) (res
   kept_makes Answered keeps makes = makes
   kept_makes (Asked others user lookup) keeps makes = makes
   kept_makes (Looked wanted) keeps makes = makes
+  kept_makes (Moved others moving) keeps makes = makes
 
   kept_asks : (note : Note) → KeepsClients d.clients.sessions c.sessions → AsksFor id note c.sessions → AsksFor id note d.clients.sessions
   kept_asks (Did others event answer) keeps asks = asks_before id d.clients.sessions c.sessions keeps asks
@@ -132,6 +141,7 @@ module _ {O R : Type 0} (tells : O → Bool) (seen : O → List (Act Note)) (res
   kept_asks Answered keeps asks = tt
   kept_asks (Asked others user lookup) keeps asks = tt
   kept_asks (Looked wanted) keeps asks = tt
+  kept_asks (Moved others moving) keeps asks = tt
 
   pub behind : KeepsClients d.clients.sessions c.sessions → StepsIf tells seen rest (daemon_rules shows) o (mid_of d c d.holding) now id said p e → StepsIf tells seen rest (daemon_rules shows) o d now id said p e
   behind keeps steps tell =

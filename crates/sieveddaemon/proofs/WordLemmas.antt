@@ -1,5 +1,5 @@
 -- What was sent to a client of ManageSieve is a front of what its acts spell.
-use Rattle.std.proofs.Common.{◌≡◌, ◌⊎◌, inl, inr, ℕ, ◌==◌, Bool, true, false, cond, List, [], ◌++◌, Option, Some, None, refl, sym, ◌∙◌, ap, subst}
+use Rattle.std.proofs.Common.{◌≡◌, inl, inr, ℕ, ◌==◌, Bool, true, false, cond, List, [], ◌++◌, Option, Some, None, refl, sym, ◌∙◌, ap, subst}
 use Rattle.mailstore.specs.Account.{Accounts}
 use Rattle.mailposts.specs.declared.post.Post.{Post as Code}
 use Rattle.wires.specs.declared.act.Act.{Act}
@@ -10,9 +10,9 @@ use Rattle.wires.specs.declared.turn.Turn.{Turn}
 use Rattle.wires.specs.Talk.{same, client_of, Talks}
 use Rattle.wires.specs.Turns.{Turns, Opens as Enters}
 use Rattle.wires.proofs.TalkLemmas.{one_number}
-use Rattle.sieveddaemon.specs.Acts.{Line, no_line, new_line, line_came, noted, tell, tell_line}
+use Rattle.sieveddaemon.specs.Acts.{Line, no_line, line_came, noted, tell, tell_line}
 use Rattle.sieveddaemon.specs.DaemonRules.{lmtp, place_at}
-use Rattle.sieveddaemon.specs.MailRules.{mail_rules, post_at, OpensBy, GivesBy, GoesBy, IsFarewell, Parts, LacksBy}
+use Rattle.sieveddaemon.specs.MailRules.{mail_rules, post_at, OpensBy, GivesBy, GoesBy, IsFarewell, Parts}
 use Rattle.sieveddaemon.specs.Waiting.{said_with, greeting, idle}
 use Rattle.sieveddaemon.specs.declared.mail.MailDaemon.{MailDaemon}
 use Rattle.sieveddaemon.specs.declared.note.Note.{Note}

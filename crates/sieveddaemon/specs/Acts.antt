@@ -9,13 +9,14 @@ use Rattle.mailengine.specs.declared.event.Event.{Event}
 use Rattle.mailengine.specs.declared.event.Event.TheVariants.{Open, Give, Close}
 use Rattle.wires.specs.Talk.{same}
 use Rattle.wires.specs.declared.act.Act.{Act}
-use Rattle.wires.specs.declared.act.Act.TheVariants.{Timed, Late, Displaced, Came, Heard, Sent, Noted, Full, Ended}
+use Rattle.wires.specs.declared.act.Act.TheVariants.{Timed, Late, Displaced, Worked, Came, Heard, Sent, Noted, Full, Ended}
 use Rattle.sieveddaemon.specs.DaemonRules.{lmtp}
 use Rattle.sieveddaemon.specs.Desk.{DoneAt, FindsAt}
+use Rattle.sieveddaemon.specs.Moves.{MovedAt, takes_of, answers_of}
 use Rattle.sieveddaemon.specs.Places.{is_out}
 use Rattle.sieveddaemon.specs.Waiting.{Allows, waits_behind, said_with, greeting, idle}
 use Rattle.sieveddaemon.specs.declared.note.Note.{Note}
-use Rattle.sieveddaemon.specs.declared.note.Note.TheVariants.{Did, Freed, Asked}
+use Rattle.sieveddaemon.specs.declared.note.Note.TheVariants.{Did, Freed, Asked, Moved}
 use Rattle.sieveddaemon.specs.declared.place.Waits.{Waits}
 use Rattle.sieveddaemon.specs.declared.place.Waits.TheVariants as waits
 
@@ -27,6 +28,7 @@ LeadsBy w (Did others event answer) v = DoneAt others event answer w v
 LeadsBy w (Freed event answer) v =
     (v.accounts ≡ w.accounts) × ((accounts : Accounts) → Next (record w { accounts = accounts }) event answer (record v { accounts = accounts }))
 LeadsBy w (Asked others user lookup) v = FindsAt others user lookup w v
+LeadsBy w (Moved others moving) v = MovedAt others moving w v
 LeadsBy w _ v = v ≡ w
 
 -- nobody is logged in there
@@ -59,6 +61,7 @@ Leads w (Came id kind) more v = LeadsIn (kind == lmtp) w id more v
 Leads w (Heard id piece) more v = (answer : Answer) × IsHeardOr answer id more × Next w (Give id piece) answer v
 Leads w (Ended id) more v = (answer : Answer) × Next w (Close id) answer v
 Leads w (Noted id note) more v = LeadsBy w note v
+Leads w (Worked note) more v = LeadsBy w note v
 Leads w (Displaced id) more v = (v ≡ w) × IsGuest w id
 Leads w _ more v = v ≡ w
 
@@ -71,6 +74,7 @@ abbrev pub events_by : Note → List Event
 events_by (Did others event answer) = others ++ event ∷ []
 events_by (Freed event answer) = event ∷ []
 events_by (Asked others user lookup) = others
+events_by (Moved others moving) = others ++ takes_of moving
 events_by _ = []
 
 abbrev pub opened_by : Bool → ℕ → List Event
@@ -82,6 +86,7 @@ events_at (Came id kind) = opened_by (kind == lmtp) id
 events_at (Heard id piece) = Give id piece ∷ []
 events_at (Ended id) = Close id ∷ []
 events_at (Noted id note) = events_by note
+events_at (Worked note) = events_by note
 events_at _ = []
 
 abbrev pub events_in : List (Act Note) → List Event
@@ -93,10 +98,12 @@ abbrev pub AnswersBy : Note → List Answer → Type 0
 AnswersBy (Did others event answer) told = (before : List Answer) × (told ≡ before ++ answer ∷ [])
 AnswersBy (Freed event answer) told = told ≡ answer ∷ []
 AnswersBy (Asked others user lookup) told = Unit {0}
+AnswersBy (Moved others moving) told = (before : List Answer) × (told ≡ before ++ answers_of moving)
 AnswersBy _ told = told ≡ []
 
 abbrev pub AnswersAt : Act Note → List Answer → Type 0
 AnswersAt (Noted id note) told = AnswersBy note told
+AnswersAt (Worked note) told = AnswersBy note told
 AnswersAt act told = Unit {0}
 
 abbrev pub AnswersIn : List (Act Note) → List Answer → Type 0

@@ -1,5 +1,5 @@
 -- What the daemon makes of what happens.
-use Rattle.std.specs.Prelude.{◌≡◌, ◌∷◌, ℕ, ◌==◌, ◌&&◌, ◌||◌, nat_le, nat_lt, Bool, true, false, cond, List, [], Option, Some, None, if◌then◌else◌}
+use Rattle.std.specs.Prelude.{◌≡◌, ◌∷◌, ℕ, ◌==◌, ◌||◌, nat_lt, Bool, true, cond, List, [], Option, Some, None, if◌then◌else◌}
 use Rattle.std.specs.Ordering.{nat_cmp}
 use Rattle.std.specs.BTreeMap as tree
 use Rattle.mailstore.specs.Account.{Accounts}
@@ -9,15 +9,18 @@ use Rattle.mailengine.specs.declared.answer.Answer.{Answer}
 use Rattle.mailengine.specs.declared.event.Event.{Event}
 use Rattle.mailengine.specs.declared.event.Event.TheVariants.{Open, Give, Step, Close}
 use Rattle.wires.specs.Rules.{Rules}
-use Rattle.wires.specs.Talk.{after_span, same}
+use Rattle.wires.specs.Talk.{same}
 use Rattle.sieveddaemon.specs.Desk.{StillShows, IsDone, NothingDone}
+use Rattle.mailmoves.specs.Moving.{span_behind}
+use Rattle.sieveddaemon.specs.Holds.{asked_at, holding_behind, has_work, is_move_due, is_rested, looked, moved, patience_by}
+use Rattle.sieveddaemon.specs.Moves.{IsMoved}
 use Rattle.sieveddaemon.specs.Room.{longest_guest}
 use Rattle.sieveddaemon.specs.Places.{client_at, want_of, due_of, new_place, place_given, place_behind, renewed, is_out, is_user}
 use Rattle.sieveddaemon.specs.Waiting.{Allows, IsDue, said_with, greeting, idle}
 use Rattle.sieveddaemon.specs.declared.daemon.Daemon.{Daemon}
 use Rattle.sieveddaemon.specs.declared.daemon.Holding.{Holding}
 use Rattle.sieveddaemon.specs.declared.note.Note.{Note}
-use Rattle.sieveddaemon.specs.declared.note.Note.TheVariants.{Did, Away, Freed, Spoke, Asked, Looked}
+use Rattle.sieveddaemon.specs.declared.note.Note.TheVariants.{Did, Away, Freed, Spoke, Looked, Moved}
 use Rattle.sieveddaemon.specs.declared.place.Place.{Place}
 use Rattle.sieveddaemon.specs.declared.place.Waits.{Waits}
 use Rattle.sieveddaemon.specs.declared.place.Waits.TheVariants as waits
@@ -108,17 +111,8 @@ AsksFor id (Did others event answer) kept = AsksStore (Step id) kept
 AsksFor id Away kept = AsksStore (Step id) kept
 AsksFor id note kept = Unit {0}
 
-abbrev pub asked_at : ℕ → Holding
-asked_at now = record { had = true; look = now; asked = now }
-
 abbrev pub had_at : ℕ → Daemon → Daemon
-had_at now d = record d { holding = asked_at now }
-
--- behind an event that asked the store it is had, and it is looked at once whether somebody waits for it
-abbrev pub holding_behind : ℕ → Note → Holding → Holding
-holding_behind now (Did others event answer) h = asked_at now
-holding_behind now (Asked others user lookup) h = asked_at now
-holding_behind now _ h = h
+had_at now d = record d { holding = asked_at now d.holding }
 
 -- what its connection waits for allows the note, which says what is done, what is said, and what is waited for then
 pub record Goes {R : Type 0} (shows : R → Accounts → Type 0) (d : Daemon) (r : R) (now id : ℕ) (note : Note) (said : List ℕ) (e : Daemon) (q : R) : Type 0 where
@@ -144,30 +138,22 @@ pub record Renews (d : Daemon) (now id : ℕ) (w : Waits) (answered : Bool) (e :
   pub holding : e.holding ≡ d.holding
   pub place : (before : Place) → place_at d id ≡ Some before → Places d id (Some (renewed now before w answered (is_user (client_at d.clients.sessions id)))) e
 
--- ---- work of its own: the store is given back
+-- ---- work of its own: the store is given back, or mail moves on
 
--- so many milliseconds pass from one look for who waits for the store to the next, and so many without an event that asked it
--- before it is given back at the latest
-abbrev pub look_span : ℕ
-look_span = 20
+-- what is noted of it: it was given back where somebody waits for it, or nobody asked for so long; a message was to move on, and it was
+-- its time; or the store wasn't to be had for that
+abbrev pub WorksBy : {R : Type 0} → (R → Accounts → Type 0) → Daemon → R → ℕ → Note → Kept → Holding → R → Type 0
+WorksBy shows d r now (Looked wanted) after h q =
+    StillShows shows r q × (after ≡ d.clients.sessions) × (h ≡ looked d.holding now (is_rested d.holding now) (is_rested d.holding now || wanted))
+WorksBy shows d r now (Moved others moving) after h q =
+    (is_move_due d.holding now ≡ true) × IsMoved shows others moving r d.clients.sessions q after × (h ≡ moved d.holding now (Some (span_behind moving)))
+WorksBy shows d r now Away after h q = (is_move_due d.holding now ≡ true) × NothingDone shows r d.clients.sessions q after × (h ≡ moved d.holding now None)
+WorksBy shows d r now _ after h q = ⊥
 
-abbrev pub max_rest : ℕ
-max_rest = 10000
-
-abbrev pub is_look_due : Daemon → ℕ → Bool
-is_look_due d now = d.holding.had && nat_le d.holding.look now
-
--- nobody asked for so long
-abbrev pub is_rested : Daemon → ℕ → Bool
-is_rested d now = nat_le (after_span d.holding.asked max_rest) now
-
-abbrev pub looked : Daemon → ℕ → Bool → Holding
-looked d now given = if given then record d.holding { had = false } else record d.holding { look = after_span now look_span }
-
--- it is given back where somebody waits for it, or nobody asked for so long, and kept else
-abbrev pub Rests : Daemon → ℕ → Note → Daemon → Type 0
-Rests d now (Looked wanted) e = e ≡ record d { holding = looked d now (is_rested d now || wanted) }
-Rests d now _ e = ⊥
+-- nothing else changes
+pub record DoesWork {R : Type 0} (shows : R → Accounts → Type 0) (d : Daemon) (r : R) (now : ℕ) (note : Note) (e : Daemon) (q : R) : Type 0 where
+  pub works : WorksBy shows d r now note e.clients.sessions e.holding q
+  pub places : e.places ≡ d.places
 
 -- ---- for how long it may rest
 
@@ -185,9 +171,9 @@ abbrev pub least_from : ℕ → List (ℕ × Place) → ℕ
 least_from span [] = span
 least_from span (it ∷ entries) = least_from (least span (patience_with it.1.waits)) entries
 
--- the least of those of all connections, and of that at which it is looked who waits for the store, where it is had
+-- the least of those of all connections, and of that by the store
 abbrev pub patience_of : Daemon → ℕ
-patience_of d = least_from (if d.holding.had then look_span else 1000) d.places.entries
+patience_of d = least_from (patience_by d.holding) d.places.entries
 
 -- ---- all of it
 
@@ -196,14 +182,14 @@ daemon_rules shows = record {
   limit = limit_of;
   displaced = displaced_of;
   wants = λ d id. want_of (place_at d id) (client_at d.clients.sessions id);
-  has_work = is_look_due;
+  has_work = λ d now. has_work d.holding now;
   patience = patience_of;
   deadline = λ d id. due_of (place_at d id) (client_at d.clients.sessions id);
   opens = λ d now kind id said e. Opens d now id said e;
   gives = λ d now id piece said e. Gives d now id piece said e;
   steps = λ d r now id note said e q. Goes shows d r now id note said e q;
   lates = λ d now id said e. (said ≡ idle) × (e ≡ d);
-  works = λ d r now note e q. StillShows shows r q × Rests d now note e;
+  works = λ d r now note e q. DoesWork shows d r now note e q;
   lacks = λ d id e. LacksFor d id e;
   closes = λ d now id e. Closes d id e;
 }

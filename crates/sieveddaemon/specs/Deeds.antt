@@ -19,7 +19,7 @@ use Rattle.mailposts.specs.declared.post.Post.{Post}
 use Rattle.reportlines.specs.Reports.{delivery_report}
 use Rattle.wires.specs.declared.act.Act.{Act}
 use Rattle.wires.specs.declared.act.Act.TheVariants.{Noted}
-use Rattle.sieveddaemon.specs.DaemonRules.{holding_behind}
+use Rattle.sieveddaemon.specs.Holds.{holding_behind}
 use Rattle.sieveddaemon.specs.Desk.{IsDone, IsAsked, NothingDone, delivery_of}
 use Rattle.sieveddaemon.specs.declared.daemon.Daemon.{Daemon}
 use Rattle.sieveddaemon.specs.declared.note.Note.{Note}

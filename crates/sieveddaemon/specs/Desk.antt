@@ -3,7 +3,7 @@ use Rattle.std.specs.Prelude.{◌≡◌, ℕ, ◌||◌, Bool, List, [], ◌∷�
 use Rattle.lmtp.specs.declared.receiver.Lookup.{Lookup}
 use Rattle.lmtp.specs.declared.receiver.Lookup.TheVariants.{Known, Unknown, Away as Absent}
 use Rattle.std.specs.FinMap.{get}
-use Rattle.mailstore.specs.Account.{Accounts}
+use Rattle.mailstore.specs.Account.{Accounts, known_one}
 use Rattle.sqlite.specs.State.{State, HasCleanDisk}
 use Rattle.sessions.specs.Acts.{HasAccounts}
 use Rattle.mailengine.specs.Hosts.{Kept, HasClients, KeepsClients}
@@ -78,10 +78,10 @@ Looks tells seen rest shows clean old rests gave new =
 abbrev pub StillShowsIf : {O R : Type 0} → (O → Bool) → (O → R) → (R → Accounts → Type 0) → O → O → Type 0
 StillShowsIf tells rest shows old new = IsTrue (tells new) → StillShows shows (rest old) (rest new)
 
--- what was found of an account of that name, among these
+-- what was found of an account of that name, among these; one that was removed isn't there
 abbrev pub IsFoundIn : Accounts → List ℕ → Lookup → Type 0
-IsFoundIn accounts user Known = IsSome (get accounts user)
-IsFoundIn accounts user Unknown = get accounts user ≡ None
+IsFoundIn accounts user Known = IsSome (known_one (get accounts user))
+IsFoundIn accounts user Unknown = known_one (get accounts user) ≡ None
 IsFoundIn accounts user Absent = ⊥
 IsFoundIn accounts user lookup = Unit {0}
 

@@ -3,8 +3,10 @@ pub mod DaemonRules
 pub mod Deeds
 pub mod Desk
 pub mod Headline
+pub mod Holds
 pub mod MailActs
 pub mod MailRules
+pub mod Moves
 pub mod Places
 pub mod Room
 pub mod Waiting

@@ -1,11 +1,10 @@
 -- What the daemon makes of what happens, with clients of LMTP beside those of ManageSieve.
-use Rattle.std.specs.Prelude.{◌≡◌, ◌⊎◌, ℕ, ◌==◌, ◌^◌, ◌-◌, nat_lt, Bool, true, false, cond, if◌then◌else◌, List, [], ◌∷◌, Option, Some, None}
+use Rattle.std.specs.Prelude.{◌≡◌, ◌⊎◌, ℕ, ◌==◌, Bool, true, false, cond, if◌then◌else◌, List, [], ◌∷◌, Option, Some, None}
 use Rattle.std.specs.Ordering.{nat_cmp}
 use Rattle.std.specs.BTreeMap as tree
 use Rattle.lmtp.specs.Replies.{greeting, line_of}
 use Rattle.lmtp.specs.declared.reply.Reply.TheVariants.{Idle}
 use Rattle.mailstore.specs.Account.{Accounts}
-use Rattle.mailengine.specs.declared.answer.Answer.{Answer}
 use Rattle.mailposts.specs.Posts.{new_post}
 use Rattle.mailposts.specs.Stands.{Stands, Hears}
 use Rattle.mailposts.specs.Tallies.{wanted, due}
@@ -16,9 +15,9 @@ use Rattle.wires.specs.Rules.{Rules}
 use Rattle.wires.specs.Talk.{same}
 use Rattle.wires.specs.declared.machine.Want.{Want}
 use Rattle.wires.specs.declared.machine.Want.TheVariants as want
-use Rattle.sieveddaemon.specs.DaemonRules.{lmtp, limit_of, displaced_of, place_at, is_look_due, least, patience_of, Opens, Gives, Goes, Rests, LacksFor, Closes, Forgets}
+use Rattle.sieveddaemon.specs.DaemonRules.{lmtp, limit_of, displaced_of, place_at, least, patience_of, Opens, Gives, Goes, DoesWork, LacksFor, Closes, Forgets}
 use Rattle.sieveddaemon.specs.Deeds.{DoesOne}
-use Rattle.sieveddaemon.specs.Desk.{StillShows}
+use Rattle.sieveddaemon.specs.Holds.{has_work}
 use Rattle.sieveddaemon.specs.Places.{client_at, want_of, due_of}
 use Rattle.sieveddaemon.specs.Waiting.{idle}
 use Rattle.sieveddaemon.specs.declared.mail.MailDaemon.{MailDaemon}
@@ -153,10 +152,9 @@ pub record Parts (d : MailDaemon) (id : ℕ) (said : List ℕ) (e : MailDaemon) 
   pub says : IsFarewell (post_at d id) (place_at d.daemon id) said
   pub stays : e ≡ d
 
--- it was looked whether somebody waits for the store
-pub record Looks {R : Type 0} (shows : R → Accounts → Type 0) (d : MailDaemon) (r : R) (now : ℕ) (note : Note) (e : MailDaemon) (q : R) : Type 0 where
-  pub shown : StillShows shows r q
-  pub rests : Rests d.daemon now note e.daemon
+-- the daemon does something by itself, by its own rules
+pub record Works {R : Type 0} (shows : R → Accounts → Type 0) (d : MailDaemon) (r : R) (now : ℕ) (note : Note) (e : MailDaemon) (q : R) : Type 0 where
+  pub does : DoesWork shows d.daemon r now note e.daemon q
   pub same : SamePosts d e
 
 -- where memory was lacking for one nothing more is known of it
@@ -175,14 +173,14 @@ mail_rules shows = record {
   limit = limit_for;
   displaced = displaced_for;
   wants = λ d id. wants_by (post_at d id) (want_of (place_at d.daemon id) (client_at d.daemon.clients.sessions id));
-  has_work = λ d now. is_look_due d.daemon now;
+  has_work = λ d now. has_work d.daemon.holding now;
   patience = patience_for;
   deadline = λ d id. due_by (post_at d id) (due_of (place_at d.daemon id) (client_at d.daemon.clients.sessions id));
   opens = λ d now kind id said e. OpensBy (kind == lmtp) d now id said e;
   gives = λ d now id piece said e. GivesBy d now id piece said e;
   steps = λ d r now id note said e q. GoesBy shows d r now id note said e q;
   lates = λ d now id said e. Parts d id said e;
-  works = λ d r now note e q. Looks shows d r now note e q;
+  works = λ d r now note e q. Works shows d r now note e q;
   lacks = λ d id e. LacksBy d id e;
   closes = λ d now id e. ClosesBy d id e;
 }

@@ -1,12 +1,13 @@
 //! The daemon: sessions, what each connection waits for, and whether the store is had.
 ghost use Rattle.std.specs.Prelude.{◌≡◌, []};
+ghost use Rattle.sieveddaemon.specs.Holds as rules;
 
 use crate::place::Place;
 use mailengine::Clients;
 use std::alloc::Global;
 use std::collections::BTreeMap;
 
-/// Whether the store is had. Moments are in milliseconds.
+/// Whether the store is had, and when a message is to move on. Moments are in milliseconds.
 #[derive(Clone, Copy, Debug, PartialEq, Eq)]
 pub struct Holding {
     /// It may be had.
@@ -15,6 +16,12 @@ pub struct Holding {
     pub look: u64,
     /// The moment of the last event that asked it.
     pub asked: u64,
+    /// Whether mail moves on at all.
+    pub moves: bool,
+    /// The moment from which on a message may move on.
+    pub next: u64,
+    /// How many events asked the store since the last message was to move; ten at most are counted.
+    pub events: u64,
 }
 
 /// The sessions of clients, and what else is known of each connection, by its number.
@@ -26,11 +33,35 @@ pub struct Daemon {
     pub holding: Holding,
 }
 
+impl Holding {
+    /// Behind an event that asked the store at a moment: it is had.
+    pub fn asked_at(self, now: u64) -> Holding
+        ensures { result ≡ rules.asked_at now self }
+    {
+        Holding {
+            had: true,
+            look: now,
+            asked: now,
+            moves: self.moves,
+            next: now,
+            events: counted(self.events),
+        }
+    }
+}
+
+/// One more, ten at most.
+fn counted(events: u64) -> u64
+    ensures { result ≡ rules.counted events }
+{
+    if events < 10 { events + 1 } else { 10 }
+}
+
 impl Daemon {
-    /// No connections. Takes no memory.
-    pub fn new(alloc: Global) -> Daemon
+    /// No connections. Where `moves`, mail moves on. Takes no memory.
+    pub fn new(alloc: Global, moves: bool) -> Daemon
         ensures sessions { result.clients.sessions.entries ≡ [] }
         ensures places { result.places.entries ≡ [] }
+        ensures moves { result.holding.moves ≡ moves }
     {
         Daemon {
             alloc,
@@ -40,6 +71,9 @@ impl Daemon {
                 had: false,
                 look: 0,
                 asked: 0,
+                moves,
+                next: 0,
+                events: 0,
             },
         }
     }

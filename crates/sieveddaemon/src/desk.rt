@@ -1,11 +1,13 @@
 //! The store, as the daemon sees it.
-ghost use Rattle.std.specs.Prelude.{ℕ, IsTrue, IfSome};
+ghost use Rattle.std.specs.Prelude.{ℕ, List, IsTrue, IfSome};
 ghost use Rattle.mailposts.specs.Posts.{IsFound};
 ghost use Rattle.mailstore.specs.Account.{Accounts};
 ghost use Rattle.mailengine.specs.Hosts.{IsGivenUp};
 ghost use Rattle.wires.specs.declared.act.Act.TheVariants.{Noted};
 ghost use Rattle.wires.specs.Told.{TellsIf};
 ghost use Rattle.sieveddaemon.specs.declared.note.Note.TheVariants.{Answered, Freed, Spoke};
+ghost use Rattle.mailsinks.specs.declared.kept.KeptMail.{KeptMail};
+ghost use Rattle.sieveddaemon.specs.Moves.{MovesOn};
 ghost use Rattle.sieveddaemon.specs.Desk.{Carries, Delivers, Looks, LooksUp, StillShowsIf};
 
 use crate::note::Note;
@@ -60,6 +62,16 @@ pub trait Desk: Outside<Note = Note> {
         ensures kept { IsTrue (Self.tells self.new) → IsTrue (Self.tells self.old) }
         ensures told { TellsIf Self.tells Self.seen self.old (Noted id Spoke) self.new }
         ensures shown { StillShowsIf Self.tells Self.rest shows self.old self.new };
+
+    /// Which messages the sink has, where mail moves on; of one that doesn't tell them any may be had.
+    ghost has: { Self.Rest → List KeptMail → Type 0 };
+
+    /// Has the first message of a folder move on, whichever folder that is: the sink keeps it, and then it is taken out of the store,
+    /// all while that is had. `fresh`, where events asked the store since the last call. For so many milliseconds no other message
+    /// is to move; none where the store isn't to be had now.
+    fn move_on(&mut self, clients: &mut Clients, now: u64, fresh: bool) -> Option<u64>
+        ensures kept { IsTrue (Self.tells self.new) → IsTrue (Self.tells self.old) }
+        ensures moves { MovesOn Self.tells Self.seen Self.rest shows has clean self.old clients.old.sessions result self.new clients.new.sessions };
 
     /// Looks whether somebody waits for the store, and gives it back where somebody does, or where it `rests`. Says whether
     /// it was given back.

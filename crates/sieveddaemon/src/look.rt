@@ -1,10 +1,10 @@
-//! It is looked whether somebody waits for the store.
-ghost use Rattle.std.specs.Prelude.{◌≡◌, IsTrue};
+//! What the daemon does by itself: it looks whether somebody waits for the store, and has mail move on.
+ghost use Rattle.std.specs.Prelude.{◌≡◌, true, IsTrue};
 ghost use Rattle.wires.specs.Rules.{WorksIf};
-ghost use Rattle.sieveddaemon.specs.DaemonRules as rules;
 ghost use Rattle.sieveddaemon.specs.DaemonRules.{daemon_rules};
+ghost use Rattle.sieveddaemon.specs.Holds as rules;
 
-use crate::daemon::Daemon;
+use crate::daemon::{Daemon, Holding};
 use crate::desk::Desk;
 
 /// So many milliseconds pass from one look for who waits for the store to the next.
@@ -13,22 +13,136 @@ const LOOK_SPAN: u64 = 20;
 /// After so many milliseconds without an event that asked it the store is given back.
 const MAX_REST: u64 = 10000;
 
-/// Whether it is to be looked whether somebody waits for the store.
-pub fn is_look_due(daemon: &Daemon, now: u64) -> bool
-    ensures { result ≡ rules.is_look_due daemon.now now }
+/// So many milliseconds without an event that asked it are a rest in which a message moves on.
+const QUIET_SPAN: u64 = 20;
+
+/// After so many events that asked the store a message moves on, be there more of them.
+const MAX_EVENTS: u64 = 10;
+
+/// So many milliseconds later it is looked for mail again, where somebody waited for the store, or it wasn't to be had.
+const AGAIN_SPAN: u64 = 1000;
+
+/// And so many where it was given back since nobody asked it.
+const LONG_SPAN: u64 = 60000;
+
+/// Whether the daemon has something to do by itself.
+pub fn has_work(daemon: &Daemon, now: u64) -> bool
+    ensures { result ≡ rules.has_work daemon.now.holding now }
 {
-    daemon.holding.had && daemon.holding.look <= now
+    is_look_due(&daemon.holding, now) || is_move_due(&daemon.holding, now)
+}
+
+/// Whether it is to be looked whether somebody waits for the store.
+fn is_look_due(holding: &Holding, now: u64) -> bool
+    ensures { result ≡ rules.is_look_due holding.now now }
+{
+    holding.had && holding.look <= now
+}
+
+/// Whether a message is to move on: behind ten events, behind the last message where none came since, and where nobody asked the
+/// store for a while.
+fn is_move_due(holding: &Holding, now: u64) -> bool
+    ensures { result ≡ rules.is_move_due holding.now now }
+{
+    holding.moves && holding.next <= now && is_turn(holding, now)
+}
+
+/// Whether the store isn't had, or it was looked since the last event that asked it who waits for it: so who waits comes first.
+fn is_looked(holding: &Holding) -> bool {
+    !holding.had || holding.asked < holding.look
+}
+
+fn is_turn(holding: &Holding, now: u64) -> bool
+    ensures { result ≡ rules.is_turn holding.now now }
+{
+    holding.events == 0
+        || MAX_EVENTS <= holding.events
+        || holding.asked.wrapping_add(QUIET_SPAN) <= now
+}
+
+/// The daemon does something by itself.
+pub fn work_by<O: Desk>(daemon: &mut Daemon, outside: &mut O, now: u64)
+    ensures kept { IsTrue (O.tells outside.new) → IsTrue (O.tells outside.old) }
+    ensures works { WorksIf O.tells O.seen O.rest (daemon_rules O.shows) outside.old daemon.old now outside.new daemon.new }
+{
+    if is_move_due(&daemon.holding, now) && is_looked(&daemon.holding) {
+        move_by(daemon, outside, now)
+    } else {
+        look_by(daemon, outside, now)
+    }
 }
 
 /// It is looked whether somebody waits for the store.
-pub fn look_by<O: Desk>(daemon: &mut Daemon, outside: &mut O, now: u64)
+fn look_by<O: Desk>(daemon: &mut Daemon, outside: &mut O, now: u64)
     ensures kept { IsTrue (O.tells outside.new) → IsTrue (O.tells outside.old) }
     ensures works { WorksIf O.tells O.seen O.rest (daemon_rules O.shows) outside.old daemon.old now outside.new daemon.new }
 {
     let rests = daemon.holding.asked.wrapping_add(MAX_REST) <= now;
-    if outside.look(rests) {
-        daemon.holding.had = false;
-    } else {
-        daemon.holding.look = now.wrapping_add(LOOK_SPAN);
+    let gives = outside.look(rests);
+    daemon.holding = looked(daemon.holding, now, rests, gives);
+}
+
+/// What is so of the store behind a look.
+fn looked(holding: Holding, now: u64, rests: bool, gives: bool) -> Holding
+    ensures { result ≡ rules.looked holding now rests gives }
+{
+    if !gives {
+        return Holding {
+            had: holding.had,
+            look: now.wrapping_add(LOOK_SPAN),
+            asked: holding.asked,
+            moves: holding.moves,
+            next: holding.next,
+            events: holding.events,
+        };
+    }
+    Holding {
+        had: false,
+        look: holding.look,
+        asked: holding.asked,
+        moves: holding.moves,
+        next: now.wrapping_add(span_behind(rests)),
+        events: holding.events,
+    }
+}
+
+fn span_behind(rests: bool) -> u64
+    ensures { result ≡ rules.span_by rests }
+{
+    if rests { LONG_SPAN } else { AGAIN_SPAN }
+}
+
+/// A message moves on.
+fn move_by<O: Desk>(daemon: &mut Daemon, outside: &mut O, now: u64)
+    requires { rules.is_move_due daemon.old.holding now ≡ true }
+    ensures kept { IsTrue (O.tells outside.new) → IsTrue (O.tells outside.old) }
+    ensures works { WorksIf O.tells O.seen O.rest (daemon_rules O.shows) outside.old daemon.old now outside.new daemon.new }
+{
+    let fresh = daemon.holding.events != 0;
+    let span = outside.move_on(&mut daemon.clients, now, fresh);
+    daemon.holding = moved(daemon.holding, now, span);
+}
+
+/// What is so of the store where a message was to move on: for how long none is to; none where the store wasn't to be had.
+fn moved(holding: Holding, now: u64, span: Option<u64>) -> Holding
+    ensures { result ≡ rules.moved holding now span }
+{
+    match span {
+        Some(span) => Holding {
+            had: true,
+            look: now,
+            asked: now,
+            moves: holding.moves,
+            next: now.wrapping_add(span),
+            events: 0,
+        },
+        None => Holding {
+            had: holding.had,
+            look: holding.look,
+            asked: holding.asked,
+            moves: holding.moves,
+            next: now.wrapping_add(AGAIN_SPAN),
+            events: holding.events,
+        },
     }
 }

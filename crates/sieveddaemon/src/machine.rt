@@ -3,7 +3,7 @@ ghost use Rattle.std.specs.Prelude.{◌≡◌};
 ghost use Rattle.sieveddaemon.specs.MailRules as rules;
 
 use crate::desk::Desk;
-use crate::look::{is_look_due, look_by};
+use crate::look::{has_work, work_by};
 use crate::mail::MailDaemon;
 use crate::mail_open::{enter_client, enter_post, hear_by, leave_by, say_last};
 use crate::mail_step::step_post;
@@ -66,7 +66,7 @@ impl<O: Desk> Machine<O> for MailDaemon {
     }
 
     fn has_work(&self, now: u64) -> bool {
-        is_look_due(&self.daemon, now)
+        has_work(&self.daemon, now)
     }
 
     fn patience(&self) -> u32 {
@@ -110,7 +110,7 @@ impl<O: Desk> Machine<O> for MailDaemon {
     }
 
     fn work(&mut self, outside: &mut O, now: u64) {
-        look_by(&mut self.daemon, outside, now)
+        work_by(&mut self.daemon, outside, now)
     }
 
     fn close(&mut self, _now: u64, id: u32) {

@@ -20,16 +20,17 @@ pub struct MailDaemon {
 }
 
 impl MailDaemon {
-    /// No connections. Takes no memory.
-    pub fn new(alloc: Global, names: Names, host: Octets) -> MailDaemon
+    /// No connections. Where `moves`, mail moves on. Takes no memory.
+    pub fn new(alloc: Global, names: Names, host: Octets, moves: bool) -> MailDaemon
         ensures sessions { result.daemon.clients.sessions.entries ≡ [] }
         ensures places { result.daemon.places.entries ≡ [] }
         ensures posts { result.posts.entries ≡ [] }
         ensures names { result.names ≡ names }
         ensures host { result.host ≡ host }
+        ensures moves { result.daemon.holding.moves ≡ moves }
     {
         MailDaemon {
-            daemon: Daemon::new(alloc),
+            daemon: Daemon::new(alloc, moves),
             posts: BTreeMap::new(alloc),
             names,
             host,

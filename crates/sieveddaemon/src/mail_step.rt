@@ -3,12 +3,11 @@ ghost use Rattle.std.specs.Prelude.{◌≡◌, [], IsTrue, OnOk, OnErr};
 ghost use Rattle.wires.specs.Rules.{StepsIf, IdlesIf};
 ghost use Rattle.sieveddaemon.specs.Deeds as deeds;
 ghost use Rattle.sieveddaemon.specs.MailRules.{mail_rules, LacksBy};
-ghost use Rattle.sieveddaemon.specs.DaemonRules as rules;
 ghost use Rattle.mailposts.specs.Stands.{Demands, HasSlot};
 ghost use Rattle.mailposts.specs.declared.demand.Demand.TheVariants as demands;
 
 use crate::became::became_of;
-use crate::daemon::{Daemon, Holding};
+use crate::daemon::Daemon;
 use crate::desk::Desk;
 use crate::mail::MailDaemon;
 use crate::mail_open::lack_post;
@@ -106,7 +105,7 @@ fn ask<O: Desk>(
 {
     match outside.look_up(id, &mut daemon.clients, question.user.as_slice()) {
         Some(lookup) => {
-            daemon.holding = asked_at(now);
+            daemon.holding = daemon.holding.asked_at(now);
             post.found(now, question, lookup, room)
         }
         None => {
@@ -133,7 +132,7 @@ fn bring<O: Desk>(
 {
     match outside.deliver(id, &mut daemon.clients, &parcel) {
         Some(answer) => {
-            daemon.holding = asked_at(now);
+            daemon.holding = daemon.holding.asked_at(now);
             let became = became_of(alloc, parcel.sender.as_slice(), answer);
             post.brought(now, &parcel, became, room)
         }
@@ -141,15 +140,5 @@ fn bring<O: Desk>(
             post.await_store(now);
             Octets::new(alloc)
         }
-    }
-}
-
-fn asked_at(now: u64) -> Holding
-    ensures { result ≡ rules.asked_at now }
-{
-    Holding {
-        had: true,
-        look: now,
-        asked: now,
     }
 }

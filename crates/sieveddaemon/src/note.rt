@@ -1,6 +1,7 @@
 //! What the daemon notes.
 use lmtp::Lookup;
 use mailengine::{Answer, Event};
+use mailmoves::Moving;
 use octets::{List, Octets};
 
 /// What the daemon did when it went on with a connection, or by itself. One that tells its acts makes the value; over the
@@ -35,4 +36,10 @@ pub enum Note {
     },
     /// It was looked whether somebody waits for the store, and whether somebody does.
     Looked(bool),
+    /// A message was to move on, and this became of it.
+    Moved {
+        /// As of [`Note::Did`].
+        others: List<Event>,
+        moving: Moving,
+    },
 }

@@ -1,9 +1,10 @@
 //! How long the daemon may rest where nothing happens.
 ghost use Rattle.std.specs.Prelude.{◌≡◌};
 ghost use Rattle.sieveddaemon.specs.DaemonRules as rules;
+ghost use Rattle.sieveddaemon.specs.Holds as holds;
 ghost use Rattle.sieveddaemon.specs.MailRules as mail;
 
-use crate::daemon::Daemon;
+use crate::daemon::{Daemon, Holding};
 use crate::mail::MailDaemon;
 use crate::place::Waits;
 use mailposts::Wanted;
@@ -44,15 +45,31 @@ fn patience_by(wanted: Wanted) -> u32
 fn patience_of(daemon: &Daemon) -> u32
     ensures { result ≡ rules.patience_of daemon.now }
 {
-    let mut span = if daemon.holding.had {
-        WHILE_HAD
-    } else {
-        AT_REST
-    };
+    let mut span = patience_by_store(&daemon.holding);
     for (_, place) in daemon.places.iter() {
         span = least(span, patience_with(&place.waits));
     }
     span
+}
+
+/// The same by the store: none where the next message is to move at once.
+fn patience_by_store(holding: &Holding) -> u32
+    ensures { result ≡ holds.patience_by holding.now }
+{
+    if !holding.had {
+        return AT_REST;
+    }
+    if is_moving(holding) {
+        return 0;
+    }
+    WHILE_HAD
+}
+
+/// Whether the next message is to move at once, unless an event comes before.
+fn is_moving(holding: &Holding) -> bool
+    ensures { result ≡ holds.is_moving holding.now }
+{
+    holding.moves && holding.events == 0 && holding.next <= holding.asked
 }
 
 fn least(span: u32, other: u32) -> u32

@@ -12,7 +12,7 @@ ghost use Rattle.sieveddaemon.specs.declared.note.Note.TheVariants.{Away};
 ghost use Rattle.mailengine.specs.Hosts.{AsksStore};
 ghost use Rattle.mailengine.specs.declared.event.Event.TheVariants.{Step};
 
-use crate::daemon::{Daemon, Holding};
+use crate::daemon::Daemon;
 use crate::desk::Desk;
 use crate::place::{Place, Waits};
 use crate::room::is_user;
@@ -160,11 +160,7 @@ fn settle_done(daemon: &mut Daemon, now: u64, id: u32, answer: Answer, out: &mut
     ensures renews { Renews (had_at now daemon.old) now id (waits_after now answer) (places.is_out answer) daemon.new }
     ensures said { out.new ≡ said_at_once answer }
 {
-    daemon.holding = Holding {
-        had: true,
-        look: now,
-        asked: now,
-    };
+    daemon.holding = daemon.holding.asked_at(now);
     settle(daemon, now, id, answer, out)
 }
 

@@ -3,7 +3,10 @@
 use crate::others::{SALT, parse_event};
 use daemonfakes::desk::DeskFake;
 use daemonfakes::memory::MemShelf;
+use maildirs::Separator;
 use mailengine::add_user;
+use mailmoves::Route;
+use mailsinks::MemorySink;
 use mailstore::Store;
 use octets::{List, Octets, write_decimal};
 use sieveddaemon::note::Note;
@@ -24,7 +27,11 @@ pub struct Accounts {
 pub fn new_shelf(alloc: Global) -> Result<MemShelf, AllocError> {
     let conn = Connection::open_in_memory(alloc)?;
     match Store::create(alloc, conn) {
-        Ok(store) => Ok(MemShelf { store }),
+        Ok(store) => Ok(MemShelf {
+            store,
+            sink: MemorySink::new(alloc),
+            route: Route::new(alloc, Octets::from_slice(alloc, b"mail")?, Separator::Dot),
+        }),
         Err(_) => Err(AllocError),
     }
 }
@@ -42,6 +49,16 @@ impl Owner<DeskFake<MemShelf>> for Accounts {
             b"user" => begin_with(self.alloc, &mut outside.stage.fake.rest.store, rest),
             b"away" => add(&mut outside.away, true),
             b"wanted" => add(&mut outside.waits, true),
+            b"unkept" => {
+                outside.stage.fake.rest.sink.fail_after(0);
+                Ok(())
+            }
+            b"mail" => self.note(
+                line,
+                rest,
+                names_of(self.alloc, outside)?.as_slice(),
+                checks,
+            ),
             b"told" => self.note(line, rest, told_by(outside), checks),
             b"others" => match parse_event(self.alloc, rest)? {
                 Some(event) => add(&mut outside.others, event),
@@ -144,6 +161,22 @@ fn count_in<S: Alter>(store: &mut Store<S>, word: &[u8], user: &[u8]) -> Option<
         },
         _ => None,
     }
+}
+
+/// The messages that moved on so far: `USER/FOLDER/NUMBER` of each, in their order.
+fn names_of(alloc: Global, outside: &DeskFake<MemShelf>) -> Result<Octets, AllocError> {
+    let mut names = Octets::new(alloc);
+    for mail in outside.stage.fake.rest.sink.messages() {
+        if !names.is_empty() {
+            names.push(b' ')?;
+        }
+        names.extend_from_slice(mail.user.as_slice())?;
+        names.push(b'/')?;
+        names.extend_from_slice(mail.folder.as_slice())?;
+        names.push(b'/')?;
+        write_decimal(&mut names, mail.number)?;
+    }
+    Ok(names)
 }
 
 /// How often it was seen that somebody waits for the store.

@@ -59,6 +59,9 @@ const DAEMONS: [&str; 5] = [
     "mail-store-away.daemon",
 ];
 
+/// Those of the daemon where mail moves on.
+const MOVERS: [&str; 1] = ["mail-moves.daemon"];
+
 /// The dialogues of LMTP.
 const DIALOGUES: &str = "lmtp.cases";
 
@@ -67,6 +70,8 @@ const DIALOGUES: &str = "lmtp.cases";
 enum Server {
     Echo,
     Daemon,
+    /// The daemon, where mail moves on.
+    Mover,
 }
 
 fn main(rt: HostRuntime) -> io::Result<ExitCode> {
@@ -76,6 +81,7 @@ fn main(rt: HostRuntime) -> io::Result<ExitCode> {
     };
     try_files(&rt, Server::Echo, &ECHOES, &mut counts)?;
     try_files(&rt, Server::Daemon, &DAEMONS, &mut counts)?;
+    try_files(&rt, Server::Mover, &MOVERS, &mut counts)?;
     try_dialogues(&rt, &mut counts)?;
     println!(rt; "{} passed, {} failed", counts.passed, counts.failed)?;
     Ok(status(counts.failed))
@@ -187,7 +193,8 @@ fn note_checks(tally: &mut Tally, before: usize, checks: &List<Check>) -> Result
 fn play(alloc: Global, server: Server, schedule: &Schedule) -> Result<List<Check>, AllocError> {
     match server {
         Server::Echo => play_echo(alloc, schedule),
-        Server::Daemon => play_daemon(alloc, schedule),
+        Server::Daemon => play_daemon(alloc, schedule, false),
+        Server::Mover => play_daemon(alloc, schedule, true),
     }
 }
 
@@ -204,13 +211,13 @@ fn play_echo(alloc: Global, schedule: &Schedule) -> Result<List<Check>, AllocErr
     Ok(player.checks)
 }
 
-fn play_daemon(alloc: Global, schedule: &Schedule) -> Result<List<Check>, AllocError> {
+fn play_daemon(alloc: Global, schedule: &Schedule, moves: bool) -> Result<List<Check>, AllocError> {
     let shelf = new_shelf(alloc)?;
     let host = Octets::from_slice(alloc, b"localhost")?;
     let mut player = Player {
         alloc,
         outside: DeskFake::new(alloc, shelf),
-        machine: MailDaemon::new(alloc, Names::Local, host),
+        machine: MailDaemon::new(alloc, Names::Local, host, moves),
         service: Service::new(alloc),
         owner: Accounts { alloc },
         checks: List::new(alloc),

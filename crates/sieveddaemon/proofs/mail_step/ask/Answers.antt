@@ -1,5 +1,4 @@
-use Rattle.std.proofs.Common.{Some, None, subst}
-use Rattle.mailengine.specs.declared.clients.Clients.{Clients}
+use Rattle.std.proofs.Common.{Some, subst}
 use Rattle.sieveddaemon.specs.Desk.{LooksUp}
 use Rattle.sieveddaemon.proofs.DeedLemmas.{asks_account, asked, unasked}
 use Rattle.sieveddaemon.proofs.mail_step.ask.Goals as goal

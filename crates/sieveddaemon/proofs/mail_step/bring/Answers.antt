@@ -1,4 +1,4 @@
-use Rattle.std.proofs.Common.{Some, None, subst}
+use Rattle.std.proofs.Common.{subst}
 use Rattle.sieveddaemon.specs.Deeds.{IsBecame}
 use Rattle.sieveddaemon.proofs.DeedLemmas.{asks_delivery, brought, unbrought}
 use Rattle.sieveddaemon.proofs.mail_step.bring.Goals as goal

@@ -1,4 +1,4 @@
-use Rattle.std.proofs.Common.{◌≡◌, Some, inl, refl, sym, rules}
+use Rattle.std.proofs.Common.{◌≡◌, Some, inl, refl, rules}
 use Rattle.std.specs.Ordering.{nat_cmp}
 use Rattle.std.specs.BTreeMap as tree
 use Rattle.sieveddaemon.specs.MailRules.{post_at}

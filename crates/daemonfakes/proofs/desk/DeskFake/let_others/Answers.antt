@@ -9,6 +9,7 @@ loop-event-init g c = (
       (lets_none g.S.Shelf.holds c.args.self.now.stage.fake.rest c.args.clients.now.sessions),
   refl,
   refl,
+  λ mails had. had,
 )
 
 pub loop-event-preserved : goal.loop-event-preserved
@@ -16,6 +17,7 @@ loop-event-preserved g c = (
   c.let_one.ensures.lets c.args.self.now.stage.fake.rest c.args.clients.now.sessions c.loop-event.invariant.0,
   c.let_one.ensures.acts ∙ c.loop-event.invariant.1,
   c.let_one.ensures.lost ∙ c.loop-event.invariant.2,
+  λ mails had. c.let_one.ensures.still mails (c.loop-event.invariant.3 mails had),
 )
 
 pub returns-clause-others : goal.returns-clause-others

@@ -1,5 +1,5 @@
 use Rattle.std.proofs.Common.{◌≡◌, length}
-use Rattle.daemonfakes.specs.Shelves.{LetsOthers}
+use Rattle.daemonfakes.specs.Shelves.{LetsOthers, StillHas}
 use Rattle.daemonfakes.proofs.desk.DeskFake.let_others.Given as goal
 
 -- those that happened so far are told, and nothing else is
@@ -8,6 +8,7 @@ invariant-loop-event g l =
     LetsOthers g.S.Shelf.holds l.others.items l.initial.self.stage.fake.rest l.initial.clients.sessions l.self.stage.fake.rest l.clients.sessions
     × (l.self.stage.fake.acts ≡ l.initial.self.stage.fake.acts)
     × (l.self.stage.fake.lost ≡ l.initial.self.stage.fake.lost)
+    × StillHas g.S.Shelf.has l.initial.self.stage.fake.rest l.self.stage.fake.rest
 
 abbrev pub decreases-loop-event : goal.decreases-loop-event
 decreases-loop-event g l = length l.self.others.items

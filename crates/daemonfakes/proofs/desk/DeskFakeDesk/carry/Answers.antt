@@ -15,7 +15,7 @@ returns-clause-carries g c =
     let done : IsDone g.S.Shelf.holds others c.args.event.now c.change-answer.result c.args.self.now.stage.fake.rest c.args.clients.now.sessions c.note_done.new.self.stage.fake.rest c.change-answer.new.clients.sessions =
     subst (λ s. IsDone g.S.Shelf.holds others c.args.event.now c.change-answer.result c.args.self.now.stage.fake.rest c.args.clients.now.sessions s c.change-answer.new.clients.sessions) (sym c.note_done.ensures.left)
     (done_behind g.S.Shelf.holds others c.args.event.now c.change-answer.result c.args.self.now.stage.fake.rest c.let_others-others.new.self.stage.fake.rest c.change-answer.new.self c.args.clients.now.sessions c.let_others-others.new.clients.sessions c.change-answer.new.clients.sessions
-    lets c.change-answer.ensures) in (
+    lets c.change-answer.ensures.applied) in (
       others,
       λ clean. done,
       λ tells. c.note_done.ensures.told tells

@@ -1,0 +1,86 @@
+-- A message that is read, kept and taken.
+use Rattle.std.proofs.Common.{◌≡◌, ℕ, List, [], ◌∷◌, drop, Option, Some, Result, Ok, Err, IfOk, refl, sym, ap, subst}
+use Rattle.sqlite.specs.State.{State, HasCleanDisk}
+use Rattle.mailtables.proofs.WriteLemmas.{clean_before}
+use Rattle.mailstore.specs.Account.{Accounts, messages_in}
+use Rattle.mailstore.specs.CopyRows.{HasFirst}
+use Rattle.mailstore.specs.Promises.{HasOurTables, Keeps, Reads, OfOpen}
+use Rattle.mailstore.specs.declared.refusal.Refusal.{Refusal}
+use Rattle.mailstore.specs.declared.taking.NumberedMessage.{NumberedMessage}
+use Rattle.sessions.specs.Acts.{HasAccounts}
+use Rattle.sessions.proofs.ActLemmas.{glanced, accounts_stay, read_shows}
+use Rattle.mailengine.specs.Hosts.{ActsMailTaking, answer_by}
+use Rattle.mailengine.specs.declared.answer.Answer.TheVariants.{MailTaken}
+use Rattle.mailmoves.specs.Moving.{IsFirst, TakesFirst, MovesFirst, Moves, MovesOn, WasClean, IsStill}
+use Rattle.mailsinks.specs.declared.kept.KeptMail.{KeptMail}
+use Rattle.mailmoves.specs.declared.moving.Kept.{Kept}
+use Rattle.mailmoves.specs.declared.moving.Moving.{Moving}
+use Rattle.mailmoves.specs.declared.moving.Moving.TheVariants as moving
+use Rattle.mailmoves.specs.declared.moving.Why.{Why}
+
+-- ---- what only reads
+
+pub read_clean : {X E : Type 0} (a b : State) (r : Result X E) → Keeps a b r → WasClean a b
+read_clean a b r k = clean_before a b (λ _. HasOurTables a.now → ⊥) k.crash
+
+pub read_shown : {X E : Type 0} (a b : State) (r : Result X E) → Keeps a b r → HasCleanDisk b → (accounts : Accounts) → HasAccounts a accounts → HasAccounts b accounts
+read_shown a b r k = accounts_stay a b (glanced a b r k)
+
+-- and nothing moved
+pub still_first : {X E : Type 0} (user folder : List ℕ) (why : Why) (a b : State) (r : Result X E) → Keeps a b r → MovesFirst user folder (Err why) a b
+still_first user folder why a b r k clean accounts shown = (accounts, refl, read_shown a b r k clean accounts shown)
+
+still_moves : (m : Moving) (accounts : Accounts) → IsStill m → Moves m accounts accounts
+still_moves moving.Nothing accounts is = refl
+still_moves moving.Passed accounts is = refl
+still_moves (moving.Failed refusal) accounts is = refl
+still_moves (moving.Stays stay) accounts is = refl
+still_moves (moving.Kept mail answer) accounts is = absurd is
+
+pub still_on : (m : Moving) (a : State) → IsStill m → MovesOn m a a
+still_on m a is clean accounts shown = (accounts, still_moves m accounts is, shown)
+
+-- a move behind a read
+pub moves_behind : {X E : Type 0} (m : Moving) (a b c : State) (r : Result X E) → Keeps a b r → WasClean b c → MovesOn m b c → MovesOn m a c
+moves_behind m a b c r k was moves clean accounts shown = moves clean accounts (read_shown a b r k (was clean) accounts shown)
+
+pub still_then : {X E : Type 0} (m : Moving) (a b : State) (r : Result X E) → Keeps a b r → IsStill m → MovesOn m a b
+still_then m a b r k is = moves_behind m a b b r k (λ clean. clean) (still_on m b is)
+
+-- a move that didn't come about is none, and what moved is
+pub failed_is : (user folder : List ℕ) (why : Why) (m : Moving) (a b : State) → IsStill m → MovesFirst user folder (Err why) a b → MovesOn m a b
+failed_is user folder why m a b is moves clean accounts shown =
+    let it = moves clean accounts shown in
+    (accounts, still_moves m accounts is, subst (HasAccounts b) it.1 it.2)
+
+-- ---- one message
+module _ (user folder : List ℕ) (a b : State) (r : Result (Option NumberedMessage) Refusal) (first : Option NumberedMessage) (was : r ≡ Ok first)
+    (reads : Reads user (λ first account. HasFirst first (messages_in account.folders folder)) a b r) (message : NumberedMessage) (is : first ≡ Some message) where
+  some_first : (messages : List (List ℕ)) → HasFirst (Some message) messages → messages ≡ message.message ∷ drop 1 messages
+  some_first [] has = absurd (let no = has in cc)
+  some_first (other ∷ more) has = let same : message.message ≡ other = cc in ap (λ m. m ∷ more) (sym same)
+
+  is_first : HasCleanDisk b → (accounts : Accounts) → HasAccounts a accounts → IsFirst accounts user folder message.message
+  is_first clean accounts shown =
+      let own = subst (λ q. IfOk q (λ x. OfOpen accounts user (λ account. HasFirst x (messages_in account.folders folder)))) was (reads.found clean accounts (read_shows a b r first was reads.keeps clean accounts shown).0) in
+      (own.0, drop 1 (messages_in own.0.folders folder), own.1, some_first (messages_in own.0.folders folder) (subst (λ f. HasFirst f (messages_in own.0.folders folder)) is own.2))
+
+  pub took_first : (c : State) (q : Result (Unit {0}) Refusal) (kept : Kept) → WasClean b c → ActsMailTaking user folder a c q → kept.message ≡ message.message → kept.answer ≡ answer_by (λ done. MailTaken) q → MovesFirst user folder (Ok kept) a c
+  took_first c q kept clean_then acts same answer clean accounts shown =
+      let it = acts.carries clean accounts shown in (
+        it.0,
+        (subst (λ m. IsFirst accounts user folder m) (sym same) (is_first (clean_then clean) accounts shown), subst (λ o. TakesFirst accounts user folder o it.0) (sym answer) it.1),
+        it.2,
+      )
+
+-- the same as what became of a message
+pub moved_is : (user folder : List ℕ) (kept : Kept) (mail : KeptMail) (m : Moving) (a b : State) → m ≡ moving.Kept mail kept.answer → mail.user ≡ user → mail.folder ≡ folder → mail.message ≡ kept.message → MovesFirst user folder (Ok kept) a b → MovesOn m a b
+moved_is user folder kept mail m a b is own_user own_folder own_message moves = subst (λ x. MovesOn x a b) (sym is) (λ clean accounts shown.
+    let it = moves clean accounts shown in (
+      it.0,
+      (
+        subst (λ u. IsFirst accounts u mail.folder mail.message) (sym own_user) (subst (λ f. IsFirst accounts user f mail.message) (sym own_folder) (subst (λ t. IsFirst accounts user folder t) (sym own_message) it.1.0)),
+        subst (λ u. TakesFirst accounts u mail.folder kept.answer it.0) (sym own_user) (subst (λ f. TakesFirst accounts user f kept.answer it.0) (sym own_folder) it.1.1),
+      ),
+      it.2,
+    ))

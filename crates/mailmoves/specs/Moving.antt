@@ -1,0 +1,65 @@
+-- What becomes of a message that moves on.
+use Rattle.std.specs.Prelude.{◌≡◌, ℕ, Bool, List, [], ◌∷◌, ◌++◌, Some, Result, Ok, Err, IsTrue}
+use Rattle.sqlite.specs.State.{State, HasCleanDisk}
+use Rattle.mailstore.specs.Account.{Account, Accounts, open_of, messages_in}
+use Rattle.mailstore.specs.Refusals.{IsTransient}
+use Rattle.mailsinks.specs.declared.kept.KeptMail.{KeptMail}
+use Rattle.sessions.specs.Acts.{HasAccounts}
+use Rattle.mailengine.specs.AccountEvents.{MailTaking}
+use Rattle.mailengine.specs.Hosts.{TurnsBy}
+use Rattle.mailengine.specs.declared.answer.Answer.{Answer}
+use Rattle.mailmoves.specs.declared.moving.Kept.{Kept}
+use Rattle.mailmoves.specs.declared.moving.Moving.{Moving}
+use Rattle.mailmoves.specs.declared.moving.Moving.TheVariants as moving
+use Rattle.mailmoves.specs.declared.moving.Why.{Why}
+
+-- a message is the first of the folder of the user's open account
+abbrev pub IsFirst : Accounts → List ℕ → List ℕ → List ℕ → Type 0
+IsFirst accounts user folder message =
+    (account : Account) × (more : List (List ℕ)) × (open_of accounts user ≡ Some account) × (messages_in account.folders folder ≡ message ∷ more)
+
+-- the event that takes the first message of the user's folder was answered so, and led there
+abbrev pub TakesFirst : Accounts → List ℕ → List ℕ → Answer → Accounts → Type 0
+TakesFirst accounts user folder answer later = TurnsBy (λ all. MailTaking all user folder) IsTransient answer accounts later
+
+-- the message that is kept was the first of its folder, and then the event that takes it was answered so; or all stays
+abbrev pub FirstMoves : List ℕ → List ℕ → Result Kept Why → Accounts → Accounts → Type 0
+FirstMoves user folder (Ok kept) accounts later = IsFirst accounts user folder kept.message × TakesFirst accounts user folder kept.answer later
+FirstMoves user folder (Err why) accounts later = later ≡ accounts
+
+-- over a store, whatever accounts it showed
+abbrev pub MovesFirst : List ℕ → List ℕ → Result Kept Why → State → State → Type 0
+MovesFirst user folder result old new =
+    HasCleanDisk new → (accounts : Accounts) → HasAccounts old accounts → (later : Accounts) × FirstMoves user folder result accounts later × HasAccounts new later
+
+-- ---- whichever folder it is
+
+abbrev pub Moves : Moving → Accounts → Accounts → Type 0
+Moves (moving.Kept mail answer) accounts later = IsFirst accounts mail.user mail.folder mail.message × TakesFirst accounts mail.user mail.folder answer later
+Moves other accounts later = later ≡ accounts
+
+abbrev pub MovesOn : Moving → State → State → Type 0
+MovesOn result old new =
+    HasCleanDisk new → (accounts : Accounts) → HasAccounts old accounts → (later : Accounts) × Moves result accounts later × HasAccounts new later
+
+-- no message left its folder
+abbrev pub IsStill : Moving → Type 0
+IsStill (moving.Kept mail answer) = ⊥
+IsStill other = Unit {0}
+
+-- a store whose disk returned what was written had such a disk before
+abbrev pub WasClean : State → State → Type 0
+WasClean old new = HasCleanDisk new → HasCleanDisk old
+
+-- what a sink that tells its messages has then: the one that moved, behind those that it had
+abbrev pub KeepsIt : Bool → List KeptMail → List KeptMail → Moving → Type 0
+KeepsIt tells had has (moving.Kept mail answer) = IsTrue tells → has ≡ had ++ mail ∷ []
+KeepsIt tells had has other = Unit {0}
+
+-- for so many milliseconds no other message is to move
+abbrev pub span_behind : Moving → ℕ
+span_behind moving.Nothing = 60000
+span_behind moving.Passed = 0
+span_behind (moving.Failed refusal) = 1000
+span_behind (moving.Stays stay) = 100
+span_behind (moving.Kept mail answer) = 0

@@ -1,0 +1,69 @@
+-- Whether the store is had, when it is given back, and when a message moves on.
+use Rattle.std.specs.Prelude.{ℕ, ◌+◌, ◌==◌, ◌&&◌, ◌||◌, nat_le, nat_lt, Bool, true, false, Option, Some, None, if◌then◌else◌}
+use Rattle.wires.specs.Talk.{after_span}
+use Rattle.sieveddaemon.specs.declared.daemon.Holding.{Holding}
+use Rattle.sieveddaemon.specs.declared.note.Note.{Note}
+use Rattle.sieveddaemon.specs.declared.note.Note.TheVariants.{Did, Asked}
+
+-- one event more; ten at most are counted
+abbrev pub counted : ℕ → ℕ
+counted events = if nat_lt events 10 then events + 1 else 10
+
+-- behind an event that asked the store it is had, it is looked at once whether somebody waits for it, and it is looked for mail
+abbrev pub asked_at : ℕ → Holding → Holding
+asked_at now h = record { had = true; look = now; asked = now; moves = h.moves; next = now; events = counted h.events }
+
+abbrev pub holding_behind : ℕ → Note → Holding → Holding
+holding_behind now (Did others event answer) h = asked_at now h
+holding_behind now (Asked others user lookup) h = asked_at now h
+holding_behind now _ h = h
+
+-- ---- the store is given back
+
+-- so many milliseconds pass from one look for who waits for the store to the next, and so many without an event that asked it
+-- before it is given back at the latest
+abbrev pub look_span : ℕ
+look_span = 20
+
+abbrev pub max_rest : ℕ
+max_rest = 10000
+
+abbrev pub is_look_due : Holding → ℕ → Bool
+is_look_due h now = h.had && nat_le h.look now
+
+-- nobody asked for so long
+abbrev pub is_rested : Holding → ℕ → Bool
+is_rested h now = nat_le (after_span h.asked max_rest) now
+
+-- it was looked; where the store was given back it is looked for mail a second later, and where nobody asked it a minute later
+abbrev pub span_by : Bool → ℕ
+span_by rests = if rests then 60000 else 1000
+
+abbrev pub looked : Holding → ℕ → Bool → Bool → Holding
+looked h now rests given = if given then record h { had = false; next = after_span now (span_by rests) } else record h { look = after_span now look_span }
+
+-- ---- a message moves on
+
+-- whose turn it is: no event asked the store since the last message, or ten did, or none for a while
+abbrev pub is_turn : Holding → ℕ → Bool
+is_turn h now = h.events == 0 || (nat_le 10 h.events || nat_le (after_span h.asked 20) now)
+
+abbrev pub is_move_due : Holding → ℕ → Bool
+is_move_due h now = h.moves && (nat_le h.next now && is_turn h now)
+
+-- one was to move: for so long none is to; or the store wasn't to be had, and it is asked for a second later
+abbrev pub moved : Holding → ℕ → Option ℕ → Holding
+moved h now (Some span) = record { had = true; look = now; asked = now; moves = h.moves; next = after_span now span; events = 0 }
+moved h now None = record h { next = after_span now 1000 }
+
+abbrev pub has_work : Holding → ℕ → Bool
+has_work h now = is_look_due h now || is_move_due h now
+
+-- ---- for how many milliseconds it may rest
+
+-- the next message is to move at once
+abbrev pub is_moving : Holding → Bool
+is_moving h = h.moves && (h.events == 0 && nat_le h.next h.asked)
+
+abbrev pub patience_by : Holding → ℕ
+patience_by h = if h.had then (if is_moving h then 0 else look_span) else 1000

@@ -1,0 +1,62 @@
+-- A message that moves on: others' events, then it is kept, and then the event that takes it out.
+use Rattle.std.specs.Prelude.{◌≡◌, ℕ, Bool, List, [], ◌∷◌, ◌++◌, Option, Some, None}
+use Rattle.mailsinks.specs.declared.kept.KeptMail.{KeptMail}
+use Rattle.mailstore.specs.Account.{Accounts}
+use Rattle.mailengine.specs.Hosts.{Kept}
+use Rattle.mailengine.specs.World.{World, Runs}
+use Rattle.mailengine.specs.declared.answer.Answer.{Answer}
+use Rattle.mailengine.specs.declared.event.Event.{Event}
+use Rattle.mailengine.specs.declared.event.Event.TheVariants.{TakeMail}
+use Rattle.mailmoves.specs.Moving.{IsFirst, span_behind}
+use Rattle.mailmoves.specs.declared.moving.Moving.{Moving}
+use Rattle.mailmoves.specs.declared.moving.Moving.TheVariants as moving
+use Rattle.wires.specs.declared.act.Act.{Act}
+use Rattle.wires.specs.declared.act.Act.TheVariants.{Worked}
+use Rattle.wires.specs.Told.{TellsIf}
+use Rattle.sieveddaemon.specs.Desk.{AreOthers, DoneAt, IsWorld, NothingDone}
+use Rattle.sieveddaemon.specs.declared.note.Note.{Note}
+use Rattle.sieveddaemon.specs.declared.note.Note.TheVariants.{Away, Moved}
+
+-- others' events alone lead there, with sessions of their own that come and go in them
+pub record LetAt (others : List Event) (w next : World) : Type 0 where
+  pub strangers : AreOthers w.sessions others
+  pub told : List Answer
+  pub theirs : Runs w others told next
+  pub apart : next.sessions ≡ w.sessions
+
+-- behind others' events the message is the first of its folder, and the event that takes the first out was answered so
+pub record TakenAt (others : List Event) (mail : KeptMail) (answer : Answer) (w next : World) : Type 0 where
+  pub done : DoneAt others (TakeMail mail.user mail.folder) answer w next
+  pub first : IsFirst done.between.accounts mail.user mail.folder mail.message
+
+-- what became of a message leads from a world to another
+abbrev pub MovedAt : List Event → Moving → World → World → Type 0
+MovedAt others (moving.Kept mail answer) w next = TakenAt others mail answer w next
+MovedAt others other w next = LetAt others w next
+
+-- the same, whatever accounts the store showed
+abbrev pub IsMoved : {R : Type 0} → (R → Accounts → Type 0) → List Event → Moving → R → Kept → R → Kept → Type 0
+IsMoved shows others moving r before q after =
+    (w : World) → IsWorld shows r before w → (next : World) × MovedAt others moving w next × IsWorld shows q after next
+
+-- the event that takes a message out is behind the sink, which has that message then, at the end of those that it had
+abbrev pub HasKept : {R : Type 0} → (R → List KeptMail → Type 0) → Moving → R → R → Type 0
+HasKept has (moving.Kept mail answer) r q = (mails : List KeptMail) → has r mails → has q (mails ++ mail ∷ [])
+HasKept has other r q = Unit {0}
+
+-- the events, and answers to them
+abbrev pub takes_of : Moving → List Event
+takes_of (moving.Kept mail answer) = TakeMail mail.user mail.folder ∷ []
+takes_of other = []
+
+abbrev pub answers_of : Moving → List Answer
+answers_of (moving.Kept mail answer) = answer ∷ []
+answers_of other = []
+
+-- a call of the desk; where something is told, it is that. `clean`: the disk returned what was written
+abbrev pub MovesOn : {O R : Type 0} → (O → Bool) → (O → List (Act Note)) → (O → R) → (R → Accounts → Type 0) → (R → List KeptMail → Type 0) → (R → Type 0) → O → Kept → Option ℕ → O → Kept → Type 0
+MovesOn tells seen rest shows has clean old before (Some span) new after =
+    (others : List Event) × (moving : Moving) × (span ≡ span_behind moving) × (clean (rest new) → IsMoved shows others moving (rest old) before (rest new) after)
+    × HasKept has moving (rest old) (rest new) × TellsIf tells seen old (Worked (Moved others moving)) new
+MovesOn tells seen rest shows has clean old before None new after =
+    (clean (rest new) → NothingDone shows (rest old) before (rest new) after) × TellsIf tells seen old (Worked Away) new
