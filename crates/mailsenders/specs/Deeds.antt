@@ -38,7 +38,7 @@ abbrev pub Leaves : Bool → Row → Ending → Rows → Rows → Type 0
 Leaves true row ending before after = (ending ≡ Sent) × TakesOut row.user row.id before after
 Leaves false row ending before after = after ≡ before
 
--- one row: it is in the queue, its letter is handed to the server, and then it leaves or stays
+-- one row: it is in the queue and due, its letter is handed to the server, and then it leaves or stays
 pub record Does (may_eight_bit : Bool) (deed : Deed) (before after : State) : Type 0 where
   pub there : IsThere deed.row before.rows
   pub mail : Mail

@@ -5,13 +5,16 @@ use smtpclient::Ending;
 #[derive(Clone, Copy, Debug, PartialEq, Eq)]
 pub struct Unwritten;
 
-/// Tells what became of rows, and knows when one is tried again. Nothing that is promised of a run hangs on it.
+/// Tells what became of rows, notes when one is tried again, and has a clock. Nothing that is promised of a run hangs on it.
 pub trait Journal {
-    /// Whether the user's row with the number may be tried now.
-    fn is_due(&mut self, user: &[u8], id: u64) -> bool;
+    /// The user's row with the number is the next that is handed over.
+    fn begin(&mut self, user: &[u8], id: u64);
 
     /// Tells what became of the user's row with the number, and notes when it is tried again.
     fn note(&mut self, user: &[u8], id: u64, ending: Ending) -> Result<(), Unwritten>;
+
+    /// The seconds of a clock that never goes back.
+    fn uptime(&mut self) -> u64;
 
     /// Waits a second.
     fn pause(&mut self);

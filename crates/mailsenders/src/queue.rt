@@ -29,11 +29,11 @@ pub enum Unavailable {
 pub trait Queue {
     ghost use Rattle.mailsenders.specs.Rows.{IsThere};
 
-    /// Whether these are its rows. One over a store that doesn't tell its tables says it of none.
+    /// Whether these are its rows, with those that are due. One over a store that doesn't tell its tables says it of none.
     ghost shows: { Self → Rows → Type 0 };
 
-    /// The first row after this place, in the order of the octets of the users and of the numbers; one that isn't due may be passed over.
-    /// The store is taken for it, and given back.
+    /// The first row after this place that is due, in the order of the octets of the users and of the numbers. The store is taken for it, and
+    /// given back.
     fn next(&mut self, user: &[u8], id: u64) -> Result<Option<Row>, Unavailable>
         ensures there { IfOk result (λ found. IfSome found (λ row. (rows : Rows) → shows self.old rows → IsThere row rows)) }
         ensures same { (rows : Rows) → shows self.old rows → shows self.new rows };

@@ -11,8 +11,8 @@ use crate::server::Server;
 use smtpclient::{Ending, Extensions, Letter, without_path};
 use std::alloc::Global;
 
-/// How often a row that was sent is tried to be taken out, a second between: ten minutes.
-const TRIES: u32 = 600;
+/// How many seconds a row that was sent is tried to be taken out, from the first refusal on.
+const PATIENCE: u64 = 600;
 
 /// Why a run ends early.
 #[derive(Clone, Copy, Debug, PartialEq, Eq)]
@@ -69,7 +69,7 @@ pub(crate) fn letter_of(row: &Row) -> Letter<'_>
     }
 }
 
-// Takes the row out, at one of some tries.
+// Takes the row out. What is refused is tried again, a second between, until ten minutes are over since the first refusal.
 fn take_out<Q: Queue, J: Journal>(
     queue: &mut Q,
     journal: &mut J,
@@ -78,11 +78,17 @@ fn take_out<Q: Queue, J: Journal>(
     ensures taken { OnOk result ((rows : Rows) → Q.shows queue.old rows → (after : Rows) × TakesOut row.now.user row.now.id rows after × Q.shows queue.new after) }
     ensures kept { OnErr result ((rows : Rows) → Q.shows queue.old rows → Q.shows queue.new rows) }
 {
-    for _ in 0..TRIES {
+    let mut refused = None;
+    for _ in 0..u64::MAX {
         if queue.take_out(row.user.as_slice(), row.id).is_ok() {
             return Ok(());
         }
+        let now = journal.uptime();
+        let first = *refused.get_or_insert(now);
+        if now.saturating_sub(first) >= PATIENCE {
+            break;
+        }
         journal.pause();
     }
-    queue.take_out(row.user.as_slice(), row.id)
+    Err(Unavailable::Store)
 }

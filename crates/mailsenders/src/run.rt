@@ -27,15 +27,14 @@ impl Tally {
         self.sent.saturating_add(self.waiting)
     }
 
-    // With one row more, where one was tried.
-    fn with(self, ended: Option<Ending>) -> Tally {
-        match ended {
-            None => self,
-            Some(Ending::Sent) => Tally {
+    // With one row more, which ended so.
+    fn with(self, ending: Ending) -> Tally {
+        match ending {
+            Ending::Sent => Tally {
                 sent: self.sent.saturating_add(1),
                 waiting: self.waiting,
             },
-            Some(_) => Tally {
+            _ => Tally {
                 sent: self.sent,
                 waiting: self.waiting.saturating_add(1),
             },
@@ -87,8 +86,8 @@ pub fn send_queue<Q: Queue, S: Server, J: Journal>(
         let Some(row) = read_next(queue, &user, id)? else {
             break;
         };
-        match try_row(alloc, queue, server, journal, &mut link, &row) {
-            Ok(ended) => tally = tally.with(ended),
+        match visit(alloc, queue, server, journal, &mut link, &row) {
+            Ok(ending) => tally = tally.with(ending),
             Err(stop) => return Err(stop),
         }
         id = row.id;
@@ -110,29 +109,7 @@ fn read_next<Q: Queue>(queue: &mut Q, user: &Octets, id: u64) -> Result<Option<R
     }
 }
 
-// One row: where it is due it is handed over. Answers how that ended.
-fn try_row<Q: Queue, S: Server, J: Journal>(
-    alloc: Global,
-    queue: &mut Q,
-    server: &mut S,
-    journal: &mut J,
-    link: &mut Link,
-    row: &Row,
-) -> Result<Option<Ending>, Stop>
-    ensures may { link.new.may_eight_bit ≡ link.old.may_eight_bit }
-    ensures reaches { (before : s.State) → Q.shows queue.old before.rows → S.said server.old before.talk → IsThere row.now before.rows
-        → s.Reaches link.old.may_eight_bit (Q.shows queue.new) (S.said server.new) before (is_ok result) }
-{
-    if !journal.is_due(row.user.as_slice(), row.id) {
-        return Ok(None);
-    }
-    match visit(alloc, queue, server, journal, link, row) {
-        Ok(ending) => Ok(Some(ending)),
-        Err(stop) => Err(stop),
-    }
-}
-
-// One row that is due: it is handed over, and what became of it is noted.
+// One row: it is handed over, and what became of it is noted. Answers how that ended.
 fn visit<Q: Queue, S: Server, J: Journal>(
     alloc: Global,
     queue: &mut Q,
@@ -145,6 +122,7 @@ fn visit<Q: Queue, S: Server, J: Journal>(
     ensures reaches { (before : s.State) → Q.shows queue.old before.rows → S.said server.old before.talk → IsThere row.now before.rows
         → s.Reaches link.old.may_eight_bit (Q.shows queue.new) (S.said server.new) before (is_ok result) }
 {
+    journal.begin(row.user.as_slice(), row.id);
     let handed = hand_over(alloc, queue, server, journal, link, row);
     noted(journal, row, handed)
 }

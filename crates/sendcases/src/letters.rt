@@ -4,7 +4,7 @@ use crate::memory_peer::MemoryPeer;
 use crate::memory_queue::MemoryQueue;
 use casefiles::Answers;
 use mailsenders::{Client, Row, send_queue};
-use octets::Octets;
+use octets::{Octets, parse_decimal, write_decimal};
 use std::alloc::{AllocError, Global};
 
 /// How many octets come at once, at most: what is answered doesn't hang on that.
@@ -16,6 +16,11 @@ const PIECES: [usize; 4] = [4_096, 1, 2, 7];
 /// the next number.
 #[derive(Drop)]
 pub struct Letters;
+
+/// Answers the same of queues that refuse so many times to give a row up, as the first column says; the others are those of `Letters`.
+/// Behind the answer stands how many seconds were waited.
+#[derive(Drop)]
+pub struct Refusals;
 
 impl Answers for Letters {
     fn answer(
@@ -29,11 +34,17 @@ impl Answers for Letters {
         };
         let mut first: Option<Octets> = None;
         for most in PIECES {
-            let answer = run_once(alloc, server.as_slice(), rows, most)?;
+            let run = Run {
+                server: server.as_slice(),
+                rows,
+                most,
+                refusals: 0,
+            };
+            let answer = run.answer(alloc)?;
             match &first {
-                None => first = Some(answer),
+                None => first = Some(answer.told),
                 Some(other) => {
-                    if *other != answer {
+                    if *other != answer.told {
                         out.extend_from_slice(b"pieces differ: ")?;
                     }
                 }
@@ -46,39 +57,83 @@ impl Answers for Letters {
     }
 }
 
-fn run_once(
-    alloc: Global,
-    server: &[u8],
-    rows: &[Octets],
-    most: usize,
-) -> Result<Octets, AllocError> {
-    let mut queue = queue_of(alloc, rows)?;
-    let mut journal = MemoryJournal::new(alloc);
-    let host = Octets::from_slice(alloc, b"h")?;
-    let peer = MemoryPeer::new(alloc, server, most);
-    let mut client = Client::new(alloc, peer, host);
-    let ended = send_queue(
-        alloc,
-        &mut queue,
-        &mut client,
-        &mut journal,
-        false,
-        u64::MAX,
-    );
-    let mut out = Octets::from_slice(alloc, journal.told())?;
-    out.extend_from_slice(if ended.is_ok() {
-        b"left"
-    } else {
-        b"stopped; left"
-    })?;
-    queue.tell(&mut out)?;
-    out.extend_from_slice(b"; ")?;
-    out.extend_from_slice(client.peer().sent())?;
-    Ok(out)
+impl Answers for Refusals {
+    fn answer(
+        &mut self,
+        alloc: Global,
+        out: &mut Octets,
+        given: &[Octets],
+    ) -> Result<(), AllocError> {
+        let [count, server, rows @ ..] = given else {
+            return Ok(());
+        };
+        let run = Run {
+            server: server.as_slice(),
+            rows,
+            most: 4_096,
+            refusals: parse_decimal(count.as_slice()).unwrap_or(0),
+        };
+        let answer = run.answer(alloc)?;
+        out.extend_from_slice(answer.told.as_slice())?;
+        out.extend_from_slice(b"; ")?;
+        write_decimal(out, answer.seconds)
+    }
 }
 
-fn queue_of(alloc: Global, rows: &[Octets]) -> Result<MemoryQueue, AllocError> {
-    let mut queue = MemoryQueue::new(alloc);
+/// What a run is over.
+#[derive(Clone, Copy)]
+struct Run<'a> {
+    /// What the server sends.
+    server: &'a [u8],
+    /// Three texts a row.
+    rows: &'a [Octets],
+    /// How many octets come at once, at most.
+    most: usize,
+    /// How many times a row isn't given up.
+    refusals: u64,
+}
+
+/// What came of it.
+#[derive(Drop)]
+struct Answer {
+    told: Octets,
+    /// How many seconds were waited.
+    seconds: u64,
+}
+
+impl Run<'_> {
+    fn answer(self, alloc: Global) -> Result<Answer, AllocError> {
+        let mut queue = queue_of(alloc, self.rows, self.refusals)?;
+        let mut journal = MemoryJournal::new(alloc);
+        let host = Octets::from_slice(alloc, b"h")?;
+        let peer = MemoryPeer::new(alloc, self.server, self.most);
+        let mut client = Client::new(alloc, peer, host);
+        let ended = send_queue(
+            alloc,
+            &mut queue,
+            &mut client,
+            &mut journal,
+            false,
+            u64::MAX,
+        );
+        let mut told = Octets::from_slice(alloc, journal.told())?;
+        told.extend_from_slice(if ended.is_ok() {
+            b"left"
+        } else {
+            b"stopped; left"
+        })?;
+        queue.tell(&mut told)?;
+        told.extend_from_slice(b"; ")?;
+        told.extend_from_slice(client.peer().sent())?;
+        Ok(Answer {
+            told,
+            seconds: journal.seconds(),
+        })
+    }
+}
+
+fn queue_of(alloc: Global, rows: &[Octets], refusals: u64) -> Result<MemoryQueue, AllocError> {
+    let mut queue = MemoryQueue::new(alloc, refusals);
     let mut id = 0;
     for row in rows.chunks(3) {
         if let [sender, target, message] = row {

@@ -4,22 +4,29 @@ use octets::{Octets, write_decimal};
 use smtpclient::Ending;
 use std::alloc::{AllocError, Global};
 
-/// What became of rows, one after another: ` ID ENDING;` for each.
+/// What became of rows, one after another: ` ID ENDING;` for each. Its clock goes on where it pauses, and nowhere else.
 #[derive(Drop)]
 pub struct MemoryJournal {
     told: Octets,
+    seconds: u64,
 }
 
 impl MemoryJournal {
     pub fn new(alloc: Global) -> MemoryJournal {
         MemoryJournal {
             told: Octets::new(alloc),
+            seconds: 0,
         }
     }
 
     /// What it noted.
     pub fn told(&self) -> &[u8] {
         self.told.as_slice()
+    }
+
+    /// How many seconds it paused.
+    pub fn seconds(&self) -> u64 {
+        self.seconds
     }
 
     fn tell(&mut self, id: u64, ending: Ending) -> Result<(), AllocError> {
@@ -43,9 +50,7 @@ impl MemoryJournal {
 }
 
 impl Journal for MemoryJournal {
-    fn is_due(&mut self, _user: &[u8], _id: u64) -> bool {
-        true
-    }
+    fn begin(&mut self, _user: &[u8], _id: u64) {}
 
     fn note(&mut self, _user: &[u8], id: u64, ending: Ending) -> Result<(), Unwritten> {
         match self.tell(id, ending) {
@@ -54,5 +59,11 @@ impl Journal for MemoryJournal {
         }
     }
 
-    fn pause(&mut self) {}
+    fn uptime(&mut self) -> u64 {
+        self.seconds
+    }
+
+    fn pause(&mut self) {
+        self.seconds = self.seconds.saturating_add(1);
+    }
 }

@@ -10,14 +10,18 @@ pub struct MemoryQueue {
     rows: List<Row>,
     /// Which are taken out, in the order of the rows.
     gone: Vec<bool>,
+    /// How many more times a row that is to be taken out is refused.
+    refusals: u64,
 }
 
 impl MemoryQueue {
-    pub fn new(alloc: Global) -> MemoryQueue {
+    /// Without rows. So many times a row that is to be taken out is refused.
+    pub fn new(alloc: Global, refusals: u64) -> MemoryQueue {
         MemoryQueue {
             alloc,
             rows: List::new(alloc),
             gone: Vec::new(alloc),
+            refusals,
         }
     }
 
@@ -56,6 +60,10 @@ impl Queue for MemoryQueue {
     }
 
     fn take_out(&mut self, user: &[u8], id: u64) -> Result<(), Unavailable> {
+        if let Some(left) = self.refusals.checked_sub(1) {
+            self.refusals = left;
+            return Err(Unavailable::Store);
+        }
         for (row, gone) in self.rows.as_slice().iter().zip(self.gone.iter_mut()) {
             if row.user.as_slice() == user && row.id == id {
                 *gone = true;

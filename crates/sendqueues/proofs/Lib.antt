@@ -2,4 +2,3 @@ mod Examples
 mod QueueLemmas
 mod StoreLemmas
 mod TableLemmas
-mod TextLemmas

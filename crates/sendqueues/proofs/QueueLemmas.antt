@@ -1,28 +1,29 @@
 -- The rows of accounts, and one that leaves.
-use Rattle.std.proofs.Common.{◌≡◌, ◌≢◌, ◌==◌, ◌⊎◌, ℕ, not, Bool, true, false, cond, List, [], ◌∷◌, filter, Option, Some, None, option_map, Result, Ok, Err, IfOk, IfSome, IsTrue, refl, sym, ◌∙◌, ap, subst, inl, inr, eqb-true}
+use Rattle.std.proofs.Common.{◌≡◌, ◌==◌, ℕ, not, Bool, true, false, cond, List, [], ◌∷◌, filter, Option, Some, None, option_map, Result, Ok, Err, IfOk, IfSome, IsTrue, refl, sym, ◌∙◌, ap, subst, eqb-true}
 use Rattle.std.specs.FinMap.{get}
 use Rattle.sqlite.specs.Effect.{Database}
 use Rattle.sqlite_typed.proofs.TestLemmas.{bytes_eq_refl}
-use Rattle.mailstore.specs.Account.{Account, Accounts, bytes_cmp, row_with, with_user, takes_out}
+use Rattle.mailstore.specs.Account.{Account, Accounts, is_closed, open_one, open_of, row_with, with_user, takes_out}
 use Rattle.mailstore.specs.Shows.{Offers}
 use Rattle.mailstore.specs.declared.next.Queued.{Queued}
 use Rattle.mailstore.specs.declared.queue.Outgoing.{Outgoing}
 use Rattle.mailstore.specs.declared.refusal.Refusal.{Refusal}
-use Rattle.mailengine.specs.declared.answer.Answer.{Answer}
-use Rattle.mailengine.specs.AccountEvents.{TakesRow, TakesIn, Taking}
+use Rattle.mailengine.specs.AccountEvents.{TakesRow, TakesIn}
 use Rattle.mailengine.specs.OwnActs.{is_user}
 use Rattle.mailengine.proofs.AloneLemmas.{same_name, changed_own, changed_other}
 use Rattle.mailengine.proofs.TakingLemmas.{row_numbered}
 use Rattle.keepers.specs.declared.keeper.Unavailable.{Unavailable}
-use Rattle.mailsenders.specs.Rows.{Rows, Content, content_of, IsThere, TakesOut}
+use Rattle.mailsenders.specs.Rows.{Rows, IsThere, TakesOut}
 use Rattle.mailsenders.specs.declared.queue.Row.{Row}
 use Rattle.sendqueues.specs.Holdings as holding
 use Rattle.sendqueues.specs.Holdings.{TurnsTables, Finds}
-use Rattle.sendqueues.specs.Posts.{HasRow, IsGone, IsFound}
-use Rattle.sendqueues.specs.Queues.{content, row_in, rows_in, AreRows, IsFoundIn, IsAhead, ShowsRows, IsToldOf}
+use Rattle.sendqueues.specs.Posts.{IsGone, IsFound}
+use Rattle.sendqueues.specs.Queues.{content, row_in, rows_in, IsFoundIn, IsAhead, ShowsRows, IsToldOf}
 use Rattle.sendqueues.specs.declared.post.Post.{Post}
 use Rattle.sendqueues.specs.declared.queue.Ahead.{Ahead}
-use Rattle.sendqueues.specs.declared.wait.Wait.{Wait}
+use Rattle.sendwaits.specs.Waits as wait
+use Rattle.sendwaits.specs.Waits.{place}
+use Rattle.sendwaits.specs.declared.waits.Waits.{Waits}
 use Rattle.sendqueues.proofs.TableLemmas.{offered_then}
 
 -- ---- a list without a row
@@ -53,94 +54,116 @@ other_row id other differs (row ∷ rows) = go (row.id == id) refl (other_row id
 
 -- ---- the rows of accounts without one
 
-module _ (accounts : Accounts) (place : Queued) where
+module _ (waits : Waits) (now : ℕ) (accounts : Accounts) (at : Queued) where
   abbrev Later : Accounts
-  Later = with_user accounts place.user (takes_out place.id)
+  Later = with_user accounts at.user (takes_out at.id)
 
-  own_then : get Later place.user ≡ option_map (takes_out place.id) (get accounts place.user)
-  own_then = changed_own accounts place.user (takes_out place.id) (bytes_eq_refl place.user)
+  abbrev Rows_in : Accounts → Rows
+  Rows_in all = rows_in waits now all
 
-  gone_in : (o : Option Account) → row_in (option_map (takes_out place.id) o) place.id ≡ None
-  gone_in None = refl
-  gone_in (Some a) = ap (option_map content) (gone_row place.id a.queue)
+  abbrev due_at : List ℕ → ℕ → Bool
+  due_at user id = wait.is_due waits now (place user id)
 
-  kept_in : (o : Option Account) (number : ℕ) → (number ≡ place.id → ⊥) → row_in (option_map (takes_out place.id) o) number ≡ row_in o number
-  kept_in None number differs = refl
-  kept_in (Some a) number differs = ap (option_map content) (other_row place.id number differs a.queue)
+  still_open : (o : Option Account) → open_one (option_map (takes_out at.id) o) ≡ option_map (takes_out at.id) (open_one o)
+  still_open None = refl
+  still_open (Some a) = go (is_closed a)
+    where
+      go : (closed : Bool) → cond closed None (Some (takes_out at.id a)) ≡ option_map (takes_out at.id) (cond closed None (Some a))
+      go true = refl
+      go false = refl
 
-  left_rows : TakesOut place.user place.id (rows_in accounts) (rows_in Later)
+  own_then : open_of Later at.user ≡ option_map (takes_out at.id) (open_of accounts at.user)
+  own_then = ap open_one (changed_own accounts at.user (takes_out at.id) (bytes_eq_refl at.user)) ∙ still_open (get accounts at.user)
+
+  gone_in : (o : Option Account) (due : Bool) → row_in (option_map (takes_out at.id) o) at.id due ≡ None
+  gone_in None due = refl
+  gone_in (Some a) due = ap (option_map (content due)) (gone_row at.id a.queue)
+
+  kept_in : (o : Option Account) (number : ℕ) (due : Bool) → (number ≡ at.id → ⊥) → row_in (option_map (takes_out at.id) o) number due ≡ row_in o number due
+  kept_in None number due differs = refl
+  kept_in (Some a) number due differs = ap (option_map (content due)) (other_row at.id number differs a.queue)
+
+  left_rows : TakesOut at.user at.id (Rows_in accounts) (Rows_in Later)
   left_rows = record {
-    gone = ap (λ o. row_in o place.id) own_then ∙ gone_in (get accounts place.user);
-    others = λ other number differs. by other number differs (is_user other place.user) refl;
+    gone = ap (λ o. row_in o at.id (due_at at.user at.id)) own_then ∙ gone_in (open_of accounts at.user) (due_at at.user at.id);
+    others = λ other number differs. by other number differs (is_user other at.user) refl;
   }
     where
-      by : (other : List ℕ) (number : ℕ) → (other ≡ place.user → number ≡ place.id → ⊥) → (b : Bool) → is_user other place.user ≡ b → rows_in Later other number ≡ rows_in accounts other number
+      by : (other : List ℕ) (number : ℕ) → (other ≡ at.user → number ≡ at.id → ⊥) → (b : Bool) → is_user other at.user ≡ b → Rows_in Later other number ≡ Rows_in accounts other number
       by other number differs true is =
-          let same : other ≡ place.user = same_name other place.user is in
-          ap (λ u. rows_in Later u number) same ∙ ap (λ o. row_in o number) own_then ∙ kept_in (get accounts place.user) number (differs same) ∙ ap (λ u. rows_in accounts u number) (sym same)
-      by other number differs false is = ap (λ o. row_in o number) (changed_other accounts other place.user (takes_out place.id) is)
+          let same : other ≡ at.user = same_name other at.user is in
+          ap (λ u. Rows_in Later u number) same ∙ ap (λ o. row_in o number (due_at at.user number)) own_then ∙ kept_in (open_of accounts at.user) number (due_at at.user number) (differs same)
+          ∙ ap (λ u. Rows_in accounts u number) (sym same)
+      by other number differs false is = ap (λ o. row_in (open_one o) number (due_at other number)) (changed_other accounts other at.user (takes_out at.id) is)
 
   -- the row isn't there
-  none_rows : rows_in accounts place.user place.id ≡ None → TakesOut place.user place.id (rows_in accounts) (rows_in accounts)
+  none_rows : Rows_in accounts at.user at.id ≡ None → TakesOut at.user at.id (Rows_in accounts) (Rows_in accounts)
   none_rows none = record { gone = none; others = λ other number differs. refl }
 
-  gone_rows : (later : Accounts) → IsGone place accounts later → TakesOut place.user place.id (rows_in accounts) (rows_in later)
-  gone_rows later gone = go (get accounts place.user) refl gone.1
+  gone_rows : (later : Accounts) → IsGone at accounts later → TakesOut at.user at.id (Rows_in accounts) (Rows_in later)
+  gone_rows later gone = go (open_of accounts at.user) refl gone.1
     where
-      same : (all : Accounts) → later ≡ all → TakesOut place.user place.id (rows_in accounts) (rows_in all) → TakesOut place.user place.id (rows_in accounts) (rows_in later)
-      same all is takes = subst (λ (x : Accounts). TakesOut place.user place.id (rows_in accounts) (rows_in x)) (sym is) takes
+      same : (all : Accounts) → later ≡ all → TakesOut at.user at.id (Rows_in accounts) (Rows_in all) → TakesOut at.user at.id (Rows_in accounts) (Rows_in later)
+      same all is takes = subst (λ (x : Accounts). TakesOut at.user at.id (Rows_in accounts) (Rows_in x)) (sym is) takes
 
-      by : (a : Account) (o : Option Outgoing) → get accounts place.user ≡ Some a → row_with place.id a.queue ≡ o → TakesRow accounts place.user o gone.0 later → TakesOut place.user place.id (rows_in accounts) (rows_in later)
-      by a None has is takes = same accounts takes.stays (none_rows (ap (λ x. row_in x place.id) has ∙ ap (option_map content) is))
+      by : (a : Account) (o : Option Outgoing) → open_of accounts at.user ≡ Some a → row_with at.id a.queue ≡ o → TakesRow accounts at.user o gone.0 later → TakesOut at.user at.id (Rows_in accounts) (Rows_in later)
+      by a None has is takes =
+          same accounts takes.stays (none_rows (ap (λ x. row_in x at.id (due_at at.user at.id)) has ∙ ap (option_map (content (due_at at.user at.id))) is))
       by a (Some row) has is takes =
-          same Later (takes.changed ∙ ap (λ n. with_user accounts place.user (takes_out n)) (row_numbered place.id a.queue row is)) left_rows
+          same Later (takes.changed ∙ ap (λ n. with_user accounts at.user (takes_out n)) (row_numbered at.id a.queue row is)) left_rows
 
-      go : (o : Option Account) → get accounts place.user ≡ o → TakesIn accounts place.user place.id o gone.0 later → TakesOut place.user place.id (rows_in accounts) (rows_in later)
-      go None has takes = same accounts takes.stays (none_rows (ap (λ x. row_in x place.id) has))
-      go (Some a) has takes = by a (row_with place.id a.queue) has refl takes
+      go : (o : Option Account) → open_of accounts at.user ≡ o → TakesIn accounts at.user at.id o gone.0 later → TakesOut at.user at.id (Rows_in accounts) (Rows_in later)
+      go None has takes = same accounts takes.stays (none_rows (ap (λ x. row_in x at.id (due_at at.user at.id)) has))
+      go (Some a) has takes = by a (row_with at.id a.queue) has refl takes
 
 -- ---- what is told
 
 pub told_row : (post : Post) (row : Row) → row.user ≡ post.place.user → row.id ≡ post.place.id → row.sender ≡ post.row.sender → row.target ≡ post.row.target → row.message ≡ post.row.message → IsToldOf (Some post) (Some row)
-told_row post row user id sender target message accounts has =
-    let own : rows_in accounts post.place.user post.place.id ≡ Some (content post.row) = ap (λ o. row_in o post.place.id) has.1 ∙ ap (option_map content) has.2 in
-    let there : rows_in accounts row.user row.id ≡ Some (content post.row) = ap (λ u. rows_in accounts u row.id) user ∙ ap (rows_in accounts post.place.user) id ∙ own in
-    there ∙ ap Some (λ i. record { sender = sym sender i; target = sym target i; message = sym message i })
+told_row post row user id sender target message waits now accounts has =
+    let due = wait.is_due waits now (place post.place.user post.place.id) in
+    let own : rows_in waits now accounts post.place.user post.place.id ≡ Some (content due post.row) =
+    ap (λ o. row_in o post.place.id due) has.0.1 ∙ ap (option_map (content due)) has.0.2 in
+    let there : rows_in waits now accounts row.user row.id ≡ Some (content due post.row) =
+    ap (λ u. rows_in waits now accounts u row.id) user ∙ ap (rows_in waits now accounts post.place.user) id ∙ own in
+    there ∙ ap Some (λ i. record { sender = sym sender i; target = sym target i; message = sym message i; is_due = has.1 i })
 
 -- ---- over tables
 
-found_in : (waits : List Wait) (now : ℕ) (place : Queued) (accounts : Accounts) (found : Option Post) → IsFound waits now place accounts found → IsFoundIn accounts found
-found_in waits now place accounts None none = tt
-found_in waits now place accounts (Some post) next = next.row
+found_in : (waits : Waits) (now : ℕ) (at : Queued) (accounts : Accounts) (found : Option Post) → IsFound waits now at accounts found → IsFoundIn waits now accounts found
+found_in waits now at accounts None none = tt
+found_in waits now at accounts (Some post) next = (next.row, next.due)
 
-module _ (tells : Bool) (held : Database) (ahead : Option Ahead) where
+module _ (waits : Waits) (now : ℕ) (tells : Bool) (held : Database) (ahead : Option Ahead) where
+  abbrev Shows : Database → Option Ahead → Rows → Type 0
+  Shows db next rows = ShowsRows waits now tells db next rows
+
   -- a row that was found ahead
-  pub ahead_there : (found : Option Post) → ((accounts : Accounts) → IsAhead accounts ahead → IsFoundIn accounts found) → (told : Option Row) → IsToldOf found told
-      → IfSome told (λ row. (rows : Rows) → ShowsRows tells held ahead rows → IsThere row rows)
+  pub ahead_there : (found : Option Post) → ((accounts : Accounts) → IsAhead waits now accounts ahead → IsFoundIn waits now accounts found) → (told : Option Row) → IsToldOf found told
+      → IfSome told (λ row. (rows : Rows) → Shows held ahead rows → IsThere row rows)
   ahead_there found was None say = tt
-  ahead_there found was (Some row) say = λ rows shows. shows.are row.user row.id ∙ say shows.accounts (was shows.accounts shows.found)
+  ahead_there found was (Some row) say = λ rows shows. shows.are row.user row.id ∙ say waits now shows.accounts (was shows.accounts shows.found)
 
   -- the tables are the same, and nothing is ahead
-  pub shows_plain : (new : Database) → new ≡ held → (next : Option Ahead) → next ≡ None → (rows : Rows) → ShowsRows tells held ahead rows → ShowsRows tells new next rows
+  pub shows_plain : (new : Database) → new ≡ held → (next : Option Ahead) → next ≡ None → (rows : Rows) → Shows held ahead rows → Shows new next rows
   shows_plain new same next is rows shows = record {
     told = shows.told;
     accounts = shows.accounts;
     offers = subst (λ db. Offers db shows.accounts) (sym same) shows.offers;
     are = shows.are;
-    found = subst (IsAhead shows.accounts) (sym is) tt;
+    found = subst (IsAhead waits now shows.accounts) (sym is) tt;
   }
 
-  module _ (waits : List Wait) (now : ℕ) (place : Queued) (new : Database) where
+  module _ (at : Queued) (new : Database) where
     -- a row was looked for
-    module _ (r : Result (Option Post) Unavailable) (finds : IsTrue tells → TurnsTables (Finds waits now place r) held new) where
-      pub found_there : (found : Option Post) → r ≡ Ok found → (told : Option Row) → IsToldOf found told → IfSome told (λ row. (rows : Rows) → ShowsRows tells held ahead rows → IsThere row rows)
+    module _ (r : Result (Option Post) Unavailable) (finds : IsTrue tells → TurnsTables (Finds waits now at r) held new) where
+      pub found_there : (found : Option Post) → r ≡ Ok found → (told : Option Row) → IsToldOf found told → IfSome told (λ row. (rows : Rows) → Shows held ahead rows → IsThere row rows)
       found_there found is None say = tt
       found_there found is (Some row) say = λ rows shows.
           let turned = (finds shows.told).accounts shows.accounts shows.offers in
-          let there : IsFound waits now place shows.accounts found = subst (λ o. IfOk o (IsFound waits now place shows.accounts)) is turned.1.1 in
-          shows.are row.user row.id ∙ say shows.accounts (found_in waits now place shows.accounts found there)
+          let there : IsFound waits now at shows.accounts found = subst (λ o. IfOk o (IsFound waits now at shows.accounts)) is turned.1.1 in
+          shows.are row.user row.id ∙ say waits now shows.accounts (found_in waits now at shows.accounts found there)
 
-      pub shows_found : (next : Option Ahead) → next ≡ None → (rows : Rows) → ShowsRows tells held ahead rows → ShowsRows tells new next rows
+      pub shows_found : (next : Option Ahead) → next ≡ None → (rows : Rows) → Shows held ahead rows → Shows new next rows
       shows_found next is rows shows =
           let turned = (finds shows.told).accounts shows.accounts shows.offers in
           record {
@@ -148,19 +171,20 @@ module _ (tells : Bool) (held : Database) (ahead : Option Ahead) where
             accounts = shows.accounts;
             offers = subst (Offers new) turned.1.0 (offered_then held new shows.accounts turned.0 shows.offers turned.2);
             are = shows.are;
-            found = subst (IsAhead shows.accounts) (sym is) tt;
+            found = subst (IsAhead waits now shows.accounts) (sym is) tt;
           }
 
     -- a row was taken out, or not
-    module _ (r : Result (Result (Option Post) Refusal) Unavailable) (takes : IsTrue tells → TurnsTables (holding.TakesOut waits now place r) held new) where
-      pub shows_taken : (user : List ℕ) (id : ℕ) → place.user ≡ user → place.id ≡ id → (found : Result (Option Post) Refusal) → r ≡ Ok found → (next : Option Ahead)
-          → ((accounts : Accounts) → IfOk found (IsFoundIn accounts) → IsAhead accounts next) → (rows : Rows) → ShowsRows tells held ahead rows → (after : Rows) × TakesOut user id rows after × ShowsRows tells new next after
+    module _ (r : Result (Result (Option Post) Refusal) Unavailable) (takes : IsTrue tells → TurnsTables (holding.TakesOut waits now at r) held new) where
+      pub shows_taken : (user : List ℕ) (id : ℕ) → at.user ≡ user → at.id ≡ id → (found : Result (Option Post) Refusal) → r ≡ Ok found → (next : Option Ahead)
+          → ((accounts : Accounts) → IfOk found (IsFoundIn waits now accounts) → IsAhead waits now accounts next) → (rows : Rows) → Shows held ahead rows
+          → (after : Rows) × TakesOut user id rows after × Shows new next after
       shows_taken user id user_is id_is found is next then rows shows =
           let turned = (takes shows.told).accounts shows.accounts shows.offers in
-          let took = subst (λ o. holding.TakesOut waits now place o shows.accounts turned.0) is turned.1 in
-          let gone = gone_rows shows.accounts place turned.0 took.0 in (
-            rows_in turned.0,
-            subst (λ u. TakesOut u id rows (rows_in turned.0)) user_is (subst (λ n. TakesOut place.user n rows (rows_in turned.0)) id_is (record {
+          let took = subst (λ o. holding.TakesOut waits now at o shows.accounts turned.0) is turned.1 in
+          let gone = gone_rows waits now shows.accounts at turned.0 took.0 in (
+            rows_in waits now turned.0,
+            subst (λ u. TakesOut u id rows (rows_in waits now turned.0)) user_is (subst (λ n. TakesOut at.user n rows (rows_in waits now turned.0)) id_is (record {
               gone = gone.gone;
               others = λ other number differs. gone.others other number differs ∙ sym (shows.are other number);
             })),
@@ -173,18 +197,18 @@ module _ (tells : Bool) (held : Database) (ahead : Option Ahead) where
             },
           )
         where
-          found_ok : (q : Result (Option Post) Refusal) (all : Accounts) → IfOk q (IsFound waits now place all) → IfOk q (IsFoundIn all)
-          found_ok (Ok o) all there = found_in waits now place all o there
+          found_ok : (q : Result (Option Post) Refusal) (all : Accounts) → IfOk q (IsFound waits now at all) → IfOk q (IsFoundIn waits now all)
+          found_ok (Ok o) all there = found_in waits now at all o there
           found_ok (Err e) all there = tt
 
-      pub shows_kept : (denial : Unavailable) → r ≡ Err denial → (next : Option Ahead) → next ≡ None → (rows : Rows) → ShowsRows tells held ahead rows → ShowsRows tells new next rows
+      pub shows_kept : (denial : Unavailable) → r ≡ Err denial → (next : Option Ahead) → next ≡ None → (rows : Rows) → Shows held ahead rows → Shows new next rows
       shows_kept denial is next next_is rows shows =
           let turned = (takes shows.told).accounts shows.accounts shows.offers in
-          let same : turned.0 ≡ shows.accounts = subst (λ o. holding.TakesOut waits now place o shows.accounts turned.0) is turned.1 in
+          let same : turned.0 ≡ shows.accounts = subst (λ o. holding.TakesOut waits now at o shows.accounts turned.0) is turned.1 in
           record {
             told = shows.told;
             accounts = shows.accounts;
             offers = subst (Offers new) same (offered_then held new shows.accounts turned.0 shows.offers turned.2);
             are = shows.are;
-            found = subst (IsAhead shows.accounts) (sym next_is) tt;
+            found = subst (IsAhead waits now shows.accounts) (sym next_is) tt;
           }

@@ -1,5 +1,5 @@
 -- Calls over a store that is taken: rows that are read and taken out.
-use Rattle.std.proofs.Common.{◌≡◌, ◌⊎◌, ◌==◌, ℕ, pos, Bool, true, false, cond, List, [], ◌∷◌, map, filter, Option, Some, None, Result, Ok, Err, IfOk, IfErr, IfSome, refl, sym, ◌∙◌, ap, subst, inl, inr}
+use Rattle.std.proofs.Common.{◌≡◌, ◌⊎◌, ◌==◌, ℕ, pos, Bool, true, false, cond, List, [], ◌∷◌, map, filter, Option, Some, None, Result, Ok, Err, IfOk, IfErr, IsTrue, refl, sym, ◌∙◌, ap, subst, inl, inr}
 use Rattle.std.proofs.Common.{IsPermutation}
 use Rattle.std.proofs.ByRecursion.{all_shuffled}
 use Rattle.std.proofs.lemmas.Bool.{true≢false}
@@ -17,12 +17,13 @@ use Rattle.mailtables.specs.QueueTable.{outgoing_tree}
 use Rattle.mailtables.specs.Rows.{Tables}
 use Rattle.mailtables.proofs.AnswerLemmas.{has_map}
 use Rattle.mailtables.proofs.WriteLemmas.{clean_before}
-use Rattle.mailstore.specs.Account.{Account, Accounts, bytes_cmp, row_with}
+use Rattle.mailstore.specs.Account.{Account, Accounts, open_of, bytes_cmp, row_with}
+use Rattle.mailstore.proofs.StandingLemmas.{open_there}
 use Rattle.mailstore.specs.FirstCells.{first_two}
 use Rattle.mailstore.specs.QueueRows.{queue_row}
 use Rattle.mailstore.specs.Shows.{IsShown, IsShownOrAbsent, ShowsAccounts, rows_of}
 use Rattle.mailstore.specs.Next.{queued_cmp, FindsAll, IsNextQueued, IsQueued}
-use Rattle.mailstore.specs.Promises.{OfUser, Keeps}
+use Rattle.mailstore.specs.Promises.{HasNoOpen, OfOpen, Keeps}
 use Rattle.mailstore.specs.Promises as store
 use Rattle.mailstore.specs.declared.next.Queued.{Queued}
 use Rattle.mailstore.specs.declared.queue.Outgoing.{Outgoing}
@@ -33,17 +34,15 @@ use Rattle.mailstore.proofs.NextLemmas.{queued_total}
 use Rattle.sessions.specs.Acts.{HasAccounts, Carries}
 use Rattle.sessions.proofs.ActLemmas.{glanced, accounts_stay, read_shows}
 use Rattle.mailengine.proofs.TakingLemmas.{row_numbered}
-use Rattle.mailengine.specs.declared.answer.Answer.{Answer}
 use Rattle.mailengine.specs.declared.answer.Answer.TheVariants.{Taken, Refused}
 use Rattle.mailengine.specs.AccountEvents.{TakesIn, Taking}
 use Rattle.mailengine.specs.AccountEvents as engine
-use Rattle.mailengine.specs.Hosts.{TurnsBy, MayTurnBy, ActsTaking, answer_by}
-use Rattle.sendqueues.specs.Posts.{IsAfter, HasRow, IsRowAt, IsNoneDue, IsNext, IsFound, IsPast, IsStep, IsGone, Works, Reads, Takes, TakesRow}
-use Rattle.sendqueues.specs.Waits.{is_due}
+use Rattle.mailengine.specs.Hosts.{TurnsBy, ActsTaking, answer_by}
+use Rattle.sendqueues.specs.Posts.{IsAfter, HasRow, IsRowAt, IsNoneDue, IsNext, IsFound, IsPast, IsStep, IsGone, Works, Reads, Takes, TakesRow, is_due}
 use Rattle.sendqueues.specs.declared.post.Post.{Post}
 use Rattle.sendqueues.specs.declared.post.Step.{Step}
 use Rattle.sendqueues.specs.declared.post.Step.TheVariants.{End, Past, Due}
-use Rattle.sendqueues.specs.declared.wait.Wait.{Wait}
+use Rattle.sendwaits.specs.declared.waits.Waits.{Waits}
 
 -- ---- one call, and then another
 
@@ -83,12 +82,12 @@ module _ (a b : State) where
   works_err r Part e q is k = works_read r Part q k (λ clean accounts shown. subst (λ o. IfOk o (Part accounts)) (sym is) tt)
 
 -- the row at a place
-same_row : (accounts : Accounts) (place : Queued) (a b : Account) (o : Option Outgoing) (row : Outgoing) → get accounts place.user ≡ Some a → get accounts place.user ≡ Some b → o ≡ row_with place.id a.queue → row_with place.id b.queue ≡ Some row → o ≡ Some row
+same_row : (accounts : Accounts) (place : Queued) (a b : Account) (o : Option Outgoing) (row : Outgoing) → open_of accounts place.user ≡ Some a → open_of accounts place.user ≡ Some b → o ≡ row_with place.id a.queue → row_with place.id b.queue ≡ Some row → o ≡ Some row
 same_row accounts place a b o row one two is has =
     let same : a ≡ b = (let h = one in let k = two in cc) in
     is ∙ ap (λ (x : Account). row_with place.id x.queue) same ∙ has
 
-row_is : (accounts : Accounts) (place : Queued) (row : Option Outgoing) → OfUser accounts place.user (λ a. row ≡ row_with place.id a.queue) → IsRowAt place accounts row
+row_is : (accounts : Accounts) (place : Queued) (row : Option Outgoing) → OfOpen accounts place.user (λ a. row ≡ row_with place.id a.queue) → IsRowAt place accounts row
 row_is accounts place None own = λ row has. let never = same_row accounts place own.0 has.0 None row own.1 has.1 own.2 has.2 in cc
 row_is accounts place (Some row) own = (own.0, own.1, sym own.2)
 
@@ -100,7 +99,15 @@ module _ (place : Queued) (user : List ℕ) (same : user ≡ place.user) (a b : 
   row_read (Err e) reads = works_read a b (Err e) (IsRowAt place) (Err e) reads.keeps (λ clean accounts shown. tt)
   row_read (Ok row) reads = works_read a b (Ok row) (IsRowAt place) (Ok row) reads.keeps (λ clean accounts shown.
       let p = (read_shows a b (Ok row) row refl reads.keeps clean accounts shown).0 in
-      row_is accounts place row (subst (λ u. OfUser accounts u (λ account. row ≡ row_with place.id account.queue)) same (reads.found clean accounts p)))
+      row_is accounts place row (subst (λ u. OfOpen accounts u (λ account. row ≡ row_with place.id account.queue)) same (reads.found clean accounts p)))
+
+  -- of a user without an open account there is none
+  pub row_absent : (r : Result (Option Outgoing) Refusal) → r ≡ Err NoUser → Read r → Works (Reads (IsRowAt place) (Ok None)) a b
+  row_absent r is reads = works_read a b r (IsRowAt place) (Ok None) reads.keeps (λ clean accounts shown row has.
+      let live = subst (λ q. IfErr q (λ e. e ≡ NoUser → IsTrue b.is_open)) is (reads.sure clean) refl in
+      let none : HasNoOpen user accounts = subst (λ q. IfErr q (λ e. e ≡ NoUser → HasNoOpen user accounts)) is (reads.absent clean accounts (shown (reads.keeps.shut clean live))) refl in
+      let never : None ≡ Some has.0 = sym none ∙ (ap (λ u. open_of accounts u) same ∙ has.1) in
+      cc)
 
 -- ---- the rows that the tables have
 
@@ -136,7 +143,7 @@ found_has id (first ∷ rows) row is = go (first.id == id) (found_has id rows ro
 -- a row of a queue stands in the table
 row_queued : (tables : Tables) (accounts : Accounts) (place : Queued) (row : Outgoing) → ShowsAccounts tables accounts → HasRow accounts place row → IsQueued tables place
 row_queued tables accounts place row shows has =
-    let shown : IsShown place.user (rows_of place.user tables) has.0 = subst (IsShownOrAbsent place.user (rows_of place.user tables)) has.1 (shows.users place.user) in
+    let shown : IsShown place.user (rows_of place.user tables) has.0 = subst (IsShownOrAbsent place.user (rows_of place.user tables)) (open_there (get accounts place.user) has.0 has.1) (shows.users place.user) in
     let there : Has has.0.queue row = found_has place.id has.0.queue row has.2 in
     let own : Has (rows_of place.user tables outgoing_tree) (queue_row place.user row) =
     permuted_has (map (queue_row place.user) has.0.queue) (rows_of place.user tables outgoing_tree) (queue_row place.user row) shown.queue.rows_are (has_map (queue_row place.user) has.0.queue row there) in
@@ -164,7 +171,7 @@ one_place p q not_before not_after = by (queued_cmp p q) refl
     by Greater is = absurd (not_after (queued_total.antisymm q p ∙ ap ordering_reverse is))
 
 -- ---- the place of the next row
-module _ (waits : List Wait) (now : ℕ) (start : Queued) (a b : State) where
+module _ (waits : Waits) (now : ℕ) (start : Queued) (a b : State) where
   abbrev Stands : Accounts → Step → Type 0
   Stands = IsStep waits now start
 
@@ -236,16 +243,16 @@ module _ (waits : List Wait) (now : ℕ) (start : Queued) (a b : State) where
 -- ---- steps in turn
 
 -- the steps came to a place; none until there is due
-abbrev pub IsFrom : List Wait → ℕ → Queued → Queued → Accounts → Type 0
+abbrev pub IsFrom : Waits → ℕ → Queued → Queued → Accounts → Type 0
 IsFrom waits now start place accounts = (place ≡ start) ⊎ IsPast waits now start place accounts
 
-abbrev pub StepsTo : List Wait → ℕ → Queued → Queued → Accounts → Accounts → Type 0
+abbrev pub StepsTo : Waits → ℕ → Queued → Queued → Accounts → Accounts → Type 0
 StepsTo waits now start place accounts later = (later ≡ accounts) × IsFrom waits now start place accounts
 
-pub steps_begin : (waits : List Wait) (now : ℕ) (start : Queued) (a : State) → Works (StepsTo waits now start start) a a
+pub steps_begin : (waits : Waits) (now : ℕ) (start : Queued) (a : State) → Works (StepsTo waits now start start) a a
 steps_begin waits now start a = works_not a (StepsTo waits now start start) (λ accounts. (refl, inl refl))
 
-module _ (waits : List Wait) (now : ℕ) (start place : Queued) where
+module _ (waits : Waits) (now : ℕ) (start place : Queued) where
   -- a place after the start is after the other one, or it isn't
   after_then : (accounts : Accounts) → IsFrom waits now start place accounts → (next : Queued) → IsAfter place next → IsAfter start next
   after_then accounts (inl same) next after = subst (λ p. IsAfter p next) same after
@@ -303,7 +310,7 @@ module _ (waits : List Wait) (now : ℕ) (start place : Queued) where
         ))
 
 -- there are fewer rows
-pub steps_past : (waits : List Wait) (now : ℕ) (start place : Queued) (e : Refusal) (a b : State) → Works (StepsTo waits now start place) a b → Works (Reads (IsFound waits now start) (Err e)) a b
+pub steps_past : (waits : Waits) (now : ℕ) (start place : Queued) (e : Refusal) (a b : State) → Works (StepsTo waits now start place) a b → Works (Reads (IsFound waits now start) (Err e)) a b
 steps_past waits now start place e a b steps = works_as a b (StepsTo waits now start place) (Reads (IsFound waits now start) (Err e)) (λ accounts later h. (h.0, tt)) steps
 
 -- ---- a row is taken out, and the next one looked for
@@ -317,7 +324,7 @@ refused_in accounts later user id None e takes = takes.stays
 refused_in accounts later user id (Some a) e takes = refused_row accounts later user (row_with id a.queue) e takes
 
 refused_same : (accounts later : Accounts) (user : List ℕ) (id : ℕ) (e : Refusal) → Taking accounts user id (Refused e) later → later ≡ accounts
-refused_same accounts later user id e taking = refused_in accounts later user id (get accounts user) e taking
+refused_same accounts later user id e taking = refused_in accounts later user id (open_of accounts user) e taking
 
 module _ (place : Queued) (user : List ℕ) (same : user ≡ place.user) (a b : State) (r : Result Outgoing Refusal) (acts : ActsTaking user place.id a b r) where
   abbrev Turned : Result Outgoing Refusal → Accounts → Accounts → Type 0
@@ -363,7 +370,7 @@ no_user_known (inl never) = let h = never in cc
 no_user_known (inr never) = let h = never in cc
 
 -- and then the next one was looked for
-module _ (waits : List Wait) (now : ℕ) (place : Queued) where
+module _ (waits : Waits) (now : ℕ) (place : Queued) where
   -- no memory for it
   pub take_not : (a : State) (e : Refusal) (q : Result (Result (Option Post) Refusal) Refusal) → q ≡ Err e → Works (Takes waits now place q) a a
   take_not a e q is = works_not a (Takes waits now place q) (λ accounts. subst (λ o. Takes waits now place o accounts accounts) (sym is) refl)

@@ -1,5 +1,5 @@
 -- Tables of which a store is taken, and handed back.
-use Rattle.std.proofs.Common.{◌≡◌, ◌⊎◌, ℕ, List, Option, Result, Ok, Err, IfOk, refl, sym, ◌∙◌, ap, subst, inl, inr}
+use Rattle.std.proofs.Common.{◌≡◌, ℕ, Option, Result, Ok, Err, IfOk, refl, sym, ◌∙◌, ap, subst, inl, inr}
 use Rattle.sqlite_schema.specs.declared.schema.Schema.{Schema}
 use Rattle.sqlite.specs.Effect.{Database}
 use Rattle.sqlite.specs.State.{State, HasCleanDisk}
@@ -12,11 +12,10 @@ use Rattle.mailstore.specs.declared.next.Queued.{Queued}
 use Rattle.mailstore.specs.declared.refusal.Refusal.{Refusal}
 use Rattle.sessions.specs.Acts.{Carries}
 use Rattle.keepers.specs.declared.keeper.Unavailable.{Unavailable}
-use Rattle.keepers.specs.declared.keeper.Unavailable.TheVariants.{Refused}
 use Rattle.sendqueues.specs.Holdings.{LeavesTables, TurnsTables, Finds, TakesOut}
 use Rattle.sendqueues.specs.Posts.{IsFound, Works, Reads, Takes}
 use Rattle.sendqueues.specs.declared.post.Post.{Post}
-use Rattle.sendqueues.specs.declared.wait.Wait.{Wait}
+use Rattle.sendwaits.specs.declared.waits.Waits.{Waits}
 
 -- our tables are some tables
 ours_not_none : (db : Database) → IsKnown db → db.schema ≡ no_schema → ⊥
@@ -58,7 +57,7 @@ module _ (held new : Database) (taken given : State) (opened : OpensAs held take
     none = λ blank. absurd (ours_not_none held ours blank);
   }
 
-  module _ (waits : List Wait) (now : ℕ) (place : Queued) where
+  module _ (waits : Waits) (now : ℕ) (place : Queued) where
     -- a row was looked for
     pub found_turned : (q : Result (Option Post) Refusal) (r : Result (Option Post) Unavailable) → ((accounts : Accounts) → IfOk q (IsFound waits now place accounts) → IfOk r (IsFound waits now place accounts))
         → Works (Reads (IsFound waits now place) q) taken given → TurnsTables (Finds waits now place r) held new
@@ -83,7 +82,7 @@ module _ (held new : Database) (taken given : State) (opened : OpensAs held take
         (λ accounts later h. subst (λ o. TakesOut waits now place o accounts later) (sym told) (subst (λ o. Takes waits now place o accounts later) is h)) (carried_turned (Takes waits now place q) works.carries)
 
 -- ---- no store was given out
-module _ (waits : List Wait) (now : ℕ) (place : Queued) (held new : Database) (same : new ≡ held) (denial : Unavailable) where
+module _ (waits : Waits) (now : ℕ) (place : Queued) (held new : Database) (same : new ≡ held) (denial : Unavailable) where
   pub found_denied : (r : Result (Option Post) Unavailable) → r ≡ Err denial → TurnsTables (Finds waits now place r) held new
   found_denied r is = stays_turned (Finds waits now place r) held new same (λ accounts. (refl, subst (λ o. IfOk o (IsFound waits now place accounts)) (sym is) tt))
 

@@ -1,37 +1,42 @@
 -- Rows of queues that are due, as a store finds them.
-use Rattle.std.specs.Prelude.{◌≡◌, true, ℕ, List, Option, Some, None, Result, Ok, Err, IfOk}
+use Rattle.std.specs.Prelude.{◌≡◌, Bool, true, ℕ, Option, Some, None, Result, Ok, Err, IfOk}
 use Rattle.std.specs.declared.cmp.Ordering.TheVariants.{Less}
 use Rattle.sqlite.specs.State.{State, HasCleanDisk}
-use Rattle.mailstore.specs.Account.{Account, Accounts, row_with}
+use Rattle.mailstore.specs.Account.{Accounts, row_with}
 use Rattle.mailstore.specs.Next.{queued_cmp}
-use Rattle.mailstore.specs.Promises.{OfUser}
+use Rattle.mailstore.specs.Promises.{OfOpen}
 use Rattle.mailstore.specs.declared.next.Queued.{Queued}
 use Rattle.mailstore.specs.declared.queue.Outgoing.{Outgoing}
 use Rattle.mailstore.specs.declared.refusal.Refusal.{Refusal}
 use Rattle.sessions.specs.Acts.{Carries}
 use Rattle.mailengine.specs.declared.answer.Answer.{Answer}
 use Rattle.mailengine.specs.AccountEvents.{Taking}
-use Rattle.sendqueues.specs.Waits.{is_due}
+use Rattle.sendwaits.specs.Waits as wait
+use Rattle.sendwaits.specs.Waits.{place}
 use Rattle.sendqueues.specs.declared.post.Post.{Post}
 use Rattle.sendqueues.specs.declared.post.Step.{Step}
 use Rattle.sendqueues.specs.declared.post.Step.TheVariants.{End, Past, Due}
-use Rattle.sendqueues.specs.declared.wait.Wait.{Wait}
+use Rattle.sendwaits.specs.declared.waits.Waits.{Waits}
 
 -- a place comes after another one: by the octets of the user, and the number
 abbrev pub IsAfter : Queued → Queued → Type 0
 IsAfter start place = queued_cmp start place ≡ Less
 
--- the queue of the user there has this row under the number there
+-- the user there has an open account, whose queue has this row under the number there
 abbrev pub HasRow : Accounts → Queued → Outgoing → Type 0
-HasRow accounts place row = OfUser accounts place.user (λ a. row_with place.id a.queue ≡ Some row)
+HasRow accounts place row = OfOpen accounts place.user (λ a. row_with place.id a.queue ≡ Some row)
 
 -- the row at a place; none where there is none
 abbrev pub IsRowAt : Queued → Accounts → Option Outgoing → Type 0
 IsRowAt place accounts None = (row : Outgoing) → HasRow accounts place row → ⊥
 IsRowAt place accounts (Some row) = HasRow accounts place row
 
+-- the row at a place is due at a moment
+abbrev pub is_due : Waits → ℕ → Queued → Bool
+is_due waits now at = wait.is_due waits now (place at.user at.id)
+
 -- rows that wait, at a moment
-module _ (waits : List Wait) (now : ℕ) where
+module _ (waits : Waits) (now : ℕ) where
   -- at none of these places a row is due
   abbrev pub IsNoneDue : (Queued → Type 0) → Accounts → Type 0
   IsNoneDue Here accounts = (place : Queued) (row : Outgoing) → Here place → HasRow accounts place row → is_due waits now place ≡ true → ⊥
@@ -80,6 +85,6 @@ TakesRow place (Ok done) accounts later = IsGone place accounts later
 TakesRow place (Err refusal) accounts later = later ≡ accounts
 
 -- it was, and then the next row was looked for; or nothing changed
-abbrev pub Takes : List Wait → ℕ → Queued → Result (Result (Option Post) Refusal) Refusal → Accounts → Accounts → Type 0
+abbrev pub Takes : Waits → ℕ → Queued → Result (Result (Option Post) Refusal) Refusal → Accounts → Accounts → Type 0
 Takes waits now place (Ok found) accounts later = IsGone place accounts later × IfOk found (IsFound waits now place later)
 Takes waits now place (Err refusal) accounts later = later ≡ accounts

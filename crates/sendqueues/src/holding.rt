@@ -5,9 +5,9 @@ ghost use Rattle.keepers.specs.Taken.{IsTaken};
 ghost use Rattle.sendqueues.specs.Holdings.{Finds, TakesOut, TurnsTables};
 
 use crate::post::{Post, find_post, take_then_find};
-use crate::wait::Wait;
 use keepers::{Keeper, Unavailable};
 use mailstore::{Queued, Refusal, Store};
+use sendwaits::Waits;
 use std::alloc::Global;
 
 /// Which rows are asked for.
@@ -16,7 +16,7 @@ pub struct Search<'a> {
     /// The path of the store.
     pub path: &'a str,
     /// What is known of rows that were tried in vain.
-    pub waits: &'a [Wait],
+    pub waits: &'a Waits,
     /// The moment at which a row is to be due.
     pub now: u64,
 }
@@ -33,6 +33,7 @@ fn take_store<K: Keeper>(path: &str, keeper: &mut K) -> Result<Store<K::S>, Unav
 
 /// The first row after a place that is due, in a store that is taken and handed back.
 pub(crate) fn next_post<K: Keeper>(
+    alloc: Global,
     search: Search<'_>,
     start: Queued,
     keeper: &mut K,
@@ -41,7 +42,7 @@ pub(crate) fn next_post<K: Keeper>(
     ensures finds { IsTrue K.tells → TurnsTables (Finds search.entry.waits.now search.entry.now start result) (K.holds keeper.old) (K.holds keeper.new) }
 {
     let mut store = take_store(search.path, keeper)?;
-    let found = find_post(&mut store, start, search.waits, search.now);
+    let found = find_post(alloc, &mut store, start, search.waits, search.now);
     keeper.hand_back(store);
     Ok(found?)
 }

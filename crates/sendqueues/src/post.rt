@@ -1,11 +1,12 @@
 //! Rows that are due, in a store that is taken.
 ghost use Rattle.std.specs.Prelude.{◌≡◌, IfOk};
 ghost use Rattle.sqlite.specs.Held.{state};
+ghost use Rattle.sendqueues.specs.Posts as s;
 ghost use Rattle.sendqueues.specs.Posts.{IsFound, IsRowAt, IsStep, Reads, Takes, TakesRow, Works};
 
-use crate::wait::{Wait, is_due};
 use mailengine::take_out;
 use mailstore::{Outgoing, Queued, Refusal, Store};
+use sendwaits::{Place, Waits};
 use sqlite::Alter;
 use std::alloc::{AllocError, Global};
 
@@ -37,18 +38,31 @@ fn copy_of(alloc: Global, place: &Queued) -> Result<Queued, AllocError>
     })
 }
 
-/// The row at a place; none where there is none.
+/// Whether the row at a place is due at a moment. Lack of memory is the only error.
+fn is_due(alloc: Global, waits: &Waits, place: &Queued, now: u64) -> Result<bool, AllocError>
+    ensures { IfOk result (λ due. due ≡ s.is_due waits.now now place.now) }
+{
+    let at = Place::new(alloc, place.user.as_slice(), place.id)?;
+    Ok(waits.is_due(&at, now))
+}
+
+/// The row at a place; none where there is none, and where the user's account isn't open.
 fn row_at<S: Alter>(store: &mut Store<S>, place: &Queued) -> Result<Option<Outgoing>, Refusal>
     ensures { Works (Reads (IsRowAt place.now) result) (state S.Store store.old) (state S.Store store.new) }
 {
-    store.outgoing(place.user.as_slice(), place.id)
+    let found = store.outgoing(place.user.as_slice(), place.id);
+    if let Err(Refusal::NoUser) = found {
+        return Ok(None);
+    }
+    found
 }
 
 /// The row after a place, which is read where it is due.
 fn step_from<S: Alter>(
+    alloc: Global,
     store: &mut Store<S>,
     start: &Queued,
-    waits: &[Wait],
+    waits: &Waits,
     now: u64,
 ) -> Result<Step, Refusal>
     ensures { Works (Reads (IsStep waits.now now start.now) result) (state S.Store store.old) (state S.Store store.new) }
@@ -56,7 +70,8 @@ fn step_from<S: Alter>(
     let Some(place) = store.next_queued(start)? else {
         return Ok(Step::End);
     };
-    if !is_due(waits, &place, now) {
+    let due = is_due(alloc, waits, &place, now)?;
+    if !due {
         return Ok(Step::Past(place));
     }
     match row_at(store, &place)? {
@@ -65,19 +80,20 @@ fn step_from<S: Alter>(
     }
 }
 
-/// The first row after a place that is due. Rows that aren't are passed over without a look at their messages. Time is linear in them and
-/// in the waits for each, memory in the row.
+/// The first row after a place that is due. Rows that aren't are passed over without a look at their messages. Time is linear in them, but
+/// for the logarithm of the waits; memory is taken for the row.
 pub(crate) fn find_post<S: Alter>(
+    alloc: Global,
     store: &mut Store<S>,
     start: Queued,
-    waits: &[Wait],
+    waits: &Waits,
     now: u64,
 ) -> Result<Option<Post>, Refusal>
     ensures { Works (Reads (IsFound waits.now now start) result) (state S.Store store.old) (state S.Store store.new) }
 {
     let mut place = start;
     for _ in 0..u64::MAX {
-        match step_from(store, &place, waits, now)? {
+        match step_from(alloc, store, &place, waits, now)? {
             Step::End => return Ok(None),
             Step::Due(post) => return Ok(Some(post)),
             Step::Past(next) => place = next,
@@ -112,12 +128,12 @@ pub(crate) fn take_then_find<S: Alter>(
     alloc: Global,
     store: &mut Store<S>,
     place: &Queued,
-    waits: &[Wait],
+    waits: &Waits,
     now: u64,
 ) -> Result<Result<Option<Post>, Refusal>, Refusal>
     ensures { Works (Takes waits.now now place.now result) (state S.Store store.old) (state S.Store store.new) }
 {
     let start = copy_of(alloc, place)?;
     take_row(store, place)?;
-    Ok(find_post(store, start, waits, now))
+    Ok(find_post(alloc, store, start, waits, now))
 }

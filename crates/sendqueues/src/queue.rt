@@ -1,8 +1,9 @@
 //! The queues of the store that a keeper has.
-ghost use Rattle.std.specs.Prelude.{◌≡◌, false, None, IfOk, IfSome, IsTrue};
+ghost use Rattle.std.specs.Prelude.{◌≡◌, ℕ, false, None, IfOk, IfSome, IsTrue};
 ghost use Rattle.mailstore.specs.Account.{Accounts};
 ghost use Rattle.mailstore.specs.declared.next.Queued.{Queued};
 ghost use Rattle.sendqueues.specs.Queues.{IsAhead, IsFoundIn, IsToldOf};
+ghost use Rattle.sendwaits.specs.declared.waits.Waits.{Waits};
 
 use crate::holding::{Search, next_post, take_once};
 use crate::post::Post;
@@ -20,7 +21,7 @@ pub struct Ahead {
     pub found: Option<Post>,
 }
 
-/// The queues of all users in a store at a path. A row that waits is passed over, without a look at its message.
+/// The queues of all users in a store at a path. A row that isn't due is passed over, without a look at its message.
 ///
 /// The store is taken for one call and handed back before it returns. Where a row is taken out the next one is found in the same holding, and
 /// answered when it is asked for.
@@ -34,6 +35,7 @@ pub struct StoreQueue<'a, K: Keeper> {
 impl<'a, K: Keeper> StoreQueue<'a, K> {
     /// The queues of the store that a keeper has at the path of a search.
     pub fn new(alloc: Global, search: Search<'a>, keeper: K) -> StoreQueue<'a, K>
+        ensures search { result.search ≡ search.entry }
         ensures keeper { result.keeper ≡ keeper }
         ensures ahead { result.ahead ≡ None }
     {
@@ -60,7 +62,7 @@ impl<'a, K: Keeper> StoreQueue<'a, K> {
 }
 
 /// A place, as the store has it. Lack of memory is the only error.
-pub(crate) fn place_of(alloc: Global, user: &[u8], id: u64) -> Result<Queued, AllocError>
+fn place_of(alloc: Global, user: &[u8], id: u64) -> Result<Queued, AllocError>
     ensures user { IfOk result (λ place. place.user ≡ user.now) }
     ensures id { IfOk result (λ place. place.id ≡ id) }
 {
@@ -72,7 +74,7 @@ pub(crate) fn place_of(alloc: Global, user: &[u8], id: u64) -> Result<Queued, Al
 
 /// What was found behind this place, where it is the one that was taken out last.
 fn found_behind(ahead: Option<Ahead>, place: &Queued) -> Option<Option<Post>>
-    ensures { (accounts : Accounts) → IsAhead accounts ahead → IfSome result (IsFoundIn accounts) }
+    ensures { (waits : Waits) (now : ℕ) (accounts : Accounts) → IsAhead waits now accounts ahead → IfSome result (IsFoundIn waits now accounts) }
 {
     let Some(ahead) = ahead else {
         return None;
@@ -111,7 +113,7 @@ fn told_of(found: Option<Post>) -> Option<Row>
 
 /// What was found ahead of a row that was taken out; none where it can't be read.
 fn ahead_of(place: Queued, found: Result<Option<Post>, Refusal>) -> Option<Ahead>
-    ensures { (accounts : Accounts) → IfOk found (IsFoundIn accounts) → IsAhead accounts result }
+    ensures { (waits : Waits) (now : ℕ) (accounts : Accounts) → IfOk found (IsFoundIn waits now accounts) → IsAhead waits now accounts result }
 {
     match found {
         Ok(found) => Some(Ahead { place, found }),
@@ -130,7 +132,7 @@ fn denial_of(denial: Unavailable) -> Denial {
 impl<K: Keeper> Queue for StoreQueue<'_, K> {
     ghost use Rattle.sendqueues.specs.Queues.{ShowsRows};
 
-    ghost shows = { λ queue rows. ShowsRows K.tells (K.holds queue.keeper) queue.ahead rows };
+    ghost shows = { λ queue rows. ShowsRows queue.search.waits.now queue.search.now K.tells (K.holds queue.keeper) queue.ahead rows };
 
     fn next(&mut self, user: &[u8], id: u64) -> Result<Option<Row>, Denial> {
         let Ok(start) = place_of(self.alloc, user, id) else {
@@ -140,7 +142,7 @@ impl<K: Keeper> Queue for StoreQueue<'_, K> {
         if let Some(found) = found_behind(ahead, &start) {
             return Ok(told_of(found));
         }
-        match next_post(self.search, start, &mut self.keeper) {
+        match next_post(self.alloc, self.search, start, &mut self.keeper) {
             Ok(found) => Ok(told_of(found)),
             Err(denial) => Err(denial_of(denial)),
         }

@@ -6,3 +6,4 @@ pub mod MailboxLemmas
 pub mod ReplyLemmas
 pub mod RunLemmas
 pub mod SentLemmas
+mod ShownLemmas

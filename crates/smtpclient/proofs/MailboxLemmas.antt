@@ -21,7 +21,7 @@ both true false is = absurd (cc)
 both false true is = absurd (cc)
 both false false is = absurd (cc)
 
-same_octet : (a b : ℕ) → (a == b) ≡ true → a ≡ b
+pub same_octet : (a b : ℕ) → (a == b) ≡ true → a ≡ b
 same_octet a b is = grind (arith, is)
 
 own : (a : ℕ) → (a == a) ≡ true

@@ -151,6 +151,16 @@ pub record IsMailbox (text : List ℕ) : Type 0 where
   pub is : IsHost host
   pub utf8 : is_utf8 text ≡ true
 
+-- ---- what holds of one
+
+-- an octet that isn't a control: neither below 32, as CR, LF and NUL are, nor 127
+abbrev pub is_shown : ℕ → Bool
+is_shown octet = nat_le 32 octet && not (octet == 127)
+
+-- a mailbox has no control: none ends the line that it is written in
+pub record MailboxStands : Type 0 where
+  pub shown : (text : List ℕ) → IsMailbox text → list_all is_shown text ≡ true
+
 -- ---- what is read of one
 
 -- a Dot-string, `@`, and what stands behind it

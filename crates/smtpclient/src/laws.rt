@@ -1,5 +1,6 @@
 //! Laws of the definitions, each the contract of a function that does nothing.
 ghost use Rattle.smtpclient.specs.Dialogues.{SpeaksRight};
+ghost use Rattle.smtpclient.specs.Mailboxes.{MailboxStands};
 ghost use Rattle.smtpclient.specs.Sent.{SentStands};
 
 /// What is sent of a message is one, whatever octets it has. What the other side takes off it are the message's lines, each with CRLF:
@@ -12,4 +13,9 @@ pub fn sent_stands()
 /// written is a front of the lines of its own sender, target and text.
 pub fn speaks_right()
     ensures { SpeaksRight }
+{}
+
+/// A mailbox has no CR, LF or NUL, nor another control. So the line of MAIL or RCPT that it stands in is one line.
+pub fn mailbox_stands()
+    ensures { MailboxStands }
 {}

@@ -49,7 +49,10 @@ impl<'a, N: Net<Stream = TcpStream>> Peer for SocketPeer<'a, N> {
             Target::Port(address) => {
                 let wait = Duration::from_secs(CONNECTING);
                 match TcpStream::connect_timeout(self.net, &address, wait) {
-                    Ok(stream) => Link::Tcp(stream),
+                    Ok(stream) => {
+                        let _ = stream.set_nodelay(true);
+                        Link::Tcp(stream)
+                    }
                     Err(_) => return Err(Lost),
                 }
             }

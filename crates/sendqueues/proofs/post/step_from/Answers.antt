@@ -1,7 +1,8 @@
 -- The next place was found, and the row there read where it is due.
 use Rattle.std.proofs.Common.{◌≡◌, true, Ok, ◌∙◌, ap, sym, rules}
 use Rattle.sqlite.specs.Held.{state}
-use Rattle.sendqueues.specs.Waits.{is_due}
+use Rattle.mailstore.specs.declared.refusal.Refusal.TheVariants.{Memory}
+use Rattle.sendqueues.specs.Posts.{is_due}
 use Rattle.sendqueues.proofs.StoreLemmas.{none_next, not_next, past_next, step_unread, step_past, step_due}
 use Rattle.sendqueues.proofs.post.step_from.Goals as goal
 
@@ -13,10 +14,14 @@ pub returns-in_default : goal.returns-in_default
 returns-in_default g c =
     none_next c.args.waits.now c.args.now c.args.start.now (state g.S.Store c.args.store.now) (state g.S.Store c.next_queued.new.self) c.next_queued.result c.next_queued.ensures.next (c.in_ok-place.was ∙ ap Ok c.in_default.is)
 
-pub returns-then-not-is_due : goal.returns-then-not-is_due
-returns-then-not-is_due g c =
+pub returns-in_err-due : goal.returns-in_err-due
+returns-in_err-due g c =
+    not_next c.args.waits.now c.args.now c.args.start.now (state g.S.Store c.args.store.now) (state g.S.Store c.next_queued.new.self) c.next_queued.result c.next_queued.ensures.next Memory c.from_residual-in_err-due.result (search rules)
+
+pub returns-then-not-due : goal.returns-then-not-due
+returns-then-not-due g c =
     past_next c.args.waits.now c.args.now c.args.start.now (state g.S.Store c.args.store.now) (state g.S.Store c.next_queued.new.self) c.next_queued.result c.next_queued.ensures.next c.in-Some.place (c.in_ok-place.was ∙ ap Ok c.in-Some.is)
-    (sym c.is_due.ensures ∙ c.if-not-is_due.true)
+    (sym c.in_ok-due.ensures ∙ c.if-not-due.true)
 
 pub returns-in_err-row : goal.returns-in_err-row
 returns-in_err-row g c =
@@ -25,7 +30,7 @@ returns-in_err-row g c =
 
 pub returns-in-Some-2 : goal.returns-in-Some-2
 returns-in-Some-2 g c =
-    let due : is_due c.args.waits.now c.args.now c.in-Some.place ≡ true = sym c.is_due.ensures ∙ c.if-not-is_due.false in
+    let due : is_due c.args.waits.now c.args.now c.in-Some.place ≡ true = sym c.in_ok-due.ensures ∙ c.if-not-due.false in
     step_due c.args.waits.now c.args.now c.args.start.now (state g.S.Store c.args.store.now) (state g.S.Store c.next_queued.new.self) c.next_queued.result c.next_queued.ensures.next c.in-Some.place (c.in_ok-place.was ∙ ap Ok c.in-Some.is)
     (state g.S.Store c.row_at.new.store) c.row_at.result c.row_at.ensures c.in-Some-2.row (c.in_ok-row.was ∙ ap Ok c.in-Some-2.is) due
 

@@ -1,0 +1,3 @@
+mod Examples
+mod TextLemmas
+mod WaitLemmas

@@ -1,0 +1,71 @@
+-- Rows that wait, and when they are due.
+use Rattle.std.specs.Prelude.{◌≡◌, nat_le, nat_lt, ℕ, ◌+◌, ◌*◌, ◌^◌, ◌-◌, min, Bool, true, if◌then◌else◌, List, Option, Some, None, option_map}
+use Rattle.std.specs.declared.cmp.Ordering.{Ordering}
+use Rattle.std.specs.BTreeMap.{get}
+use Rattle.std.specs.Cmp.Lexicographic.{slice_cmp}
+use Rattle.std.specs.Ordering.{nat_cmp, on, then_cmp}
+use Rattle.smtpclient.specs.declared.dialogue.Ending.{Ending}
+use Rattle.smtpclient.specs.declared.dialogue.Ending.TheVariants.{Sent, Refused, Delayed, OutOfPlace, Lost, Undeclared, Unaddressed}
+use Rattle.sendwaits.specs.declared.place.Place.{Place}
+use Rattle.sendwaits.specs.declared.wait.Wait.{Wait}
+use Rattle.sendwaits.specs.declared.waits.Waits.{Waits}
+
+abbrev pub place : List ℕ → ℕ → Place
+place user id = record { user = user; id = id }
+
+-- by the octets of the users, and the numbers
+abbrev pub place_cmp : Place → Place → Ordering
+place_cmp = then_cmp (on (λ p. p.user) (slice_cmp nat_cmp)) (on (λ p. p.id) nat_cmp)
+
+-- what is known of the row at a place
+abbrev pub wait_of : Waits → Place → Option Wait
+wait_of waits at = get place_cmp waits.map at
+
+-- it doesn't keep the row back at a moment
+abbrev pub allows : ℕ → Option Wait → Bool
+allows now None = true
+allows now (Some wait) = nat_le wait.due now
+
+-- the row at a place is due at a moment
+abbrev pub is_due : Waits → ℕ → Place → Bool
+is_due waits now at = allows now (wait_of waits at)
+
+-- ---- how long a row waits
+
+-- how many times the row was tried in vain
+abbrev pub tries_in : Option Wait → ℕ
+tries_in None = 0
+tries_in (Some wait) = wait.tries
+
+-- 1, 2, 4, 8, 16, 32 and then 60 minutes, in seconds
+abbrev pub pause_after : ℕ → ℕ
+pause_after tries = if nat_lt tries 6 then 60 * 2 ^ tries else 3600
+
+-- a row that was sent doesn't wait; one that is refused for good, that needs what the server doesn't offer, or that is no letter waits a day
+abbrev pub seconds_after : Ending → ℕ → Option ℕ
+seconds_after Sent tries = None
+seconds_after (Refused code) tries = Some 86400
+seconds_after (Delayed code) tries = Some (pause_after tries)
+seconds_after (OutOfPlace code) tries = Some (pause_after tries)
+seconds_after Lost tries = Some (pause_after tries)
+seconds_after Undeclared tries = Some 86400
+seconds_after Unaddressed tries = Some 86400
+
+abbrev pub largest : ℕ
+largest = 2 ^ 64 - 1
+
+-- the wait of a row that was tried so often before, and at a moment ended so that it waits so long
+abbrev pub waiting : ℕ → ℕ → ℕ → Wait
+waiting tries moment seconds = record { due = min (moment + seconds) largest; tries = min (tries + 1) largest }
+
+abbrev pub wait_after : ℕ → Ending → ℕ → Option Wait
+wait_after tries ending moment = option_map (waiting tries moment) (seconds_after ending tries)
+
+-- what is known after the row at a place was tried: its own wait by the one before, and those of other rows as they were
+pub record Notes (at : Place) (ending : Ending) (moment : ℕ) (old new : Waits) : Type 0 where
+  pub own : wait_of new at ≡ wait_after (tries_in (wait_of old at)) ending moment
+  pub others : (other : Place) → (other ≡ at → ⊥) → wait_of new other ≡ wait_of old other
+
+-- a wait is kept until two days after its row was due
+abbrev pub is_kept : ℕ → Wait → Bool
+is_kept now wait = nat_lt now (min (wait.due + 172800) largest)

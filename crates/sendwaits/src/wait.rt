@@ -1,0 +1,69 @@
+//! How long a row waits.
+ghost use Rattle.std.specs.Prelude.{◌≡◌};
+ghost use Rattle.sendwaits.specs.Waits as s;
+
+use smtpclient::Ending;
+
+/// How many seconds a row waits that is refused for good.
+const DAY: u64 = 86_400;
+
+/// A row that is gone is forgotten so many seconds after it was due.
+const FORGOTTEN: u64 = 172_800;
+
+/// What is known of a row that was tried in vain.
+#[derive(Clone, Copy, Debug, PartialEq, Eq)]
+pub struct Wait {
+    /// The moment from which on it is due again, in seconds since 1970-01-01 UTC.
+    pub due: u64,
+    /// How many times it was tried in vain, one time after the other.
+    pub tries: u64,
+}
+
+impl Wait {
+    /// Whether it is kept at a moment: until two days after the row was due.
+    pub fn is_kept(&self, now: u64) -> bool
+        ensures { result ≡ s.is_kept now self.now }
+    {
+        now < self.due.saturating_add(FORGOTTEN)
+    }
+}
+
+/// How many seconds a row waits that was tried so many times before: 1, 2, 4, 8, 16, 32 and then 60 minutes.
+pub fn pause_after(tries: u64) -> u64
+    ensures { result ≡ s.pause_after tries }
+{
+    match tries {
+        0 => 60,
+        1 => 120,
+        2 => 240,
+        3 => 480,
+        4 => 960,
+        5 => 1_920,
+        _ => 3_600,
+    }
+}
+
+/// How many seconds a row waits after an ending: none after 250; a day where it is refused for good, needs what the server
+/// doesn't offer, or is no letter.
+pub fn seconds_after(ending: Ending, tries: u64) -> Option<u64>
+    ensures { result ≡ s.seconds_after ending tries }
+{
+    match ending {
+        Ending::Sent => None,
+        Ending::Refused(_) | Ending::Undeclared | Ending::Unaddressed => Some(DAY),
+        Ending::Delayed(_) | Ending::OutOfPlace(_) | Ending::Lost => Some(pause_after(tries)),
+    }
+}
+
+/// The wait of a row that was tried so many times before and ended so at a moment; none where it was sent.
+pub fn wait_after(tries: u64, ending: Ending, moment: u64) -> Option<Wait>
+    ensures { result ≡ s.wait_after tries ending moment }
+{
+    match seconds_after(ending, tries) {
+        Some(seconds) => Some(Wait {
+            due: moment.saturating_add(seconds),
+            tries: tries.saturating_add(1),
+        }),
+        None => None,
+    }
+}
