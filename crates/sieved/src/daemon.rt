@@ -1,7 +1,9 @@
 //! Many clients at once.
-use crate::listening::{Asked, Listening, listen, read_asked, trouble_of_socket};
+use crate::listening::{Asked, Listening, Mail, listen, read_asked, trouble_of_socket};
 use daemonhosts::host::Host;
 use keepers::Keeper;
+use mailmoves::Route;
+use mailsinks::MailSink;
 use octets::Octets;
 use sieveddaemon::life;
 use sieveddaemon::mail::MailDaemon;
@@ -10,17 +12,24 @@ use sievedrun::trouble::Trouble;
 use sievedwords as words;
 use std::alloc::{AllocError, Global};
 use std::fs::Files;
-use std::io;
 use std::io::Write;
 use std::net::Net;
 use std::os::fd::AsFd;
 use std::time::Clock;
+use std::{fs, io};
 use systemsockets::SystemSockets;
 use wires::service::Service;
 
 /// Serves many clients at once, from the store of a keeper. What is inherited is on the descriptor. The answer is the exit status,
 /// where there is one.
-pub fn serve_many<N: Net + Files + Clock, D: AsFd, W: Write, E: Write + Drop, K: Keeper + Drop>(
+pub fn serve_many<
+    N: Net + Files + Clock,
+    D: AsFd,
+    W: Write,
+    E: Write + Drop,
+    K: Keeper + Drop,
+    T: MailSink + Drop,
+>(
     system: &N,
     alloc: Global,
     words: words::Daemon<'_>,
@@ -28,6 +37,7 @@ pub fn serve_many<N: Net + Files + Clock, D: AsFd, W: Write, E: Write + Drop, K:
     output: &mut W,
     mut errors: E,
     mut keeper: K,
+    sink: T,
 ) -> u8 {
     let asked = match read_asked(words) {
         Ok(asked) => asked,
@@ -46,6 +56,10 @@ pub fn serve_many<N: Net + Files + Clock, D: AsFd, W: Write, E: Write + Drop, K:
         Ok(None) => return 0,
         Err(trouble) => return refuse(&mut errors, trouble),
     };
+    let route = match route_of(alloc, asked.mail) {
+        Ok(route) => route,
+        Err(AllocError) => return refuse(&mut errors, trouble_of(Fault::from(AllocError))),
+    };
     match watch(system, alloc, listening, output) {
         Ok(sockets) => {
             let host = Host::new(
@@ -53,6 +67,8 @@ pub fn serve_many<N: Net + Files + Clock, D: AsFd, W: Write, E: Write + Drop, K:
                 system,
                 sockets,
                 keeper,
+                sink,
+                route,
                 words.path,
                 words.quiet,
                 errors,
@@ -74,6 +90,7 @@ fn begin<N: Net + Files, D: AsFd, E: Write, K: Keeper>(
     keeper: &mut K,
 ) -> Result<Option<Listening>, Trouble> {
     look_at_store(words.path, errors, keeper)?;
+    look_at_mail(system, asked.mail)?;
     let listening = listen(system, alloc, asked, descriptor)?;
     if words.check {
         return Ok(None);
@@ -102,6 +119,26 @@ fn look_at_store<E: Write, K: Keeper>(
     Ok(())
 }
 
+/// Looks whether the directory of the Maildirs is there.
+fn look_at_mail<N: Files>(system: &N, mail: Option<Mail<'_>>) -> Result<(), Trouble> {
+    let Some(mail) = mail else {
+        return Ok(());
+    };
+    match fs::metadata(system, mail.dir) {
+        Ok(found) if found.is_dir() => Ok(()),
+        _ => Err(trouble_of(Fault::NoMaildir)),
+    }
+}
+
+/// Where mail moves on to, where it does.
+fn route_of(alloc: Global, mail: Option<Mail<'_>>) -> Result<Option<Route>, AllocError> {
+    let Some(mail) = mail else {
+        return Ok(None);
+    };
+    let dir = Octets::from_slice(alloc, mail.dir.as_bytes())?;
+    Ok(Some(Route::new(alloc, dir, mail.separator)))
+}
+
 /// Has the system tell of the clients of all listeners, and tells that they listen.
 fn watch<'n, N: Net + Clock, W: Write>(
     system: &'n N,
@@ -117,16 +154,16 @@ fn watch<'n, N: Net + Clock, W: Write>(
 }
 
 /// Serves clients for good.
-fn live<N: Net + Clock, E: Write + Drop, K: Keeper + Drop>(
+fn live<N: Net + Clock, E: Write + Drop, K: Keeper + Drop, T: MailSink + Drop>(
     alloc: Global,
     asked: &Asked<'_>,
-    mut host: Host<'_, N, E, K>,
+    mut host: Host<'_, N, E, K, T>,
 ) -> u8 {
     let name = match Octets::from_slice(alloc, asked.host.as_bytes()) {
         Ok(name) => name,
         Err(AllocError) => return host.refuse(trouble_of(Fault::from(AllocError))),
     };
-    let mut daemon = MailDaemon::new(alloc, asked.names, name);
+    let mut daemon = MailDaemon::new(alloc, asked.names, name, asked.mail.is_some());
     let mut service = Service::new(alloc);
     match life::serve(&mut host, &mut daemon, &mut service, u64::MAX) {
         Ok(()) => 0,

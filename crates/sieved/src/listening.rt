@@ -1,11 +1,12 @@
 //! Where the daemon's clients come in.
 use keepers::cause::of_socket;
 use lmtp::Names;
+use maildirs::Separator;
 use mio::net::TcpListener;
 use octets::{Octets, is_printable};
 use sievedrun::fault::Fault;
 use sievedrun::trouble::Trouble;
-use sievedrun::values::port_of;
+use sievedrun::values::{port_of, separator_of};
 use sievedwords::Daemon;
 use std::alloc::{AllocError, Global};
 use std::fs::Files;
@@ -29,6 +30,15 @@ pub enum Door<'a> {
     Inherited,
 }
 
+/// Where mail moves on to.
+#[derive(Clone, Copy)]
+pub struct Mail<'a> {
+    /// The directory of the users' Maildirs.
+    pub dir: &'a str,
+    /// What separates the levels of a folder's name there.
+    pub separator: Separator,
+}
+
 /// What the words of the daemon ask for.
 #[derive(Clone, Copy)]
 pub struct Asked<'a> {
@@ -36,6 +46,7 @@ pub struct Asked<'a> {
     pub managesieve: Option<u16>,
     pub lmtp: Option<Door<'a>>,
     pub names: Names,
+    pub mail: Option<Mail<'a>>,
     /// The name with which clients of LMTP are greeted.
     pub host: &'a str,
 }
@@ -46,7 +57,7 @@ pub struct Asked<'a> {
 ///
 /// [`Fault::BadArgument`] where nothing is to be listened to, and for a number, a word or a name that is none.
 pub fn read_asked(words: Daemon<'_>) -> Result<Asked<'_>, Fault> {
-    if words.managesieve.is_none() && words.lmtp.is_none() {
+    if words.managesieve.is_none() && words.lmtp.is_none() && words.mail.is_none() {
         return Err(Fault::BadArgument);
     }
     let managesieve = match words.managesieve {
@@ -57,8 +68,21 @@ pub fn read_asked(words: Daemon<'_>) -> Result<Asked<'_>, Fault> {
         managesieve,
         lmtp: words.lmtp.map(door_of),
         names: names_of(words.names)?,
+        mail: mail_of(words)?,
         host: host_of(words.host)?,
     })
+}
+
+/// Where mail moves on to. A separator of levels is for that alone.
+fn mail_of(words: Daemon<'_>) -> Result<Option<Mail<'_>>, Fault> {
+    let Some(dir) = words.mail else {
+        return match words.separator {
+            Some(_) => Err(Fault::BadArgument),
+            None => Ok(None),
+        };
+    };
+    let separator = separator_of(words.separator)?;
+    Ok(Some(Mail { dir, separator }))
 }
 
 fn door_of(text: &str) -> Door<'_> {

@@ -5,7 +5,6 @@
 mod daemon;
 mod listener;
 mod listening;
-mod memo;
 mod run_file;
 mod send;
 mod wall_clock;
@@ -28,6 +27,7 @@ use std::io::{Read, Write};
 use std::net::{Net, TcpListener, TcpStream};
 use std::os::fd::AsFd;
 use std::process::ExitCode;
+use std::random::RandomSource;
 use std::time::{Clock, SystemTime};
 
 fn main(rt: HostRuntime) -> ExitCode {
@@ -50,25 +50,27 @@ fn run(rt: &HostRuntime, words: &CommandLine) -> u8 {
         rt.alloc(),
         words,
         clock(rt),
+        random(rt),
         &mut rt.stdin(),
         &mut rt.stdout(),
         rt.stderr(),
         FileKeeper::new(rt),
-        &mut Maildir::new(rt),
+        Maildir::new(rt),
     )
 }
 
 /// Does what the words ask for, and answers the exit status.
-fn answer<N, R: Read + AsFd, W: Write, E: Write + Drop, K: Keeper + Drop, T: MailSink>(
+fn answer<N, R: Read + AsFd, W: Write, E: Write + Drop, K: Keeper + Drop, T: MailSink + Drop>(
     net: &N,
     alloc: Global,
     words: &CommandLine,
     clock: Option<u64>,
+    random: Option<[u8; 16]>,
     input: &mut R,
     output: &mut W,
     mut errors: E,
     mut keeper: K,
-    sink: &mut T,
+    mut sink: T,
 ) -> u8
 where
     N: Net<Listener = TcpListener, Stream = TcpStream> + Files + Clock,
@@ -89,7 +91,7 @@ where
             )
         }
         Ok(Some(Subcommand::Daemon(asked))) => serve_many(
-            net, alloc, asked, &*input, output, errors, keeper,
+            net, alloc, asked, &*input, output, errors, keeper, sink,
         ),
         _ => drive(
             alloc,
@@ -99,7 +101,8 @@ where
             &mut errors,
             &mut keeper,
             clock,
-            sink,
+            random,
+            &mut sink,
         ),
     }
 }
@@ -161,4 +164,11 @@ fn word_at(rt: &HostRuntime, at: usize) -> Result<Option<Octets>, AllocError> {
 fn clock(rt: &HostRuntime) -> Option<u64> {
     let now = SystemTime::now(rt).ok()?;
     Some(now.duration_since(SystemTime::UNIX_EPOCH).ok()?.as_secs())
+}
+
+/// 16 octets that nobody can guess, where the system gives some.
+fn random<S: RandomSource>(system: &S) -> Option<[u8; 16]> {
+    let mut octets = [0u8; 16];
+    system.fill_bytes(&mut octets).ok()?;
+    Some(octets)
 }

@@ -1,8 +1,8 @@
 //! The files of a run that sends, beside the store: `FILE.send`, its lock, and `FILE.send.waits`, what is known of rows that wait.
 use keepers::cause::of_file;
 use mailstore::Refusal;
-use octets::{List, Octets};
-use sendqueues::{Wait, read_waits, write_waits};
+use octets::Octets;
+use sendwaits::{Waits, write_waits};
 use sievedrun::fault::Fault;
 use sievedrun::trouble::Trouble;
 use std::alloc::AllocError;
@@ -13,9 +13,6 @@ use std::{format, fs, io};
 
 /// The permissions of these files: their owner reads and writes them.
 const OWNER_ALONE: u32 = 0o600;
-
-/// A row that is gone is forgotten so many seconds after it was due.
-const FORGOTTEN: u64 = 172_800;
 
 /// The lock that one run has, until the file is dropped.
 ///
@@ -34,34 +31,23 @@ pub fn lock_run(rt: &HostRuntime, path: &str) -> Result<File, Trouble> {
     }
 }
 
-/// What was known of rows that wait, as the last run wrote it: none where there is no such file, or none that can be read. Lack of memory is
-/// the only error.
-pub fn read_run(rt: &HostRuntime, path: &str) -> Result<List<Wait>, AllocError> {
+/// What was known of rows that wait, as the last run wrote it: nothing where there is no such file, or none that can be read. Lack of
+/// memory is the only error.
+pub fn read_run(rt: &HostRuntime, path: &str) -> Result<Octets, AllocError> {
     let alloc = rt.alloc();
     let name = format!(in alloc; "{path}.send.waits")?;
     match fs::read(rt, name.as_str()) {
-        Ok(octets) => read_waits(alloc, octets.as_slice()),
-        Err(_) => Ok(List::new(alloc)),
+        Ok(octets) => Ok(Octets::from_vec(octets)),
+        Err(_) => Ok(Octets::new(alloc)),
     }
 }
 
 /// Writes what is known of rows that wait. Where that fails the next run knows what the last one knew.
-pub fn write_run(rt: &HostRuntime, path: &str, waits: &List<Wait>, now: u64) {
-    let Ok(text) = text_of(rt, waits, now) else {
+pub fn write_run(rt: &HostRuntime, path: &str, waits: &Waits, now: u64) {
+    let Ok(text) = write_waits(rt.alloc(), waits, now) else {
         return;
     };
     let _ = replace(rt, path, &text);
-}
-
-fn text_of(rt: &HostRuntime, waits: &List<Wait>, now: u64) -> Result<Octets, AllocError> {
-    let alloc = rt.alloc();
-    let mut kept = List::new(alloc);
-    for wait in waits.as_slice() {
-        if wait.due.saturating_add(FORGOTTEN) > now {
-            kept.push(wait.try_clone(alloc)?)?;
-        }
-    }
-    write_waits(alloc, kept.as_slice())
 }
 
 /// Puts a new file in the place of the one that is there.

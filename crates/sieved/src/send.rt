@@ -1,13 +1,13 @@
 //! The queues of all users, handed to a mail server.
 use crate::listening::host_of;
-use crate::memo::{Memo, Memory};
 use crate::run_file::{lock_run, read_run, write_run};
 use crate::wall_clock::WallClock;
 use keepers::{FileKeeper, Keeper};
-use mailsenders::{Client, Stop, send_queue};
+use mailsenders::{Client, Stop};
 use mailstore::Refusal;
-use octets::{List, Octets};
-use sendqueues::{Book, Search, StoreQueue, Wait, tally_line};
+use octets::Octets;
+use sendqueues::{Ended, Search, send_due};
+use sendwaits::{Book, Memory, Waits, read_waits, tally_line};
 use sievedrun::fault::Fault;
 use sievedrun::trouble::Trouble;
 use sievedrun::values::decimal;
@@ -72,49 +72,65 @@ fn send_all<W: Write, E: Write>(
     errors: &mut E,
 ) -> Result<(), Trouble> {
     let lock = lock_run(rt, asked.path)?;
-    let waits = read_run(rt, asked.path).map_err(no_memory)?;
-    let ended = send_rows(rt, asked, &waits, output, errors);
+    let ended = match read_run(rt, asked.path) {
+        Ok(text) => send_known(rt, asked, text.as_slice(), output, errors),
+        Err(refused) => Err(no_memory(refused)),
+    };
     drop(lock);
     ended
 }
 
-/// The rows that are due, over one connection, or another one where it is lost.
-fn send_rows<W: Write, E: Write>(
+/// The rows that are due, by what is known of those that wait, as a text.
+fn send_known<W: Write, E: Write>(
     rt: &HostRuntime,
     asked: Asked<'_>,
-    waits: &List<Wait>,
+    text: &[u8],
     output: &mut W,
     errors: &mut E,
 ) -> Result<(), Trouble> {
     let alloc = rt.alloc();
     let mut clock = WallClock::new(rt);
     let now = clock.now();
-    let host = Octets::from_slice(alloc, asked.host.as_bytes()).map_err(no_memory)?;
-    let kept = copy_of(alloc, waits).map_err(no_memory)?;
+    let waits = read_waits(alloc, text).map_err(no_memory)?;
     let search = Search {
         path: asked.path,
-        waits: waits.as_slice(),
+        waits: &waits,
         now,
     };
-    let mut queue = StoreQueue::new(alloc, search, FileKeeper::new(rt));
+    let known = read_waits(alloc, text).map_err(no_memory)?;
+    let (known, ended) = send_rows(rt, asked, search, known, &mut clock, output, errors)?;
+    write_run(rt, asked.path, &known.waits, now);
+    let told = tell_tally(alloc, output, known.sent, known.waiting);
+    match ended.tally {
+        Ok(_) => told,
+        Err(stop) => Err(trouble_of_stop(stop, &ended.keeper, &known, errors)),
+    }
+}
+
+/// The rows that are due, over one connection, or another one where it is lost.
+fn send_rows<'a, W: Write, E: Write>(
+    rt: &'a HostRuntime,
+    asked: Asked<'_>,
+    search: Search<'_>,
+    known: Waits,
+    clock: &mut WallClock<'a>,
+    output: &mut W,
+    errors: &mut E,
+) -> Result<(Memory, Ended<FileKeeper<'a>>), Trouble> {
+    let alloc = rt.alloc();
+    let host = Octets::from_slice(alloc, asked.host.as_bytes()).map_err(no_memory)?;
     let mut server = Client::new(alloc, SocketPeer::new(rt, asked.target), host);
-    let mut memo = Memo::new(alloc, Book::new(alloc, kept, output, errors, &mut clock));
-    let ended = send_queue(
+    let mut book = Book::new(alloc, known, output, errors, clock);
+    let ended = send_due(
         alloc,
-        &mut queue,
+        search,
+        FileKeeper::new(rt),
         &mut server,
-        &mut memo,
+        &mut book,
         asked.send_8bit,
         asked.most,
     );
-    let known = memo.into_memory();
-    write_run(rt, asked.path, &known.waits, now);
-    let told = tell_tally(alloc, output, known.sent, known.waiting);
-    let keeper = queue.into_keeper();
-    match ended {
-        Ok(_) => told,
-        Err(stop) => Err(trouble_of_stop(stop, &keeper, &known, errors)),
-    }
+    Ok((book.into_memory(), ended))
 }
 
 /// Why a run ended early. A row that the server has, and that is in the queue still, is named.
@@ -152,15 +168,6 @@ fn tell_tally<W: Write>(
         return Err(trouble_of(Fault::Stream));
     }
     Ok(())
-}
-
-/// A copy of what is known of rows that wait.
-fn copy_of(alloc: Global, waits: &List<Wait>) -> Result<List<Wait>, AllocError> {
-    let mut copies = List::new(alloc);
-    for wait in waits.as_slice() {
-        copies.push(wait.try_clone(alloc)?)?;
-    }
-    Ok(copies)
 }
 
 fn trouble_of(fault: Fault) -> Trouble {

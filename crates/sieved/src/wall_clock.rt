@@ -1,17 +1,25 @@
-//! The clock of a run that sends.
+//! The clocks of a run that sends.
 use mio::{Events, Poll};
-use sendqueues::Clock;
-use std::time::{Duration, SystemTime};
+use sendwaits::Clock;
+use std::time::{Duration, Instant, SystemTime};
 
-/// The system's clock.
+/// The system's clocks.
 #[derive(Clone, Copy)]
 pub struct WallClock<'a> {
     rt: &'a HostRuntime,
+    /// When it was made; none where there is no clock that never goes back.
+    start: Option<Instant>,
+    /// How often it paused: what is told in place of such a clock.
+    pauses: u64,
 }
 
 impl<'a> WallClock<'a> {
     pub fn new(rt: &'a HostRuntime) -> WallClock<'a> {
-        WallClock { rt }
+        WallClock {
+            rt,
+            start: Instant::now(rt).ok(),
+            pauses: 0,
+        }
     }
 
     /// Seconds since 1970, or 0 where the clock can't be read.
@@ -31,7 +39,18 @@ impl Clock for WallClock<'_> {
         self.now()
     }
 
+    fn uptime(&mut self) -> u64 {
+        match self.start {
+            Some(start) => match start.elapsed(self.rt) {
+                Ok(span) => span.as_secs(),
+                Err(_) => self.pauses,
+            },
+            None => self.pauses,
+        }
+    }
+
     fn pause(&mut self) {
+        self.pauses = self.pauses.saturating_add(1);
         let Ok(mut poll) = Poll::new(self.rt) else {
             return;
         };
