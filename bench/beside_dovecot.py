@@ -239,9 +239,9 @@ def main(words):
             for connections in 1, 20:
                 row(f"deliveries by LMTP of 8 kB, over {connections} connection{'s' * (connections > 1)}", servers, lambda server: deliveries(server, connections))
             for together in 1, 50:
-                sent = " sent together" if together > 1 else ""
-                row(f"NOOP, {together}{sent}", servers, lambda server: commands(server, b"NOOP", together=together))
-                row(f"GETSCRIPT of {len(LONG):,} octets, {together}{sent}", servers, lambda server: commands(server, b'GETSCRIPT "long"', together=together))
+                sent = f"{together} sent together" if together > 1 else "each behind the answer to the one before"
+                row(f"NOOP, {sent}", servers, lambda server: commands(server, b"NOOP", together=together))
+                row(f"GETSCRIPT of {len(LONG):,} octets, {sent}", servers, lambda server: commands(server, b'GETSCRIPT "long"', together=together))
             row(f"PUTSCRIPT of {len(LONG):,} octets", servers, lambda server: commands(server, b'PUTSCRIPT "long"', LONG))
             print(f"| resident memory after it, MB | {memory(servers[0]):.0f} | {memory(servers[1]):.0f} | |")
         finally:

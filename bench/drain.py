@@ -3,12 +3,13 @@
 
   bench/drain.py [--sieved SIEVED] [PART ..]       SIEVED: the program, crates/sieved/out/sieved where none is named
 
-The parts: moved, grows, opens, life; without a word, all. It needs python3, and for some figures strace and the command `time`.
+The parts: moved, grows, opens, large, life; without a word, all. It needs python3, and for some figures strace and the command `time`.
 
   moved   100 and 1,000 messages of 8 kB drained in one run, on a disk (the folder for temporary files) and in memory (/dev/shm), with the syncs counted
   grows   100, 1,000 and 10,000 messages drained in one run without `--most`, a message's time less the open's, in memory
   opens   `folders` of a user without messages: stores of 1, 10 and 100 MB, and with 1,000 and 10,000 remembered replies
-  life    10 deliveries of 8 kB a second for five minutes, with a drain every 5 seconds and without one; the store lies in
+  large   the memory of each word on a store with one message of 10,000,000 or 30,000,000 octets
+  life    10 deliveries of 8 kB a second for three minutes, with a drain every 5 seconds and without one; the store lies in
           the folder for temporary files, so TMPDIR=/dev/shm takes the waits for a disk away
 """
 import os, re, shutil, sqlite3, statistics, subprocess, sys, tempfile, threading, time
@@ -19,7 +20,7 @@ sys.path.insert(0, f"{HERE}/../tests")
 from managesieve import SIEVED, Store
 
 MESSAGE = b"From: bob@example.net\r\nTo: alice@example.org\r\nSubject: Lunch\r\n\r\n" + (b"x" * 76 + b"\r\n") * 104
-SECONDS = 300
+SECONDS = 180
 RATE = 10
 EVERY = 5
 
@@ -127,6 +128,21 @@ def opens(sieved):
         print(f"| {what} | {size:.1f} | {took:.1f} | {calls} | {waited:.1f} | {peak(words):.1f} |", flush=True)
 
 
+def large(sieved):
+    print("| The most memory, MB | `deliver` | an open after it | `show` | `drain` |\n|---|---:|---:|---:|---:|")
+    for size in (10_000_000, 30_000_000):
+        store = Store(["alice", "bob"], sieved)
+        with tempfile.NamedTemporaryFile() as message:
+            message.write(MESSAGE + (b"x" * 76 + b"\r\n") * ((size - len(MESSAGE)) // 78))
+            message.flush()
+            into = lambda words: ["sh", "-c", 'exec "$@" < "$0"', message.name, *words]
+            figures = [peak(into(store.words("deliver", "--to", "alice@example.org", "alice")))]
+        figures.append(peak(store.words("folders", "bob")))
+        figures.append(peak(store.words("show", "alice", "INBOX", "1")))
+        figures.append(peak(store.words("drain", "alice", "INBOX", maildir(f"{store.folder.name}/mail"))))
+        print(f"| a message of {size:,} octets | " + " | ".join(f"{figure:.0f}" for figure in figures) + " |", flush=True)
+
+
 class Life:
     """Deliveries at an even rate, and how long each took."""
 
@@ -185,7 +201,7 @@ def life(sieved):
         Life(sieved, drains).live()
 
 
-PARTS = {"moved": moved, "grows": grows, "opens": opens, "life": life}
+PARTS = {"moved": moved, "grows": grows, "opens": opens, "large": large, "life": life}
 
 
 def main():

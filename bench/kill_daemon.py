@@ -1,14 +1,15 @@
 #!/usr/bin/env python3
 """Kills `sieved daemon` at random moments under load, and looks for what it had acknowledged.
 
-  bench/kill_daemon.py [SIEVED [COUNT]]      500 times where no COUNT is named
+  bench/kill_daemon.py [--mail] [SIEVED [COUNT]]      500 times where no COUNT is named; --mail: the daemon moves mail into Maildirs
 
 Four clients of LMTP deliver messages to two users, two clients of ManageSieve put scripts; then the daemon is killed by SIGKILL and
-started again on the same store. After each kill every message that was answered 250 stands in its user's folder, every script that
-was answered OK is there as it was put last (or as the one on its way), and a message stands there twice only where it was sent
-again. It prints how many kills came while an answer was awaited (to the dot of a text, to a script), and what was found.
+started again on the same store, two times of three at a moment when an answer is awaited. After each kill every message that was
+answered 250 stands in its user's folder or Maildir, every script that was answered OK is there as it was put last (or as the one on
+its way), and a message stands there twice only where it was sent again, or in folder and Maildir where it was on its way. It prints
+how many kills came while an answer was awaited (to the dot of a text, to a script), and what was found.
 """
-import os, random, re, shutil, socket, sqlite3, sys, tempfile, threading, time
+import os, random, re, shutil, socket, sqlite3, subprocess, sys, tempfile, threading, time
 
 HERE = os.path.dirname(os.path.abspath(__file__))
 sys.path.insert(0, f"{HERE}/../tests")
@@ -24,7 +25,7 @@ class Load:
     def __init__(self):
         self.lock = threading.Lock()
         self.sent, self.answered = {}, {}
-        self.awaited = 0
+        self.awaited = self.kills = 0
         self.puts = {at: [] for at in range(UPLOADERS)}
         self.stored = {at: -1 for at in range(UPLOADERS)}
 
@@ -118,30 +119,57 @@ def rows(file):
         return found, scripts
 
 
-def check(file, load):
+def moved(room, seen):
+    """How often each message stands in the Maildirs, those that were looked at before among them."""
+    for user in USERS:
+        folder = f"{room}/{user}/new"
+        for name in os.listdir(folder) if os.path.isdir(folder) else []:
+            if (user, name) not in seen:
+                with open(f"{folder}/{name}", "rb") as file:
+                    token = re.search(rb"Message-ID: <([0-9a-f]{16})@", file.read(400))
+                seen[user, name] = token[1].decode(), user
+    counts = {}
+    for key in seen.values():
+        counts[key] = counts.get(key, 0) + 1
+    return counts
+
+
+def check(file, load, mail, seen):
+    """What was acknowledged is there, and nothing more often than it may be; answers how many messages were on their way."""
     found, scripts = rows(file)
+    there = moved(mail, seen) if mail else {}
     for key in load.answered:
-        if not found.get(key):
+        if not found.get(key) and not there.get(key):
             sys.exit(f"a message that was answered 250 is gone: {key}")
-    for key, count in found.items():
-        if count > load.sent.get(key, 0):
-            sys.exit(f"a message is there {count} times: {key}")
+    both = 0
+    for key in {*found, *there}:
+        count, spare = found.get(key, 0) + there.get(key, 0), load.sent.get(key, 0)
+        if count > spare:
+            both += count - spare
+    if both > load.kills:
+        sys.exit(f"{both} messages are there once more than they were sent, after {load.kills} kills")
     for at in range(UPLOADERS):
         text = scripts.get(USERS[at], b"# -1")
         number = int(re.match(rb"# (-?\d+)", text)[1])
         if not load.stored[at] <= number < max(len(load.puts[at]), 1):
             sys.exit(f"the script of {USERS[at]} is {number}, and {load.stored[at]} was answered OK")
+    return both
 
 
 def main(words):
+    moves = "--mail" in words
+    words = [word for word in words if word != "--mail"]
     program = words[0] if words else managesieve.SIEVED
     count = int(words[1]) if words[1:] else 500
     store = managesieve.Store(USERS, sieved=os.path.abspath(program))
-    load, waiting = Load(), 0
-    import subprocess
-    for _ in range(count):
+    load, waiting, seen, both = Load(), 0, {}, 0
+    mail = f"{os.path.dirname(store.file)}/mail" if moves else None
+    for user in USERS if moves else []:
+        for part in "tmp", "new", "cur":
+            os.makedirs(f"{mail}/{user}/{part}")
+    for at in range(count):
         lmtp, sieve = free_port(), free_port()
-        words = store.words("daemon", "--managesieve", str(sieve), "--lmtp", str(lmtp), "--quiet")
+        words = store.words("daemon", "--managesieve", str(sieve), "--lmtp", str(lmtp), "--quiet", *(["--mail", mail] if moves else []))
         process = subprocess.Popen(words, stdin=subprocess.DEVNULL, stdout=subprocess.DEVNULL, stderr=subprocess.DEVNULL)
         wait_for(lmtp), wait_for(sieve)
         load.awaited = 0
@@ -149,13 +177,18 @@ def main(words):
         for client in clients:
             client.start()
         time.sleep(random.uniform(0.02, 0.3))
+        until = time.monotonic() + (0.2 if at % 3 else 0)
+        while load.awaited <= 0 and time.monotonic() < until:
+            time.sleep(0.0005)
         waiting += load.awaited > 0
+        load.kills += 1
         process.kill()
         process.wait()
         for client in clients:
             client.join()
-        check(store.file, load)
-    print(f"{count} kills, {waiting} of them while an answer was awaited: each of {len(load.answered):,} messages that were answered 250 is there, and each of {sum(load.stored.values()):,} scripts", flush=True)
+        both = check(store.file, load, mail, seen)
+    print(f"{count} kills, {waiting} of them while an answer was awaited: each of {len(load.answered):,} messages that were answered 250 is there, "
+          f"and each of {sum(load.stored.values()):,} scripts; {both} messages once more than they were sent, on their way into a Maildir", flush=True)
 
 
 if __name__ == "__main__":

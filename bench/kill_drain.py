@@ -1,5 +1,5 @@
 #!/usr/bin/env python3
-"""Kills `sieved drain` at moments of chance, and lets its disk run full: is any message lost, cut or doubled?
+"""Kills `sieved drain` at random moments, and lets its disk run full: is any message lost, cut or doubled?
 
   bench/kill_drain.py [--sieved SIEVED] [TRIAL ..]       SIEVED: the program, crates/sieved/out/sieved where none is named
 

@@ -70,6 +70,7 @@ def row(sieved, rows):
                     os.remove(f"{folder}/{name}")
 
         figures.append(least(store.words("done", "alice", "1"), again) - opening)
+        figures, most = [max(0.0, it) for it in figures], [max(0.0, it) for it in most]
         print(f"| {rows:,} | {opening:.1f} | {figures[0]:.1f} | {figures[1]:.1f} | {figures[2]:.1f} | {base:.1f} | {most[0]:.1f} | {most[1]:.1f} |", flush=True)
 
 

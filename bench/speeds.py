@@ -11,17 +11,28 @@ import os, subprocess, sys, tempfile
 HERE = os.path.dirname(os.path.abspath(__file__))
 ROOT = os.path.dirname(HERE)
 LINE = "speeds: octets mailhead encwords addrparts collation globmatch sievesyntax msproto saslplain mailstore mailengine sqlite\n"
-ABOVE = ("cases", "casefiles", "textcases", "sieved", "sievedrun", "sievedwords", "mailsinks", "keepers", "reportlines")
+
+
+def below(rows, names):
+    """The crates of this repository that these stand on, with them."""
+    found = set()
+    while names:
+        name = names.pop()
+        if name in rows and name not in found:
+            found.add(name)
+            names += rows[name].split()
+    return found
 
 
 def made(folder):
     """The program's crate, beside the crates that it stands on."""
     os.makedirs(f"{folder}/crates/speeds/src", exist_ok=True)
-    for name in os.listdir(f"{ROOT}/crates"):
-        if name not in ABOVE and not os.path.exists(f"{folder}/crates/{name}"):
+    rows = dict(row.rstrip("\n").split(":", 1) for row in open(f"{ROOT}/crates.txt") if ":" in row and not row.startswith("#"))
+    needed = below(rows, LINE.split(":")[1].split())
+    for name in needed:
+        if not os.path.exists(f"{folder}/crates/{name}"):
             subprocess.run(["cp", "-al", f"{ROOT}/crates/{name}", f"{folder}/crates/{name}"], check=True)
-    rows = [row for row in open(f"{ROOT}/crates.txt") if not row.startswith(tuple(f"{name}:" for name in ABOVE))]
-    open(f"{folder}/crates.txt", "w").writelines(rows + [LINE])
+    open(f"{folder}/crates.txt", "w").writelines([f"{name}:{row}\n" for name, row in rows.items() if name in needed] + [LINE])
     for name in os.listdir(f"{HERE}/speeds"):
         text = open(f"{HERE}/speeds/{name}").read()
         open(f"{folder}/crates/speeds/src/{name.removesuffix('.txt')}", "w").write(text)

@@ -1,5 +1,5 @@
 #!/usr/bin/env python3
-"""Tries `sieved daemon` with many clients at once, with clients that are slow, silent or mean no good, with other words that use the
+"""Tries `sieved daemon` with many clients at once, with clients that are slow, silent or hostile, with other words that use the
 store beside it, and killed.
 
   tests/daemon.py [--quick] [--sieved SIEVED] [TRIAL ..]     SIEVED: the program, crates/sieved/out/sieved where none is named

@@ -1,5 +1,6 @@
 #!/usr/bin/env python3
-"""Tries the documents: every command of README as it stands, the limits of their lines, their links, and the completion for bash.
+"""Tries the documents: every command of README as it stands, the limits of their lines, their links, the form of decisions,
+the completion for bash, and that scripts can be run.
 
   tests/documents.py [--sieved SIEVED] [TRIAL ..]
 """
@@ -10,7 +11,7 @@ TOP = os.path.dirname(os.path.dirname(os.path.abspath(__file__)))
 SIEVED = f"{TOP}/crates/sieved/out/sieved"
 # A row of a table and indented code are left out; in these files a cell has no more octets than a line may have.
 WIDE = {"docs/DEFINITIONS.md": 160, "docs/DECISIONS.md": 160, "docs/CONTRIBUTING.md": 160}
-NARROW_CELLS = ["README.md", "docs/OPERATING.md"]
+NARROW_CELLS = ["README.md", "docs/OPERATING.md", "docs/VARIANTS.md", "docs/REFERENCE.md"]
 LINE, README_LINES = 130, 130
 
 
@@ -83,6 +84,16 @@ def lines():
     return f"{count} lines"
 
 
+def decisions():
+    """Each entry of DECISIONS.md has what was open, what was chosen and why."""
+    entries = re.split(r"\n(?=##+ )", "\n".join(lines_of("docs/DECISIONS.md")))[1:]
+    entries = [entry for at, entry in enumerate(entries) if entry.startswith("### ") or not "".join(entries[at + 1:at + 2]).startswith("### ")]
+    wrong = [entry.split("\n")[0] for entry in entries if [entry.count(f"*{part}:*") > 0 for part in ("Open", "Chosen", "Why")] != [True] * 3]
+    if wrong:
+        raise Exception(f"no entry: {'; '.join(wrong)}")
+    return f"{len(entries)} entries"
+
+
 def anchor(heading):
     """The name that the forge gives a heading."""
     text = re.sub(r"\[([^\]]*)\]\([^)]*\)", r"\1", heading.strip().lower())
@@ -142,7 +153,15 @@ def completion():
     return f"{len(listed)} words"
 
 
-TRIALS = {"readme": readme, "lines": lines, "links": links, "version": version, "completion": completion}
+def modes():
+    """Each file of these folders that names its interpreter can be run."""
+    files = [f"{TOP}/{folder}/{name}" for folder in ("tests", "bench", "release", ".ci") for name in sorted(os.listdir(f"{TOP}/{folder}"))]
+    scripts = [file for file in files if os.path.isfile(file) and open(file, "rb").read(2) == b"#!"]
+    assert scripts and (idle := [file for file in scripts if not os.access(file, os.X_OK)]) == [], f"not executable: {idle}"
+    return f"{len(scripts)} scripts"
+
+
+TRIALS = {"modes": modes, "readme": readme, "lines": lines, "links": links, "decisions": decisions, "version": version, "completion": completion}
 
 
 def program(path):

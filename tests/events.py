@@ -52,7 +52,8 @@ def reply_octets(mine, sender, message, vacation, moment):
 
 def octets_of(message):
     id_line = "Message-ID: " + message["id"] + "\r\n" if message["id"] else ""
-    return (f"From: {message['from']}\r\nTo: {message['to']}\r\nSubject: {message['subject']}\r\n{id_line}{message['more']}\r\n{message['text']}\r\n")
+    return (f"{message.get('before', '')}From: {message['from']}\r\nTo: {message['to']}\r\nSubject: {message['subject']}\r\n"
+            f"{id_line}{message['more']}\r\n{message['text']}\r\n")
 
 
 def deliver(acc, sender, message, moment):

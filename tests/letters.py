@@ -1,5 +1,5 @@
 #!/usr/bin/env python3
-"""Writes crates/sendcases/data/: letters.cases and mailboxes.cases.
+"""Writes crates/sendcases/data/: letters.cases, refusals.cases and mailboxes.cases.
 
 What a run does is worked out here from RFC 5321, sections 4.2, 4.3.2 and 4.5.3, over whole replies, and not from the program."""
 import os
@@ -35,7 +35,9 @@ def replies_in(stream):
 
 
 def sent(message):
-    """A message as it is sent behind DATA, and how many octets the other side has of it."""
+    """A message as it is sent behind DATA, without a first field `Return-Path` (here of one line), and how many octets the other side has."""
+    if message.startswith(b"Return-Path:"):
+        message = message.partition(b"\n")[2]
     lines = message.split(b"\n")
     last = lines.pop()
     lines = [line[:-1] if line.endswith(b"\r") else line for line in lines] + ([last] if last else [])
@@ -44,11 +46,15 @@ def sent(message):
     return b"".join((b"." if line.startswith(b".") else b"") + line + b"\r\n" for line in mended) + b".\r\n", len(text)
 
 
-def run(stream, rows, bad=()):
-    """What is noted, whether the run stopped, which rows are left, and what was written."""
+PATIENCE = 600
+
+
+def run(stream, rows, bad=(), refusals=0):
+    """What is noted, whether the run stopped, which rows are left, and what was written. So many times the queue refuses to give a row up,
+    and a second is between two tries; after ten minutes the run ends. How many seconds were waited is noted too."""
     replies = replies_in(stream)
     written, noted, left = b"", [], []
-    opened, used, offered, stopped = False, False, b"", False
+    opened, used, offered, stopped, waited = False, False, b"", False, 0
 
     def hear():
         return replies.pop(0) if replies else (0, b"")
@@ -97,8 +103,14 @@ def run(stream, rows, bad=()):
                 continue
             ending = "lost" if code == 0 else f"refused {code}" if code // 100 == 5 else f"delayed {code}" if code // 100 == 4 else f"unexpected {code}"
             break
+        if ending == "sent" and refusals > PATIENCE:
+            # Nothing is noted of it: the run ends with its name.
+            waited, stopped = waited + PATIENCE, True
+            left.append(number)
+            continue
         noted.append(f"{number} {ending}; ")
         if ending == "sent":
+            waited, refusals = waited + refusals, 0
             continue
         left.append(number)
         if ending == "lost":
@@ -112,10 +124,10 @@ def run(stream, rows, bad=()):
             if code // 100 != 2:
                 written += b"QUIT\r\n" if code else b""
                 opened = False
-    if opened:
+    if opened and not (stopped and refusals):
         written += b"QUIT\r\n"
     told = "".join(noted) + ("stopped; left" if stopped else "left") + "".join(f" {number}" for number in left) + "; "
-    return told.encode() + written
+    return told.encode() + written, waited
 
 
 def escaped(octets):
@@ -125,7 +137,13 @@ def escaped(octets):
 
 def row(stream, rows, bad=()):
     cells = [escaped(stream)] + [escaped(cell) for each in rows for cell in each]
-    return "\t".join(cells + [escaped(run(stream, rows, bad))]) + "\n"
+    return "\t".join(cells + [escaped(run(stream, rows, bad)[0])]) + "\n"
+
+
+def refused(refusals, stream, rows):
+    cells = [str(refusals), escaped(stream)] + [escaped(cell) for each in rows for cell in each]
+    told, waited = run(stream, rows, refusals=refusals)
+    return "\t".join(cells + [escaped(told + b"; %d" % waited)]) + "\n"
 
 
 def letters():
@@ -154,6 +172,20 @@ def letters():
     bad = (b"a", b"a@b>", b"a b@c", b"a@b\r\nDATA")
     for each in bad:
         yield row(GREETING + HELLO + b"".join(TAKEN) + BYE, [(each, b"c@d", b"x\n"), (b"a@b", each, b"x\n")] + one, bad)
+    yield "# a reply, as `vacation` makes one (RFC 5230, section 5); a message that is sent on, which somebody's server will send back; and a bounce that is\n"
+    reply = b"From: <bob@example.org>\r\nTo: <dora@example.com>\r\nSubject: Auto: Hi\r\nAuto-Submitted: auto-replied\r\nIn-Reply-To: <1@example.com>\r\n\r\nAway"
+    bounce = b"Return-Path: <>\r\nFrom: MAILER-DAEMON@example.net\r\nTo: alice@example.org\r\nContent-Type: multipart/report; boundary=b\r\n\r\n--b\r\n.\r\n--b--\r\n"
+    yield row(whole, [(b"", b"dora@example.com", reply)])
+    yield row(GREETING + HELLO + b"".join(TAKEN) * 2 + BYE, [(b"", b"carol@example.net", bounce), (b"dora@example.com", b"carol@example.net", b"Return-Path: <dora@example.com>\n\n")])
+    yield "# a local part of 100 octets, a domain of 1,000, at either end; neither is cut\n"
+    for each in (b"a" * 100 + b"@b", b"a@" + b".".join([b"d" * 63] * 16)):
+        yield row(whole, [(each, b"c@d", b"x\n")])
+        yield row(whole, [(b"a@b", each, b"x\n")])
+    yield "# replies of several lines at each step\n"
+    many = [b"220-s\r\n220 there\r\n", HELLO] + [reply[:3] + b"-one\r\n" + reply[:3] + b"-\r\n" + reply for reply in TAKEN]
+    yield row(b"".join(many) + BYE, one)
+    for count in range(0, len(b"".join(many)), 3):
+        yield row(b"".join(many)[:count], one)
     draw = random.Random(37)
     yield "# messages of line ends, dots, NUL and others\n"
     for _ in range(200):
@@ -163,6 +195,16 @@ def letters():
     both = GREETING + HELLO + b"".join(TAKEN) * 2 + BYE
     for count in range(len(both) + 1):
         yield row(both[:count], two)
+
+
+def refusals():
+    """The store refuses right behind the 250: so many times, up to ten minutes."""
+    one = [(b"a@b", b"c@d", b"x\n")]
+    three = one + [(b"", b"g@h", b"y\n")] * 2
+    whole = GREETING + HELLO + b"".join(TAKEN) * 3 + BYE
+    for count in (0, 1, 2, 59, 599, 600, 601, 602, 5_000):
+        yield refused(count, GREETING + HELLO + b"".join(TAKEN) + BYE, one)
+        yield refused(count, whole, three)
 
 
 def boxes():
@@ -176,6 +218,9 @@ def boxes():
 with open(os.path.join(HOME, "letters.cases"), "w", encoding="ascii") as out:
     out.write("# written by tests/letters.py\n")
     out.writelines(letters())
+with open(os.path.join(HOME, "refusals.cases"), "w", encoding="ascii") as out:
+    out.write("# written by tests/letters.py\n")
+    out.writelines(refusals())
 with open(os.path.join(HOME, "mailboxes.cases"), "w", encoding="ascii") as out:
     out.write("# written by tests/letters.py\n")
     out.writelines(boxes())

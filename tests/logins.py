@@ -1,5 +1,5 @@
 #!/usr/bin/env python3
-"""Times failed logins by names that have an account and by names that have none: the time of an answer doesn't tell which is which.
+"""Times failed logins by names that have an account and by names that have none, or had one: the time of an answer doesn't tell which is which.
 
   tests/logins.py [--sieved SIEVED] [TRIAL ..]       SIEVED: the program, crates/sieved/out/sieved where none is named
 
@@ -15,7 +15,8 @@ import trials
 from managesieve import SIEVED, Store, connect, end
 
 KNOWN = ["alice", "bob", "carol-of-accounts", "d"]
-UNKNOWN = ["alicf", "bot", "carol-of-account5", "e"]
+UNKNOWN = ["alicf", "bot", "carol-of-account5", "gone"]
+REMOVED = "gone"
 LOGINS = 50
 ROUNDS = 5
 
@@ -96,5 +97,13 @@ TRIALS = {"serve": serve, "session": session}
 
 PROGRAM = [SIEVED]
 
+
+def a_store():
+    """A store with the known names, and with one whose account was removed."""
+    store = Store([*KNOWN, REMOVED], PROGRAM[0])
+    store.run("remove", REMOVED)
+    return store
+
+
 if __name__ == "__main__":
-    trials.main({name: lambda trial=trial: trial(Store(KNOWN, PROGRAM[0])) for name, trial in TRIALS.items()}, lambda program: PROGRAM.__setitem__(0, program))
+    trials.main({name: lambda trial=trial: trial(a_store()) for name, trial in TRIALS.items()}, lambda program: PROGRAM.__setitem__(0, program))

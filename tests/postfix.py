@@ -5,7 +5,7 @@
 
 Prints a line for each trial, a last one that counts them, and ends with 1 where one failed. `tests/run` runs it. It needs root and
 Debian's postfix, awk and flock, else its trials are left out. Postfix's files are in a folder that goes with the trial, its ports on the
-loopback address; the transport is the line of docs/OPERATING.md.
+loopback address; the transport is the line of docs/VARIANTS.md.
 """
 import base64, os, pwd, random, re, shutil, socket, socketserver, subprocess, tempfile, threading, time
 import mailboxes, managesieve, trials
@@ -107,7 +107,7 @@ def path(line):
 
 
 def page():
-    with open(f"{DOCS}/OPERATING.md") as file:
+    with open(f"{DOCS}/VARIANTS.md") as file:
         return file.read()
 
 
@@ -143,7 +143,7 @@ class Host:
         wait_for(lambda: self.greets(), "a greeting")
 
     def transport(self):
-        """The first line of docs/OPERATING.md that makes the transport, over the files of this host."""
+        """The first line of docs/VARIANTS.md that makes the transport, over the files of this host."""
         return re.search(r"-M 'sieved/unix=(sieved unix .*)'", self.ours(page()))[1]
 
     def ours(self, text):

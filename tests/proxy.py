@@ -46,6 +46,20 @@ class Session(socketserver.BaseRequestHandler):
         subprocess.run(self.server.command, stdin=self.request, stdout=self.request, stderr=subprocess.DEVNULL)
 
 
+class Daemon:
+    """The program as `daemon`, which serves all clients of a store."""
+
+    def __init__(self, program, file):
+        self.command = [program, "daemon", "--db", file, "--managesieve", "0"]
+        self.process = subprocess.Popen(self.command, stdout=subprocess.PIPE, stderr=subprocess.DEVNULL)
+        self.port = int(self.process.stdout.readline().rsplit(b":", 1)[1])
+
+    def stop(self):
+        self.process.kill()
+        self.process.wait()
+        self.process.stdout.close()
+
+
 def block(begin, end):
     """The indented lines of the page from one that begins so to the last one before a line of text that begins so."""
     with open(OPERATING) as file:
@@ -79,16 +93,17 @@ class Host:
         """A text of the page over the files of this host."""
         return text.replace("/etc/dovecot/", f"{self.room}/").replace("/var/lib/sieved/", f"{self.room}/var/")
 
-    def make_store(self, name):
+    def make_store(self, name, kind=Backend):
         file = f"{self.room}/var/{name}.db"
         subprocess.run([scripts.PROGRAM[0], "init", "--db", file], check=True, capture_output=True)
-        return Backend(scripts.PROGRAM[0], file)
+        return kind(scripts.PROGRAM[0], file)
 
     def add_user(self, user, backend, password):
-        """By the page's lines for alice."""
-        lines = self.ours(block("secret=$(openssl", "- **sieved's own passwords")).replace("runuser -u sieved -- sieved", scripts.PROGRAM[0])
-        lines = lines.replace("alice", user).replace("port=4191", f"port={backend.port}").replace(f"{self.room}/var/mail.db", backend.command[3])
-        subprocess.run(["sh", "-e", "-c", lines], env={**os.environ, "PASSWORD": password}, check=True, capture_output=True)
+        """By the page's lines."""
+        lines = self.ours(block("touch /etc/dovecot/users.imap", "A user has") + block("secret=$(openssl", "Nothing has to be restarted"))
+        lines = lines[:lines.index("printf '%s lmtp:")].rstrip().removesuffix("&&").replace("runuser -u sieved -- sieved", scripts.PROGRAM[0])
+        lines = lines.replace("port=4191", f"port={backend.port}").replace(f"{self.room}/var/mail.db", backend.command[3])
+        subprocess.run(["sh", "-e", "-c", lines], env={**os.environ, "PASSWORD": password, "user": user}, check=True, capture_output=True)
         with open(f"{self.room}/users.sieve") as file:
             return file.read().rsplit("pass=", 1)[1].strip()
 
@@ -184,6 +199,34 @@ def two_stores():
     return "each user reaches the store of the own line"
 
 
+def over_the_daemon():
+    """Twenty users behind the proxy at once, each over TLS, with a daemon behind it; wrong passwords wait at Dovecot and hold nobody up."""
+    with a_host() as host:
+        second = host.make_store("two", Daemon)
+        try:
+            users = [f"u{n}" for n in range(20)]
+            for user in users:
+                host.add_user(user, second, "human")
+            clients = [host.secured() for _ in users]
+            guesser = host.secured()
+            guesser.send(b'AUTHENTICATE "PLAIN" "' + base64.b64encode(b"\0u0\0wrong") + b'"\r\n')
+            for user, client in zip(users, clients):
+                assert log_in(client, user, "human").startswith(b"OK"), user
+                assert client.put(b"m", b"# %s\r\nkeep;" % user.encode()).startswith(b"OK")
+            assert guesser.reply()[-1].startswith(b"NO")
+            times = []
+            for _ in range(20):
+                for user, client in zip(users, clients):
+                    began = time.time()
+                    assert client.get(b"m") == b"# %s\r\nkeep;" % user.encode()
+                    times.append(time.time() - began)
+            for client in clients:
+                assert client.ask(b"LOGOUT")[-1].startswith(b"OK")
+        finally:
+            second.stop()
+    return f"{len(users)} users, each over TLS, read their own scripts; a round trip takes {1000 * sorted(times)[len(times) // 2]:.1f} ms"
+
+
 def folders():
     """Each folder that the script makes is listed and subscribed, under the name that its user means."""
     trials.need("flock")
@@ -249,7 +292,7 @@ def name_of(line):
     return re.sub(r"\\(.)", r"\1", name[1:-1]) if name.startswith('"') else name
 
 
-TRIALS = {trial.__name__: trial for trial in (log_ins, two_stores, folders, other_disk)}
+TRIALS = {trial.__name__: trial for trial in (log_ins, two_stores, over_the_daemon, folders, other_disk)}
 
 if __name__ == "__main__":
     trials.main(TRIALS, lambda program: scripts.PROGRAM.__setitem__(0, program))

@@ -339,7 +339,7 @@ def queue_by_hand():
 # drain
 
 
-FOLDERS = {  # as `.` and `/` have them: the rules of docs/OPERATING.md, worked out by hand
+FOLDERS = {  # as `.` and `/` have them: the rules of docs/REFERENCE.md, worked out by hand
     "INBOX": ("", ""), "Sent Items": (".Sent Items", ".Sent Items"), "work/x": (".work\\2fx", ".work.x"),
     "INBOX.Junk": (".INBOX.Junk", ".INBOX\\2eJunk"), "Größe": (".Gr&APYA3w-e", ".Gr&APYA3w-e"), " lists": (". lists", ". lists"),
     "trail ": (".trail ", ".trail "), "a 1 b 1": (".a 1 b 1", ".a 1 b 1"), "-n": (".-n", ".-n"), "a\\b": (".a\\5cb", ".a\\5cb"), "R&D": (".R&-D", ".R&-D"),
@@ -598,7 +598,7 @@ def restore_keeps_the_old():
     trials.need_root()
     trials.need("flock", "sqlite3")
     with open(f"{DOCS}/OPERATING.md") as file:
-        section = file.read().split("\n## Backup and restore\n")[1].split("\n## ")[0]
+        section = file.read().split("\n## Back up and restore\n")[1].split("\n## ")[0]
     host = Host("alice", "bob")
     ours = re.sub(r"runuser -u sieved -- (sieved )?", lambda found: f"'{host.sieved}' " if found[1] else "", section)
     for given, own in (("/var/lib/sieved", host.room), ("/var/backups/sieved", f"{host.room}/backups"), (" -o sieved -g sieved", ""), ("systemctl ", ": "),

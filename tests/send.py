@@ -5,10 +5,11 @@ strange octets and addresses, and killed.
   tests/send.py [--quick] [--sieved SIEVED] [TRIAL ..]     SIEVED: the program, crates/sieved/out/sieved where none is named
 
 Prints a line for each trial, a last one that counts them, and ends with 1 where one failed. `tests/run` runs it, with --quick, which
-does a tenth of what is done many times. It needs python3 alone.
+does a tenth of what is done many times. It needs python3; `postfix` needs root and Debian's postfix, `dovecot` root and Debian's
+dovecot-submissiond, else these trials are left out.
 """
-import fcntl, os, random, re, shutil, socket, sqlite3, subprocess, threading, time
-import trials
+import fcntl, os, random, re, shutil, socket, sqlite3, subprocess, tempfile, threading, time
+import smtpservers, trials
 from managesieve import HERE, SIEVED, Store
 
 PROGRAM = [SIEVED]
@@ -241,6 +242,31 @@ def busy():
     return "the store was had again 1.5 s behind the 250"
 
 
+def refusing():
+    """The store refuses right behind the 250, since its file is away: it is asked again, and the row leaves and isn't sent twice."""
+    house = House()
+    file = house.store.file
+    house.deliver("alice")
+
+    def move(there, here):
+        for end in "", "-wal":
+            if os.path.exists(f"{file}{end}{there}"):
+                os.rename(f"{file}{end}{there}", f"{file}{end}{here}")
+
+    def take():
+        move("", ".away")
+        threading.Timer(3, lambda: move(".away", "")).start()
+
+    server = Server(before_dot=take)
+    began = time.monotonic()
+    status, lines, errors = house.send(server.place)
+    took = time.monotonic() - began
+    assert (status, lines) == (0, ["sent alice 1", "sent 1, wait 0"]) and len(server.taken) == 1, (status, lines, errors)
+    assert not house.queue("alice") and took > 2, took
+    server.stop()
+    return f"the row left {took:.1f} s later, and went once"
+
+
 def mended(message):
     """What arrives of a message: by lines that end at LF, a CR before it apart; a CR elsewhere a space, or `?` at a line's front."""
     if not message:
@@ -371,7 +397,59 @@ def killed():
     return f"{kills} kills: each of {rows} rows arrived, {len(found) - rows} twice"
 
 
-TRIALS = {"sends": sends, "replies": replies, "pieces": pieces, "lost": lost, "busy": busy, "octets": octets, "addresses": addresses, "waits": waits, "most": most, "killed": killed}
+def rows_of(house, count):
+    """Rows of line ends, dots and NUL, each with a Message-ID, and what is to arrive of each."""
+    random.seed(11)
+    found = []
+    for number in range(count):
+        text = b"From: <a@example.org>\r\nTo: <b@example.net>\r\nMessage-ID: <%d@example.org>\r\n\r\n" % number
+        text += bytes(random.choice(b"\r\n\r\n..ax ") for _ in range(random.randint(0, 60))) + b"\r\nend"
+        house.put("alice", b"alice@example.org", b"carol@example.net", text)
+        found.append(mended(text))
+    return found
+
+
+def postfix():
+    """A real Postfix takes each row once."""
+    trials.need_root()
+    trials.need("postfix")
+    house, count = House(), trials.some(200)
+    rows_of(house, count)
+    with tempfile.TemporaryDirectory() as room:
+        server = smtpservers.Postfix(room)
+        try:
+            status, lines, errors = house.send(server.place, seconds=200)
+            assert (status, lines[-1]) == (0, f"sent {count}, wait 0"), (status, lines[-2:], errors)
+            came = server.arrived(count)
+        finally:
+            server.stop()
+    assert came == count and not house.queue("alice"), (came, house.queue("alice"))
+    return f"{count} rows, each once"
+
+
+def dovecot():
+    """Dovecot's submission service hands each row on as it stands; its own port asks for a login, and then the rows wait."""
+    trials.need_root()
+    if not os.path.exists("/usr/lib/dovecot/submission"):
+        raise trials.LeftOut("no dovecot-submissiond")
+    house, count = House(), trials.some(200)
+    wanted = rows_of(house, count)
+    with tempfile.TemporaryDirectory() as room:
+        server = smtpservers.Dovecot(room)
+        try:
+            status, lines, errors = house.send(f"127.0.0.1:{server.port}", "--most", "1")
+            assert (status, lines) == (0, ["waits alice 1: refused with 530", "sent 0, wait 1"]), (status, lines, errors)
+            house.forget()
+            status, lines, errors = house.send(server.place, seconds=200)
+            assert (status, lines[-1]) == (0, f"sent {count}, wait 0"), (status, lines[-2:], errors)
+            came = list(server.sink.texts)
+        finally:
+            server.stop()
+    assert len(came) == count and all(got.endswith(text) for got, text in zip(came, wanted)), len(came)
+    return f"{count} rows, each once and as it stands; without a login 530"
+
+
+TRIALS = {"sends": sends, "replies": replies, "pieces": pieces, "lost": lost, "busy": busy, "refusing": refusing, "octets": octets, "addresses": addresses, "waits": waits, "most": most, "killed": killed, "postfix": postfix, "dovecot": dovecot}
 
 
 def program(path):
