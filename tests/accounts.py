@@ -6,13 +6,14 @@
 The words are run with --wait beside `sieved daemon`, which has the store. Prints a line for each trial, a last one that counts them, and
 ends with 1 where one failed. `tests/run` runs it. It needs python3 alone.
 """
-import base64, sqlite3, subprocess
+import base64, sqlite3, subprocess, sys
 import trials
 from managesieve import SIEVED, Store, connect, end
 
 PROGRAM = [SIEVED]
 LISTED, LOG_IN = [b'"m"\r\n', b"OK\r\n"], [b'NO "Log in first."\r\n']
 AWAY = b'require "vacation"; vacation "Away.";'
+CLOSE = "import sqlite3, sys; base = sqlite3.connect(sys.argv[1]); base.execute('UPDATE account SET rounds = 0'); base.commit(); base.close()"
 
 
 class Host:
@@ -31,6 +32,11 @@ class Host:
     def word(self, word, *more, data=b""):
         done = subprocess.run([*self.store.words(word, "--wait"), *more], input=data, capture_output=True)
         return done.returncode, done.stdout.decode() + done.stderr.decode()
+
+    def close_all(self):
+        """Closes all accounts in the tables, as a move to another machine does, while the daemon serves."""
+        waits = [part for name in ("wait", "lock") for part in ("flock", f"{self.store.file}.{name}")]
+        subprocess.run([*waits, sys.executable, "-c", CLOSE, self.store.file], check=True)
 
     def client(self, user, password=b"secret"):
         client = connect(self.port)
@@ -104,7 +110,30 @@ def removal():
     return "the open session is logged out; the new account has nothing, and answers nobody twice"
 
 
-TRIALS = {trial.__name__: trial for trial in (password, salts, address, removal)}
+def closed():
+    """What is asked of a closed account is answered as of an unknown one, its mail may come again, and `open` gives it back as it was."""
+    trials.need("flock")
+    with Host("alice") as host:
+        client = host.client("alice")
+        assert client.put(b"m", b"keep;").startswith(b"OK")
+        assert host.deliver("alice", "bob@example.net", "alice@example.org") == (0, "file INBOX\n")
+        host.close_all()
+        assert client.ask(b"NOOP") == [b'OK "Done."\r\n']
+        assert client.ask(b'GETSCRIPT "m"') == LOG_IN and client.ask(b"UNAUTHENTICATE") == LOG_IN
+        assert host.client("alice").said == b'NO "Authentication failed."\r\n'
+        assert host.deliver("alice", "bob@example.net", "alice@example.org") == (75, "sieved: account is closed\n")
+        for word, *more in ("folders",), ("show", "INBOX", "1"), ("queue",), ("notices",), ("passwd",), ("address", "a@example.org"):
+            assert host.word(word, "alice", *more, data=b"x\n") == (67, "sieved: no such user\n"), word
+        assert host.word("open", "alice") == (0, "opened alice\n")
+        assert host.word("open", "alice") == (65, "sieved: user is open\n")
+        assert client.ask(b"LISTSCRIPTS") == LOG_IN, "the session was logged out"
+        assert host.client("alice").ask(b"LISTSCRIPTS") == LISTED
+        assert host.word("folders", "alice") == (0, "INBOX 1\n")
+        assert host.deliver("alice", "bob@example.net", "alice@example.org") == (0, "file INBOX\n")
+    return "mail waits while it is closed; nothing is gone once it is open"
+
+
+TRIALS = {trial.__name__: trial for trial in (password, salts, address, closed, removal)}
 
 if __name__ == "__main__":
     trials.main(TRIALS, lambda program: PROGRAM.__setitem__(0, program))

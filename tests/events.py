@@ -1,8 +1,9 @@
 #!/usr/bin/env python3
 """Writes crates/cases/data/events.cases: 300 events of three users and five sessions, then each user's events alone in a world of its own.
 
-What is wanted comes from the model below, which is written from RFC 5804, RFC 5228 and RFC 5230 and knows nothing of the program: scripts stand
-in it by what they mean, messages by their fields. It also asserts that each user's answers and possessions are the same alone.
+What is wanted comes from the model below, which is written from RFC 5804, RFC 5228 and RFC 5230, and for what an administrator does from
+docs/DEFINITIONS.md. It knows nothing of the program: scripts stand in it by what they mean, messages by their fields. It also asserts that
+each user's answers and possessions are the same alone.
 
     python3 tests/events.py > crates/cases/data/events.cases
 """
@@ -31,11 +32,18 @@ SCRIPTS = {
     "none": ('discard;', lambda m: ([], [], None)),
     "twice": ('require "vacation"; vacation "a"; vacation "b";', lambda m: "vacation executed twice"),
 }
+KEEPING = ["password", "address", "store", "storeactive", "closeaccount", "openaccount", "remove", "removemail", "takenotices"]
 WRONG = {'fileinto "x";': "line 1: extension not required", 'keep;\r\nfrob;': "line 2: unknown command"}
 
 
 def account(user):
-    return {"address": user + "@example.org", "scripts": {}, "active": None, "folders": {}, "queue": [], "ids": 1, "notices": [], "kept": {}}
+    return {"address": user + "@example.org", "password": PASSWORDS[user], "state": "open", "scripts": {}, "active": None, "folders": {},
+            "queue": [], "ids": 1, "notices": [], "kept": {}}
+
+
+def emptied(acc):
+    """What a removed account still has: its address, the moments of its replies, and its numbers."""
+    return {**acc, "password": None, "scripts": {}, "active": None, "folders": {}, "queue": [], "notices": []}
 
 
 def reply_octets(mine, sender, message, vacation, moment):
@@ -85,7 +93,7 @@ def answer(acc, sender, message, vacation, moment):
     key = (("named", handle) if handle else (subject, reason), sender.lower())
     kept = acc["kept"].get(key)
     quiet = 1 if not sender else 3 if sender.startswith("owner-") else 4 if sender.lower() == acc["address"] else \
-        7 if "Precedence: bulk" in message["more"] else 8 if acc["address"] not in message["to"] else \
+        7 if "Precedence: bulk" in message["more"] else 8 if acc["address"] not in message["to"].split(", ") else \
         9 if kept is not None and moment < kept + days * DAY else 0
     if quiet:
         return f"vacation quiet {quiet}"
@@ -94,6 +102,38 @@ def answer(acc, sender, message, vacation, moment):
     acc["queue"].append((acc["ids"], "reply", "", sender, len(octets)))
     acc["ids"] += 1
     return "vacation sent"
+
+
+def keep(acc, kind, *rest):
+    """What an administrator does to an account: each word's row in docs/DEFINITIONS.md."""
+    if kind == "password" and not rest[0] or kind == "address" and "@" not in rest[0]:
+        return ["refused: bad user"]
+    if kind in ("store", "storeactive") and rest[0] == "":
+        return ["refused: bad script name"]
+    if acc is None or acc["state"] == "removed" or acc["state"] == "closed" and kind not in ("openaccount", "remove", "removemail"):
+        return ["refused: no such user"]
+    if kind in ("store", "storeactive"):
+        name, script = rest
+        if script in WRONG:
+            return ["invalid"]
+        acc["scripts"][name], acc["active"] = script, name if kind == "storeactive" else acc["active"]
+        return ["stored"]
+    if kind in ("remove", "removemail"):
+        if kind == "remove" and (acc["folders"] or acc["queue"]):
+            return ["refused: user has mail"]
+        acc.update({**emptied(acc), "state": "removed"})
+        return ["removed"]
+    if kind == "takenotices":
+        acc["notices"] = [notice for notice in acc["notices"] if notice[0] > rest[0]]
+        return ["notices taken"]
+    if kind in ("closeaccount", "openaccount"):
+        wanted = "closed" if kind == "closeaccount" else "open"
+        if acc["state"] == wanted:
+            return ["refused: user is open"]
+        acc["state"] = wanted
+        return [{"closed": "closed", "open": "opened"}[wanted]]
+    acc[kind] = rest[0]
+    return ["changed"]
 
 
 def sent(lines):
@@ -125,14 +165,15 @@ class Model:
                 return sent(CAPABILITIES + ["OK"])
             return getattr(self, kind)(number, *rest[1:])
         user = rest[0]
+        acc = self.accounts.get(user)
         if kind == "adduser":
-            if user in self.accounts:
-                return ["refused: user exists"]
-            self.accounts[user] = account(user)
-            return ["added"]
-        if user not in self.accounts:
+            return self.add(user, acc)
+        if kind in KEEPING:
+            return keep(acc, kind, *rest[1:])
+        if acc is None or acc["state"] == "removed" or acc["state"] == "closed" and kind != "deliver":
             return ["refused: no such user"]
-        acc = self.accounts[user]
+        if acc["state"] == "closed":
+            return ["refused: account is closed"]
         if kind == "deliver":
             return deliver(acc, *rest[1:])
         for row in acc["queue"]:
@@ -140,6 +181,16 @@ class Model:
                 acc["queue"].remove(row)
                 return [f"taken {row[0]} {row[3]}"]
         return ["refused: no such row"]
+
+    def add(self, user, acc):
+        """A new account, over what one that is closed keeps."""
+        if acc and acc["state"] == "open":
+            return ["refused: user exists"]
+        if acc and (acc["folders"] or acc["queue"]):
+            return ["refused: user has mail"]
+        kept = {name: acc[name] for name in ("kept", "ids")} if acc else {}
+        self.accounts[user] = {**account(user), **kept}
+        return ["added"]
 
     def give(self, number, octets, ended):
         session = self.sessions[number]
@@ -180,7 +231,8 @@ class Model:
 
     def login(self, session, text):
         user, word = text
-        if PASSWORDS.get(user) == word and user in self.accounts:
+        acc = self.accounts.get(user)
+        if acc and acc["state"] == "open" and acc["password"] == word:
             session.user, session.failures = user, 0
             return ['OK "Logged in."']
         session.failures += 1
@@ -213,6 +265,9 @@ class Model:
         if word == "unauthenticate":
             session.user, session.failures = None, 0
             return ['OK "Done."']
+        if word != "checkscript" and self.accounts[session.user]["state"] != "open":
+            session.user = None
+            return ['NO "Log in first."']
         return self.script_command(self.accounts[session.user], word, *args)
 
     def script_command(self, acc, word, *args):
@@ -335,11 +390,25 @@ def chosen_event(rng, streams, clock):
         return ("giveup", number)
     if dice < 0.73:
         return (rng.choice(["open", "open", "close"]), number)
-    if dice < 0.94:
+    if dice < 0.90:
         clock[0] += rng.choice([1, 1, 3600, DAY, 2 * DAY, -3600])
         sender = rng.choice(["bob@example.net"] * 6 + ["BOB@example.net", "dana@example.net", "", "owner-x@example.net", user + "@example.org"])
         return ("deliver", user, sender, chosen_message(rng, user), clock[0])
-    return ("adduser", rng.choice(["wes", "wes", user])) if dice < 0.96 else ("takeout", user, rng.randrange(1, 6))
+    if dice < 0.96:
+        return chosen_keeping(rng, user, clock[0])
+    return ("adduser", user) if dice < 0.985 else ("takeout", user, rng.randrange(1, 6))
+
+
+def chosen_keeping(rng, user, moment):
+    """What an administrator does: an account is opened more often than it is closed or removed."""
+    kind = rng.choice(["password", "address", "store", "storeactive", "takenotices", "closeaccount", "remove", "removemail"] + ["storeactive", "openaccount"] * 2)
+    if kind == "password":
+        return (kind, user, rng.choice([PASSWORDS[user]] * 3 + ["another", ""]))
+    if kind == "address":
+        return (kind, user, rng.choice([f"{user}@example.org"] * 2 + ["c@example.org", "other@example.org", "nobody"]))
+    if kind in ("store", "storeactive"):
+        return (kind, user, rng.choice(["a", "main", "main", ""]), rng.choice([*SCRIPTS, *WRONG]))
+    return (kind, user, moment - rng.choice([0, DAY])) if kind == "takenotices" else (kind, user)
 
 
 def events_of(seed):
@@ -377,13 +446,19 @@ def section(event, state):
         lines += f"== moment\n{event[4]}\n" if state.get("moment") != event[4] else ""
         state.update({"from": event[2], "moment": event[4]})
         return lines + f"== deliver {who}\n{octets_of(event[3]).replace(RECEIVED, '%{Received: x%0A*101}').replace(chr(13), '')}\n"
+    if kind in ("password", "address"):
+        return f"== {kind} {who}\n{event[2]}\n"
+    if kind in ("store", "storeactive"):
+        return f"== {kind} {who} {event[2]}".rstrip() + f"\n{SCRIPTS[event[3]][0] if event[3] in SCRIPTS else event[3].replace(chr(13), '')}"
     if kind == "adduser":
         return f"== adduser {who}\n{who}@example.org\n{PASSWORDS[who]}\n"
     return f"== {kind} {' '.join(map(str, event[1:]))}\n"
 
 
 def possessions(user, acc):
-    """What a user has: the questions, and their answers."""
+    """What a user has: the questions, and their answers. Of one who isn't open nothing is told."""
+    if acc["state"] != "open":
+        return "".join(f"== {word} {user}\n" for word in ("scripts", "folders", "queue", "notices")), ["refused: no such user"] * 4
     asked = [f"== scripts {user}\n"] + [f"== text {user} {name}\n" for name in sorted(acc["scripts"])]
     lines = sorted(acc["scripts"]) + ["text " + SCRIPTS[acc["scripts"][name]][0] for name in sorted(acc["scripts"])]
     asked.append(f"== folders {user}\n")
@@ -418,7 +493,7 @@ def world(note, events, users):
 
 def main():
     print(HEAD)
-    events = events_of(1698)
+    events = events_of(4983)
     users = ["uma", "vic", "wes"]
     model, answers = world("all events", events, users)
     for user in users:

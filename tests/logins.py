@@ -1,5 +1,6 @@
 #!/usr/bin/env python3
-"""Times failed logins by names that have an account and by names that have none, or had one: the time of an answer doesn't tell which is which.
+"""Times failed logins by names that have an account and by names that have none, or had one, or whose account is closed: the time of an
+answer doesn't tell which is which.
 
   tests/logins.py [--sieved SIEVED] [TRIAL ..]       SIEVED: the program, crates/sieved/out/sieved where none is named
 
@@ -10,13 +11,13 @@ work on the machine makes a client wait and takes the processor's caches, by cha
 one has to hold. A digest that isn't made is a third of a login, in each round. Prints a line for each trial, a last one that counts them,
 and ends with 1 where one failed. `tests/run` runs it. It needs python3 and Linux (/proc/PID/schedstat), and takes some seconds.
 """
-import base64, os, statistics, time
+import base64, os, sqlite3, statistics, time
 import trials
 from managesieve import SIEVED, Store, connect, end
 
 KNOWN = ["alice", "bob", "carol-of-accounts", "d"]
-UNKNOWN = ["alicf", "bot", "carol-of-account5", "gone"]
-REMOVED = "gone"
+UNKNOWN = ["alicf", "bot", "carol-of-account5", "gone", "shut"]
+REMOVED, CLOSED = "gone", "shut"
 LOGINS = 50
 ROUNDS = 5
 
@@ -99,9 +100,12 @@ PROGRAM = [SIEVED]
 
 
 def a_store():
-    """A store with the known names, and with one whose account was removed."""
-    store = Store([*KNOWN, REMOVED], PROGRAM[0])
+    """A store with the known names, one whose account was removed, and one whose account is closed, as a move to another machine leaves it."""
+    store = Store([*KNOWN, REMOVED, CLOSED], PROGRAM[0])
     store.run("remove", REMOVED)
+    with sqlite3.connect(store.file) as base:
+        assert base.execute("UPDATE account SET rounds = 0 WHERE name = ?", [CLOSED.encode()]).rowcount == 1
+    base.close()
     return store
 
 

@@ -1,5 +1,6 @@
 #!/usr/bin/env python3
 """Clicks in Roundcube over the program: 'Forwarding' with a copy that is kept, and 'Out of office' for a minute; then delivers messages.
+The same for an account whose password and address were changed.
 
   tests/webmail.py [--sieved SIEVED] [TRIAL ..]       SIEVED: the program, crates/sieved/out/sieved where none is named
 
@@ -28,7 +29,7 @@ first_valid_uid = 1
 mail_location = maildir:{room}/mail/%u
 passdb {{
   driver = static
-  args = password=secret
+  args = password={password}
 }}
 userdb {{
   driver = static
@@ -54,14 +55,14 @@ MESSAGE = b"From: bob@example.net\nTo: alice@example.org\nSubject: Lunch\n\nHi\n
 class Host:
     """Roundcube before a Dovecot and a `sieved serve`, in which alice has an account."""
 
-    def __init__(self, room):
+    def __init__(self, room, password):
         self.room, self.imap, self.web, self.driver = room, free_port(), free_port(), free_port()
         self.sieve, self.file, self.begun = free_port(), f"{room}/mail.db", []
         os.chmod(room, 0o755)
         for name in "run", "mail", "logs", "temp", "conf":
             os.mkdir(f"{room}/{name}")
         shutil.chown(f"{room}/mail", "nobody", "nogroup")
-        self.write("dovecot.conf", DOVECOT.format(room=room, imap=self.imap))
+        self.write("dovecot.conf", DOVECOT.format(room=room, imap=self.imap, password=password))
         plugin = block("$config['managesieve_mbox_encoding']", "With it `Größe`").replace("localhost:4190", f"127.0.0.1:{self.sieve}")
         shutil.copytree(f"{ROUNDCUBE}/plugins", f"{room}/plugins")
         self.write("plugins/managesieve/config.inc.php", f"<?php\n{plugin}")
@@ -146,13 +147,13 @@ class Browser:
 
 
 @contextmanager
-def a_browser():
+def a_browser(password="secret"):
     trials.need_root()
     trials.need("php", "chromium", "chromedriver", "dovecot", "sqlite3")
     if not os.path.isdir(f"{ROUNDCUBE}/plugins/managesieve") or not os.path.isdir("/usr/lib/dovecot"):
         raise trials.LeftOut("no Roundcube")
     with tempfile.TemporaryDirectory(prefix="sieved-webmail-") as room:
-        host = Host(room)
+        host = Host(room, password)
         try:
             host.start()
             browser = Browser(host)
@@ -164,16 +165,16 @@ def a_browser():
             host.stop()
 
 
-def log_in(browser):
+def log_in(browser, password="secret"):
     browser.open("")
     browser.type("#rcmloginuser", "alice")
-    browser.type("#rcmloginpwd", "secret")
+    browser.type("#rcmloginpwd", password)
     browser.click("#rcmloginsubmit")
     browser.find("#messagelist, #messagelist-content")
 
 
-def deliver(host, moment):
-    said = host.sieved("deliver", "--wait", "--from", "bob@example.net", "--to", "alice@example.org", "--at", str(moment), "alice", text=MESSAGE)
+def deliver(host, moment, message=MESSAGE):
+    said = host.sieved("deliver", "--wait", "--from", "bob@example.net", "--to", "alice@example.org", "--at", str(moment), "alice", text=message)
     return said.splitlines()
 
 
@@ -211,7 +212,19 @@ def forwarding_and_absence():
     return "a copy goes out and the message stays; one answer a minute"
 
 
-TRIALS = {trial.__name__: trial for trial in (forwarding_and_absence,)}
+def changed_account():
+    with a_browser("another") as (host, browser):
+        assert host.sieved("passwd", "--wait", "alice", text=b"another\n") == "changed alice\n"
+        assert host.sieved("address", "--wait", "alice", "al@example.net") == "changed alice\n"
+        log_in(browser, "another")
+        be_away_for_a_minute(browser)
+        assert deliver(host, 1_700_000_000) == ["file INBOX", "vacation quiet 8"], "the old address"
+        assert deliver(host, 1_700_000_000, MESSAGE.replace(b"alice@example.org", b"al@example.net")) == ["file INBOX", "vacation sent"]
+        assert host.sieved("queue", "--wait", "alice", "1").startswith("From: al@example.net")
+    return "Roundcube logs in with the new password, and the answer comes from the new address"
+
+
+TRIALS = {trial.__name__: trial for trial in (forwarding_and_absence, changed_account)}
 
 if __name__ == "__main__":
     trials.main(TRIALS, lambda program: scripts.PROGRAM.__setitem__(0, program))

@@ -2,7 +2,7 @@
 use base64::engine::general_purpose::STANDARD;
 use casefiles::Part::Text;
 use casefiles::{Section, add_parts, decode, split_at_first, with_ends};
-use mailengine::{Envelope, Event};
+use mailengine::{Envelope, Event, Upkeep};
 use octets::{Octets, parse_decimal};
 use std::alloc::{AllocError, Global};
 
@@ -48,8 +48,68 @@ pub fn event(
         "deliver" => delivery(alloc, post, section, note),
         "takeout" => take_out(alloc, note),
         "takemail" => take_mail(alloc, note),
+        _ => kept_up(alloc, section, note),
+    }
+}
+
+/// What an administrator does to an account, if a section is that.
+fn kept_up(alloc: Global, section: &Section<'_>, note: &str) -> Result<Option<Event>, AllocError> {
+    let (user, rest) = split_at_first(note, " ");
+    let Some(upkeep) = upkeep(alloc, section, rest)? else {
+        return Ok(None);
+    };
+    let user = decode(alloc, user)?;
+    Ok(Some(Event::Keep { user, upkeep }))
+}
+
+fn upkeep(alloc: Global, section: &Section<'_>, rest: &str) -> Result<Option<Upkeep>, AllocError> {
+    match section.name {
+        "password" => new_password(alloc, section.text),
+        "address" => new_address(alloc, section.text),
+        "store" => script(alloc, rest, section, false),
+        "storeactive" => script(alloc, rest, section, true),
+        "closeaccount" => Ok(Some(Upkeep::CloseAccount)),
+        "openaccount" => Ok(Some(Upkeep::OpenAccount)),
+        "remove" => Ok(Some(Upkeep::RemoveAccount { mail: false })),
+        "removemail" => Ok(Some(Upkeep::RemoveAccount { mail: true })),
+        "takenotices" => Ok(Some(Upkeep::TakeNotices {
+            until: number(rest),
+        })),
         _ => Ok(None),
     }
+}
+
+/// Another password: the line.
+fn new_password(alloc: Global, text: &str) -> Result<Option<Upkeep>, AllocError> {
+    let (line, _) = split_at_first(text, "\n");
+    let password = decode(alloc, line)?;
+    Ok(Some(Upkeep::SetPassword {
+        salt: *b"fedcba9876543210",
+        password,
+    }))
+}
+
+/// Another address: the line.
+fn new_address(alloc: Global, text: &str) -> Result<Option<Upkeep>, AllocError> {
+    let (line, _) = split_at_first(text, "\n");
+    let address = decode(alloc, line)?;
+    Ok(Some(Upkeep::SetAddress { address }))
+}
+
+/// A script that is kept under this name.
+fn script(
+    alloc: Global,
+    name: &str,
+    section: &Section<'_>,
+    activate: bool,
+) -> Result<Option<Upkeep>, AllocError> {
+    let name = decode(alloc, name)?;
+    let text = octets_in(alloc, section)?;
+    Ok(Some(Upkeep::StoreScript {
+        name,
+        text,
+        activate,
+    }))
 }
 
 /// Octets that come from a client, with each line end as CRLF where that is wanted.
