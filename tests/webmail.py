@@ -53,7 +53,7 @@ MESSAGE = b"From: bob@example.net\nTo: alice@example.org\nSubject: Lunch\n\nHi\n
 
 
 class Host:
-    """Roundcube before a Dovecot and a `sieved serve`, in which alice has an account."""
+    """Roundcube before a Dovecot and a `sieved daemon`, in which alice has an account."""
 
     def __init__(self, room, password):
         self.room, self.imap, self.web, self.driver = room, free_port(), free_port(), free_port()
@@ -89,7 +89,7 @@ class Host:
 
     def start(self):
         self.begin("dovecot", "-F", "-c", f"{self.room}/dovecot.conf")
-        self.begin(scripts.PROGRAM[0], "serve", "--db", self.file, "--port", str(self.sieve))
+        self.begin(scripts.PROGRAM[0], "daemon", "--db", self.file, "--managesieve", str(self.sieve))
         env = {**os.environ, "ROUNDCUBE_CONFIG_DIR": f"{self.room}/conf/"}
         self.begin("php", "-d", f"auto_prepend_file={self.room}/first.php", "-S", f"127.0.0.1:{self.web}", "-t", ROUNDCUBE, env=env)
         self.begin("chromedriver", f"--port={self.driver}")
