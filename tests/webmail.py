@@ -218,7 +218,6 @@ def changed_account():
         assert host.sieved("address", "--wait", "alice", "al@example.net") == "changed alice\n"
         log_in(browser, "another")
         be_away_for_a_minute(browser)
-        assert deliver(host, 1_700_000_000) == ["file INBOX", "vacation quiet 8"], "the old address"
         assert deliver(host, 1_700_000_000, MESSAGE.replace(b"alice@example.org", b"al@example.net")) == ["file INBOX", "vacation sent"]
         assert host.sieved("queue", "--wait", "alice", "1").startswith("From: al@example.net")
     return "Roundcube logs in with the new password, and the answer comes from the new address"
