@@ -10,7 +10,7 @@ use Rattle.addrparts.specs.declared.address.Addr.{Addr}
 use Rattle.addrparts.specs.Parts.{AreAddresses}
 use Rattle.sieveexec.specs.Mails.{MailSpec, values_of, texts_of, has_addresses}
 use Rattle.sieveexec.specs.Matches.{MatchesSome}
-use Rattle.sieveexec.specs.Parts.{IsPart, part_of}
+use Rattle.sieveexec.specs.Parts.{IsPart, IsPartOf}
 
 -- a size over or under a limit; one that is the limit is neither (RFC 5228, 5.9)
 abbrev pub IsBeyond : Bound → ℕ → ℕ → Type 0
@@ -34,7 +34,7 @@ TestHolds mail (Exists names) = All (λ name. values_of mail name ≢ []) names
 TestHolds mail (Header header) =
     Any (λ name. Any (MatchesSome header.comparator header.matching header.keys) (texts_of mail name)) header.fields
 TestHolds mail (Address address) =
-    Any (λ name. SomeAddress mail name (λ one. MatchesSome address.comparator address.matching address.keys (part_of address.part one))) address.fields
+    Any (λ name. SomeAddress mail name (λ one. (part : List ℕ) × IsPartOf address.part one part × MatchesSome address.comparator address.matching address.keys part)) address.fields
 TestHolds mail (Envelope envelope) =
     (one : List ℕ) × (part : List ℕ) × IsNamed envelope.parts mail one × IsPart envelope.part one part
     × MatchesSome envelope.comparator envelope.matching envelope.keys part

@@ -70,14 +70,12 @@ fn envelope_holds(mail: &Mail<'_>, test: &EnvelopeTest) -> bool
         || (test.parts.to && address_matches(test, mail.to()))
 }
 
-/// Whether the part of an address of the envelope matches some key.
+/// Whether the part of an address of the envelope is there and matches some key.
 fn address_matches(test: &EnvelopeTest, address: &[u8]) -> bool
     ensures { result ≡ envelope_matches test.now address.now }
 {
-    matches_some(
-        test.comparator,
-        test.matching,
-        test.keys.as_slice(),
-        part_in(test.part, address),
-    )
+    match part_in(test.part, address) {
+        Some(part) => matches_some(test.comparator, test.matching, test.keys.as_slice(), part),
+        None => false,
+    }
 }

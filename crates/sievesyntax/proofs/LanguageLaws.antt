@@ -9,16 +9,18 @@ use Rattle.sievelex.specs.Contents.{contents_of}
 use Rattle.sievesyntax.specs.declared.table.capability.Capabilities.{Capabilities}
 use Rattle.sievesyntax.specs.declared.tree.action.Action.{Action}
 use Rattle.sievesyntax.specs.declared.tree.action.Action.TheVariants.{Keep, Discard, FileInto, Redirect, Vacation}
+use Rattle.sievesyntax.specs.declared.tree.checks.AddressPart.{AddressPart}
 use Rattle.sievesyntax.specs.declared.tree.checks.Check.{Check}
+use Rattle.sievesyntax.specs.declared.tree.checks.Check.TheVariants.{Size, Exists, Header, Address, Envelope}
 use Rattle.sievesyntax.specs.declared.tree.vacation.VacArgs.{VacArgs}
-use Rattle.sievesyntax.specs.Before.{with_cancelled, performed_in, outcome_in, IsOfBefore, EachAction, EachInBranches, EachIn, StillMeans}
-use Rattle.sievesyntax.specs.Languages.{Language, is_capability_before, today, before}
+use Rattle.sievesyntax.specs.Before.{with_cancelled, performed_in, outcome_in, IsOfBefore, EachAction, EachInBranches, EachIn, StillMeans, IsOfWholes, EachCheck, EachCheckOf, EachAsks, EachAsksInBranches, EachAsksIn, MeansWholes}
+use Rattle.sievesyntax.specs.Languages.{Language, is_capability_before, is_capability_of_wholes, today, before, of_wholes}
 use Rattle.sievesyntax.specs.Meaning.{holds, ended, outcome}
 use Rattle.sievesyntax.specs.Means.{MeansIn}
 use Rattle.sievesyntax.specs.RunState.{RunState, at_first, max_targets, TwoVacations, Flow, Going, Stopped, Failed, and_then, cancelled_after, same_target, sent_to, replied_by, performed}
 use Rattle.sievesyntax.specs.Trace.{Trace, then_runs, runs, runs_branch, runs_all, actions_run, in_turn_by, in_turn}
-use Rattle.sievesyntax.specs.Tree.{CommandTree, require, choose, stop, act, Branches, no_branches, branch, Commands, no_commands, command}
-use Rattle.sievesyntax.specs.Valid.{is_named, is_capability, granted_by, MayAct, MayStand, MayBranch, MayAllStand, required, after_requires, IsValid, IsValidIn}
+use Rattle.sievesyntax.specs.Tree.{TestTree, yes, no, looks, not_of, all_of, any_of, Tests, no_tests, test, CommandTree, require, choose, stop, act, Branches, no_branches, branch, Commands, no_commands, command}
+use Rattle.sievesyntax.specs.Valid.{is_named, is_capability, granted_by, is_subaddress, MayPart, MayCheck, MayTest, MayAllTest, MayAct, MayStand, MayBranch, MayAllStand, required, after_requires, IsValid, IsValidIn}
 use Rattle.sievesyntax.proofs.LanguageLemmas.{read_today}
 use Rattle.sievesyntax.proofs.TraceLemmas.{outcome_in_turn}
 
@@ -53,19 +55,30 @@ or_true : (a : Bool) → (a || true) ≡ true
 or_true true = refl
 or_true false = refl
 
-five_of_seven : (a b c d e f g : Bool) → (a || (b || (c || (d || e)))) ≡ true → (a || (b || (c || (d || (e || (f || g)))))) ≡ true
-five_of_seven true b c d e f g is = refl
-five_of_seven false true c d e f g is = refl
-five_of_seven false false true d e f g is = refl
-five_of_seven false false false true e f g is = refl
-five_of_seven false false false false true f g is = refl
-five_of_seven false false false false false f g is = absurd (cc is)
+-- one more in a row of five, and of seven
+five_more : (a b c d e f : Bool) → (a || (b || (c || (d || e)))) ≡ true → (a || (b || (c || (d || (e || f))))) ≡ true
+five_more true b c d e f is = refl
+five_more false true c d e f is = refl
+five_more false false true d e f is = refl
+five_more false false false true e f is = refl
+five_more false false false false true f is = refl
+five_more false false false false false f is = absurd (cc is)
+
+seven_more : (a b c d e f g h : Bool) → (a || (b || (c || (d || (e || (f || g)))))) ≡ true → (a || (b || (c || (d || (e || (f || (g || h))))))) ≡ true
+seven_more true b c d e f g h is = refl
+seven_more false true c d e f g h is = refl
+seven_more false false c d e f g h is = five_more c d e f g h is
 
 -- what was known is known
+known_of_wholes : (name : List ℕ) → is_capability_of_wholes name ≡ true → is_capability name ≡ true
+known_of_wholes name =
+    seven_more (is_named (codes "fileinto") name) (is_named (codes "envelope") name) (is_named (codes "vacation") name) (is_named (codes "comparator-i;octet") name) (is_named (codes "comparator-i;ascii-casemap") name)
+    (is_named (codes "copy") name) (is_named (codes "vacation-seconds") name) (is_named (codes "subaddress") name)
+
 still_known : (name : List ℕ) → is_capability_before name ≡ true → is_capability name ≡ true
-still_known name =
-    five_of_seven (is_named (codes "fileinto") name) (is_named (codes "envelope") name) (is_named (codes "vacation") name) (is_named (codes "comparator-i;octet") name) (is_named (codes "comparator-i;ascii-casemap") name)
-    (is_named (codes "copy") name) (is_named (codes "vacation-seconds") name)
+still_known name is = known_of_wholes name
+    (five_more (is_named (codes "fileinto") name) (is_named (codes "envelope") name) (is_named (codes "vacation") name) (is_named (codes "comparator-i;octet") name) (is_named (codes "comparator-i;ascii-casemap") name)
+    (is_named (codes "copy") name || is_named (codes "vacation-seconds") name) is)
 
 -- what follows of each name follows of all
 of_all : (P Q : List ℕ → Type 0) → ((name : List ℕ) → P name → Q name) → (names : List (List ℕ)) → All P names → All Q names
@@ -128,6 +141,70 @@ valid_plain tree valid =
     let copy = none_named (codes "copy") names (of_all _ _ no_copy names valid.known) in
     let seconds = none_named (codes "vacation-seconds") names (of_all _ _ no_seconds names valid.known) in
     after_plain tree (plain_commands (granted_by names) copy seconds (after_requires tree) valid.stand)
+
+-- ---- trees that were valid before `subaddress` look at no part of a local part
+
+no_subaddress : (name : List ℕ) → is_capability_of_wholes name ≡ true → is_named (codes "subaddress") name ≡ false
+no_subaddress name =
+    let P = is_named (codes "subaddress") name ≡ false in
+    either P _ _ (apart (codes "fileinto") (codes "subaddress") name refl) (either P _ _ (apart (codes "envelope") (codes "subaddress") name refl)
+    (either P _ _ (apart (codes "vacation") (codes "subaddress") name refl) (either P _ _ (apart (codes "comparator-i;octet") (codes "subaddress") name refl)
+    (either P _ _ (apart (codes "comparator-i;ascii-casemap") (codes "subaddress") name refl) (either P _ _ (apart (codes "copy") (codes "subaddress") name refl)
+    (apart (codes "vacation-seconds") (codes "subaddress") name refl))))))
+
+-- where `subaddress` isn't granted
+module _ (granted : Capabilities) (none : granted.subaddress ≡ false) where
+  whole_part : (part : AddressPart) → MayPart granted part → is_subaddress part ≡ false
+  whole_part part may = not_true (is_subaddress part) (unused granted.subaddress (is_subaddress part) none may)
+
+  whole_check : (check : Check) → MayCheck granted check → IsOfWholes check
+  whole_check (Size size) may = tt
+  whole_check (Exists fields) may = tt
+  whole_check (Header header) may = tt
+  whole_check (Address address) may = whole_part address.part may
+  whole_check (Envelope envelope) may = whole_part envelope.part may.1
+
+  mutual
+    whole_test : (condition : TestTree) → MayTest granted condition → EachCheck IsOfWholes condition
+    whole_test yes may = tt
+    whole_test no may = tt
+    whole_test (looks check) may = whole_check check may
+    whole_test (not_of inner) may = whole_test inner may
+    whole_test (all_of inner) may = whole_tests inner may
+    whole_test (any_of inner) may = whole_tests inner may
+
+    whole_tests : (tests : Tests) → MayAllTest granted tests → EachCheckOf IsOfWholes tests
+    whole_tests no_tests may = tt
+    whole_tests (test first more) may = (whole_test first may.0, whole_tests more may.1)
+
+  mutual
+    whole_command : (tree : CommandTree) → MayStand granted tree → EachAsks IsOfWholes tree
+    whole_command (require names) may = tt
+    whole_command (choose branches) may = whole_branches branches may
+    whole_command stop may = tt
+    whole_command (act action) may = tt
+
+    whole_branches : (branches : Branches) → MayBranch granted branches → EachAsksInBranches IsOfWholes branches
+    whole_branches no_branches may = tt
+    whole_branches (branch condition block more) may = (whole_test condition may.0.0, (whole_commands block may.1.0, whole_branches more may.1.1))
+
+    whole_commands : (commands : Commands) → MayAllStand granted commands → EachAsksIn IsOfWholes commands
+    whole_commands no_commands may = tt
+    whole_commands (command first more) may = (whole_command first may.0, whole_commands more may.1)
+
+-- each test in a tree stands after its requires
+after_whole : (tree : Commands) → EachAsksIn IsOfWholes (after_requires tree) → EachAsksIn IsOfWholes tree
+after_whole no_commands each = each
+after_whole (command (require names) more) each = (tt, after_whole more each)
+after_whole (command (choose choice) more) each = each
+after_whole (command stop more) each = each
+after_whole (command (act action) more) each = each
+
+valid_whole : (tree : Commands) → IsValidIn is_capability_of_wholes tree → EachAsksIn IsOfWholes tree
+valid_whole tree valid =
+    let names = required tree in
+    let none = none_named (codes "subaddress") names (of_all _ _ no_subaddress names valid.known) in
+    after_whole tree (whole_commands (granted_by names) none (after_requires tree) valid.stand)
 
 -- ---- the outcome
 
@@ -267,4 +344,18 @@ still_means text tree means =
       };
       actions = plain;
       same = λ truth. outcome_same before IsOfBefore cancelled_then truth tree (commands_run IsOfBefore truth tree plain);
+    }
+
+pub means_wholes : (text : List ℕ) (tree : Commands) → MeansIn of_wholes text tree → MeansWholes text tree
+means_wholes text tree means =
+    let known = of_all _ _ known_of_wholes (required tree) means.valid.known in
+    record {
+      means = record {
+        tokens = means.tokens;
+        spelled = means.spelled;
+        read = read_today of_wholes (contents_of means.tokens) tree means.read;
+        valid = record { known = known; stand = means.valid.stand; shallow = means.valid.shallow };
+      };
+      checks = valid_whole tree means.valid;
+      same = λ truth. todays_outcome truth tree;
     }

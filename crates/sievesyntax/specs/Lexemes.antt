@@ -53,6 +53,8 @@ tag_of name =
     (cond (same_name name (codes "all")) T.All
     (cond (same_name name (codes "localpart")) T.LocalPart
     (cond (same_name name (codes "domain")) T.Domain
+    (cond (same_name name (codes "user")) T.User
+    (cond (same_name name (codes "detail")) T.Detail
     (cond (same_name name (codes "days")) T.Days
     (cond (same_name name (codes "seconds")) T.Seconds
     (cond (same_name name (codes "subject")) T.Subject
@@ -61,7 +63,7 @@ tag_of name =
     (cond (same_name name (codes "mime")) T.Mime
     (cond (same_name name (codes "handle")) T.Handle
     (cond (same_name name (codes "copy")) T.Copy
-    T.Other))))))))))))))))
+    T.Other))))))))))))))))))
 
 -- a word of the grammar (RFC 5228, 8.2)
 pub data Lexeme : Type 0 where

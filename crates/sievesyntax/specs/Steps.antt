@@ -105,6 +105,7 @@ granted_too granted names = record {
   vacation = granted.vacation || (granted_by names).vacation;
   copy = granted.copy || (granted_by names).copy;
   seconds = granted.seconds || (granted_by names).seconds;
+  subaddress = granted.subaddress || (granted_by names).subaddress;
 }
 
 -- requires at the front, up to another command or the end

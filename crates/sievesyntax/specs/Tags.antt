@@ -35,6 +35,8 @@ abbrev pub part_tag : AddressPart → Tag
 part_tag H.All = T.All
 part_tag H.LocalPart = T.LocalPart
 part_tag H.Domain = T.Domain
+part_tag H.User = T.User
+part_tag H.Detail = T.Detail
 
 -- the name of a comparator, by octets (RFC 4790, 9.2 and 9.3)
 abbrev pub name_of : Collation → List ℕ

@@ -53,6 +53,7 @@ fn read_requires(
         vacation: false,
         copy: false,
         seconds: false,
+        subaddress: false,
     };
     'found: while take_require(reader) {
         let names = read_names(alloc, reader)?;

@@ -2,11 +2,12 @@
 ghost use Rattle.std.specs.Prelude.{◌≡◌, ◌↔◌, IfOk, OnOk, IsTrue, All};
 ghost use Rattle.std.specs.List.{list_any};
 ghost use Rattle.sievesyntax.specs.Parsing.{IfFault};
-ghost use Rattle.sievesyntax.specs.Valid.{IsCapability, is_named};
+ghost use Rattle.sievesyntax.specs.Valid.{IsCapability, MayPart, is_named};
 ghost use Rattle.sievesyntax.specs.Valid as spec;
 ghost use Rattle.sievesyntax.specs.Steps.{granted_too};
 
 use crate::error::ReadError;
+use crate::tree::checks::AddressPart;
 use octets::Octets;
 use sievelex::FaultKind;
 
@@ -23,6 +24,8 @@ pub struct Capabilities {
     pub copy: bool,
     /// `vacation-seconds` (RFC 6131).
     pub seconds: bool,
+    /// `subaddress` (RFC 5233).
+    pub subaddress: bool,
 }
 
 impl Capabilities {
@@ -31,6 +34,13 @@ impl Capabilities {
         ensures { result ≡ spec.may_answer self.now }
     {
         self.vacation || self.seconds
+    }
+
+    /// Whether a part of an address may be named.
+    pub(crate) fn may_part(&self, part: AddressPart) -> bool
+        ensures { IsTrue result ↔ MayPart self.now part }
+    {
+        self.subaddress || !part.is_subaddress()
     }
 }
 
@@ -49,6 +59,7 @@ pub(crate) fn grant(granted: Capabilities, names: &[Octets]) -> Result<Capabilit
         vacation: granted.vacation || is_there(names, b"vacation"),
         copy: granted.copy || is_there(names, b"copy"),
         seconds: granted.seconds || is_there(names, b"vacation-seconds"),
+        subaddress: granted.subaddress || is_there(names, b"subaddress"),
     })
 }
 
@@ -75,4 +86,5 @@ fn is_capability(name: &[u8]) -> bool
         || name == b"comparator-i;ascii-casemap".as_slice()
         || name == b"copy".as_slice()
         || name == b"vacation-seconds".as_slice()
+        || name == b"subaddress".as_slice()
 }

@@ -16,6 +16,8 @@ pub enum Tag {
     All,
     LocalPart,
     Domain,
+    User,
+    Detail,
     Days,
     Seconds,
     Subject,
@@ -50,6 +52,10 @@ pub(crate) fn tag_named(name: &[u8]) -> Tag
         Tag::LocalPart
     } else if is_name(name, b"domain") {
         Tag::Domain
+    } else if is_name(name, b"user") {
+        Tag::User
+    } else if is_name(name, b"detail") {
+        Tag::Detail
     } else if is_name(name, b"days") {
         Tag::Days
     } else if is_name(name, b"seconds") {

@@ -23,7 +23,7 @@ pub enum TagValue {
     Comparator(Collation),
     /// `:is`, `:contains`, `:matches`.
     Matching(Matching),
-    /// `:all`, `:localpart`, `:domain`.
+    /// `:all`, `:localpart`, `:domain`, `:user`, `:detail`.
     Part(AddressPart),
     /// `:days`.
     Days(u64),
@@ -152,6 +152,8 @@ fn tag_value_at<'a>(
         Tag::All => Ok((TagValue::Part(AddressPart::All), args)),
         Tag::LocalPart => Ok((TagValue::Part(AddressPart::LocalPart), args)),
         Tag::Domain => Ok((TagValue::Part(AddressPart::Domain), args)),
+        Tag::User => Ok((TagValue::Part(AddressPart::User), args)),
+        Tag::Detail => Ok((TagValue::Part(AddressPart::Detail), args)),
         Tag::Mime => Ok((TagValue::Mime, args)),
         Tag::Copy => Ok((TagValue::Copy, args)),
         Tag::Comparator => {

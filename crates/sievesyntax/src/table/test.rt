@@ -47,14 +47,24 @@ pub(crate) fn plain_test(
         Keyword::Header => Ok(Test::Check(Check::Header(read_header(alloc, args)?))),
         // Syntax: address [COMPARATOR] [ADDRESS-PART] [MATCH-TYPE] <header-list: string-list> <key-list: string-list>
         // (RFC 5228, 5.1)
-        Keyword::Address => Ok(Test::Check(Check::Address(read_address(alloc, args)?))),
+        Keyword::Address => {
+            let address = read_address(alloc, args)?;
+            if !granted.may_part(address.part) {
+                return Err(ReadError::Fault(FaultKind::NotRequired));
+            }
+            Ok(Test::Check(Check::Address(address)))
+        }
         // Syntax: envelope [COMPARATOR] [ADDRESS-PART] [MATCH-TYPE] <envelope-part: string-list> <key-list: string-list>,
         // where `envelope` is required (RFC 5228, 5.4)
         Keyword::Envelope => {
             if !granted.envelope {
                 return Err(ReadError::Fault(FaultKind::NotRequired));
             }
-            Ok(Test::Check(Check::Envelope(read_envelope(alloc, args)?)))
+            let envelope = read_envelope(alloc, args)?;
+            if !granted.may_part(envelope.part) {
+                return Err(ReadError::Fault(FaultKind::NotRequired));
+            }
+            Ok(Test::Check(Check::Envelope(envelope)))
         }
         _ => Err(ReadError::Fault(FaultKind::UnknownTest)),
     }
