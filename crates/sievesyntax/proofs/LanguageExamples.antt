@@ -37,9 +37,9 @@ use Rattle.sievesyntax.specs.declared.tree.checks.Matching.TheVariants as M
 use Rattle.sievesyntax.specs.declared.tree.checks.Check.{Check}
 use Rattle.sievesyntax.specs.declared.tree.checks.Check.TheVariants as Q
 use Rattle.sievesyntax.specs.declared.tree.vacation.VacArgs.{VacArgs}
-use Rattle.sievesyntax.specs.Before.{outcome_in, IsOfBefore, EachIn, IsOfWholes, EachAsksIn}
+use Rattle.sievesyntax.specs.Before.{outcome_in, IsOfBefore, EachIn, IsFormerCheck, EachAsksIn}
 use Rattle.sievesyntax.specs.Grammar.{IsStatement, IsCommand, ReadsScript}
-use Rattle.sievesyntax.specs.Languages.{lexeme_in, lexemes_in, is_capability_before, today, before, of_wholes}
+use Rattle.sievesyntax.specs.Languages.{lexeme_in, lexemes_in, is_capability_before, today, before, former}
 use Rattle.sievesyntax.specs.Lexemes.{Lexeme, keyword, tag, number, text, mark, lexemes_of}
 use Rattle.sievesyntax.specs.Meaning.{Done}
 use Rattle.sievesyntax.specs.Means.{MeansIn, Means}
@@ -58,12 +58,15 @@ copy_before = (refl, refl)
 seconds_before : (lexeme_in before (C.Tag (codes "seconds")) ≡ tag T.Other) × (lexeme_in today (C.Tag (codes "seconds")) ≡ tag T.Seconds)
 seconds_before = (refl, refl)
 
--- `:user` and `:detail` were none in the language of whole local parts, which had `:copy`
-user_of_wholes : (lexeme_in of_wholes (C.Tag (codes "User")) ≡ tag T.Other) × (lexeme_in today (C.Tag (codes "User")) ≡ tag T.User)
-user_of_wholes = (refl, refl)
+-- `:user`, `:detail` and `:create` were none in the former language, which had `:copy`
+user_formerly : (lexeme_in former (C.Tag (codes "User")) ≡ tag T.Other) × (lexeme_in today (C.Tag (codes "User")) ≡ tag T.User)
+user_formerly = (refl, refl)
 
-detail_of_wholes : (lexeme_in of_wholes (C.Tag (codes "detail")) ≡ tag T.Other) × (lexeme_in of_wholes (C.Tag (codes "copy")) ≡ tag T.Copy)
-detail_of_wholes = (refl, refl)
+detail_formerly : (lexeme_in former (C.Tag (codes "detail")) ≡ tag T.Other) × (lexeme_in former (C.Tag (codes "copy")) ≡ tag T.Copy)
+detail_formerly = (refl, refl)
+
+create_formerly : (lexeme_in former (C.Tag (codes "create")) ≡ tag T.Other) × (lexeme_in today (C.Tag (codes "create")) ≡ tag T.Create)
+create_formerly = (refl, refl)
 
 days_before : lexeme_in before (C.Tag (codes "days")) ≡ tag T.Days
 days_before = refl
@@ -78,7 +81,7 @@ abbrev target : Addr
 target = record { local = codes "c"; domain = codes "d" }
 
 abbrev filing : Bool → Commands
-filing copy = command (act (D.FileInto (record { mailbox = codes "x"; copy = copy }))) no_commands
+filing copy = command (act (D.FileInto (record { mailbox = codes "x"; copy = copy; create = false }))) no_commands
 
 abbrev redirecting : Bool → Commands
 redirecting copy = command (act (D.Redirect (record { target = target; copy = copy }))) no_commands
@@ -117,10 +120,10 @@ abbrev asking : AddressPart → Commands
 asking part =
     command (choose (branch (looks (Q.Address (record { comparator = L.Octet; part = part; matching = M.Is; fields = []; keys = [] }))) no_commands no_branches)) no_commands
 
-whole_asked : EachAsksIn IsOfWholes (asking H.LocalPart)
+whole_asked : EachAsksIn IsFormerCheck (asking H.LocalPart)
 whole_asked = ((refl, (tt, tt)), tt)
 
-part_asked : EachAsksIn IsOfWholes (asking H.Detail) → ⊥
+part_asked : EachAsksIn IsFormerCheck (asking H.Detail) → ⊥
 part_asked each = let e : true ≡ false = each.0.0 in absurd (cc e)
 
 -- ---- texts

@@ -11,10 +11,10 @@ use Rattle.sievesyntax.specs.declared.tree.action.Action.{Action}
 use Rattle.sievesyntax.specs.declared.tree.action.Action.TheVariants.{Keep, Discard, FileInto, Redirect, Vacation}
 use Rattle.sievesyntax.specs.declared.tree.checks.AddressPart.{AddressPart}
 use Rattle.sievesyntax.specs.declared.tree.checks.Check.{Check}
-use Rattle.sievesyntax.specs.declared.tree.checks.Check.TheVariants.{Size, Exists, Header, Address, Envelope}
+use Rattle.sievesyntax.specs.declared.tree.checks.Check.TheVariants.{Size, Exists, Header, Address, Envelope, MailboxExists}
 use Rattle.sievesyntax.specs.declared.tree.vacation.VacArgs.{VacArgs}
-use Rattle.sievesyntax.specs.Before.{with_cancelled, performed_in, outcome_in, IsOfBefore, EachAction, EachInBranches, EachIn, StillMeans, IsOfWholes, EachCheck, EachCheckOf, EachAsks, EachAsksInBranches, EachAsksIn, MeansWholes}
-use Rattle.sievesyntax.specs.Languages.{Language, is_capability_before, is_capability_of_wholes, today, before, of_wholes}
+use Rattle.sievesyntax.specs.Before.{with_cancelled, performed_in, outcome_in, IsOfBefore, EachAction, EachInBranches, EachIn, StillMeans, IsFormerCheck, IsFormerAction, EachCheck, EachCheckOf, EachAsks, EachAsksInBranches, EachAsksIn, MeansFormerly}
+use Rattle.sievesyntax.specs.Languages.{Language, is_capability_before, is_former_capability, today, before, former}
 use Rattle.sievesyntax.specs.Meaning.{holds, ended, outcome}
 use Rattle.sievesyntax.specs.Means.{MeansIn}
 use Rattle.sievesyntax.specs.RunState.{RunState, at_first, max_targets, TwoVacations, Flow, Going, Stopped, Failed, and_then, cancelled_after, same_target, sent_to, replied_by, performed}
@@ -70,13 +70,13 @@ seven_more false true c d e f g h is = refl
 seven_more false false c d e f g h is = five_more c d e f g h is
 
 -- what was known is known
-known_of_wholes : (name : List ℕ) → is_capability_of_wholes name ≡ true → is_capability name ≡ true
-known_of_wholes name =
+known_formerly : (name : List ℕ) → is_former_capability name ≡ true → is_capability name ≡ true
+known_formerly name =
     seven_more (is_named (codes "fileinto") name) (is_named (codes "envelope") name) (is_named (codes "vacation") name) (is_named (codes "comparator-i;octet") name) (is_named (codes "comparator-i;ascii-casemap") name)
-    (is_named (codes "copy") name) (is_named (codes "vacation-seconds") name) (is_named (codes "subaddress") name)
+    (is_named (codes "copy") name) (is_named (codes "vacation-seconds") name) (is_named (codes "subaddress") name || is_named (codes "mailbox") name)
 
 still_known : (name : List ℕ) → is_capability_before name ≡ true → is_capability name ≡ true
-still_known name is = known_of_wholes name
+still_known name is = known_formerly name
     (five_more (is_named (codes "fileinto") name) (is_named (codes "envelope") name) (is_named (codes "vacation") name) (is_named (codes "comparator-i;octet") name) (is_named (codes "comparator-i;ascii-casemap") name)
     (is_named (codes "copy") name || is_named (codes "vacation-seconds") name) is)
 
@@ -112,99 +112,123 @@ module _ (granted : Capabilities) (copy : granted.copy ≡ false) (seconds : gra
   plain_action (Redirect redirect) may = not_true redirect.copy (unused granted.copy redirect.copy copy may)
   plain_action (Vacation args) may = none_given args.seconds (unused granted.seconds (is_some args.seconds) seconds may.1)
 
+-- what is so of each action that may stand is so of each in a tree that may
+module _ (P : Action → Type 0) (granted : Capabilities) (each : (action : Action) → MayAct granted action → P action) where
   mutual
-    plain_command : (tree : CommandTree) → MayStand granted tree → EachAction IsOfBefore tree
-    plain_command (require names) may = tt
-    plain_command (choose branches) may = plain_branches branches may
-    plain_command stop may = tt
-    plain_command (act action) may = plain_action action may
+    act_of : (tree : CommandTree) → MayStand granted tree → EachAction P tree
+    act_of (require names) may = tt
+    act_of (choose branches) may = act_of_branches branches may
+    act_of stop may = tt
+    act_of (act action) may = each action may
 
-    plain_branches : (branches : Branches) → MayBranch granted branches → EachInBranches IsOfBefore branches
-    plain_branches no_branches may = tt
-    plain_branches (branch condition block more) may = (plain_commands block may.1.0, plain_branches more may.1.1)
+    act_of_branches : (branches : Branches) → MayBranch granted branches → EachInBranches P branches
+    act_of_branches no_branches may = tt
+    act_of_branches (branch condition block more) may = (each_act block may.1.0, act_of_branches more may.1.1)
 
-    plain_commands : (commands : Commands) → MayAllStand granted commands → EachIn IsOfBefore commands
-    plain_commands no_commands may = tt
-    plain_commands (command first more) may = (plain_command first may.0, plain_commands more may.1)
+    each_act : (commands : Commands) → MayAllStand granted commands → EachIn P commands
+    each_act no_commands may = tt
+    each_act (command first more) may = (act_of first may.0, each_act more may.1)
 
 -- each action in a tree stands after its requires
-after_plain : (tree : Commands) → EachIn IsOfBefore (after_requires tree) → EachIn IsOfBefore tree
-after_plain no_commands each = each
-after_plain (command (require names) more) each = (tt, after_plain more each)
-after_plain (command (choose choice) more) each = each
-after_plain (command stop more) each = each
-after_plain (command (act action) more) each = each
+after_each : (P : Action → Type 0) (tree : Commands) → EachIn P (after_requires tree) → EachIn P tree
+after_each P no_commands each = each
+after_each P (command (require names) more) each = (tt, after_each P more each)
+after_each P (command (choose choice) more) each = each
+after_each P (command stop more) each = each
+after_each P (command (act action) more) each = each
 
 valid_plain : (tree : Commands) → IsValidIn is_capability_before tree → EachIn IsOfBefore tree
 valid_plain tree valid =
     let names = required tree in
     let copy = none_named (codes "copy") names (of_all _ _ no_copy names valid.known) in
     let seconds = none_named (codes "vacation-seconds") names (of_all _ _ no_seconds names valid.known) in
-    after_plain tree (plain_commands (granted_by names) copy seconds (after_requires tree) valid.stand)
+    after_each IsOfBefore tree (each_act IsOfBefore (granted_by names) (plain_action (granted_by names) copy seconds) (after_requires tree) valid.stand)
 
--- ---- trees that were valid before `subaddress` look at no part of a local part
+-- ---- trees that were valid in the former language have nothing new
 
-no_subaddress : (name : List ℕ) → is_capability_of_wholes name ≡ true → is_named (codes "subaddress") name ≡ false
-no_subaddress name =
-    let P = is_named (codes "subaddress") name ≡ false in
-    either P _ _ (apart (codes "fileinto") (codes "subaddress") name refl) (either P _ _ (apart (codes "envelope") (codes "subaddress") name refl)
-    (either P _ _ (apart (codes "vacation") (codes "subaddress") name refl) (either P _ _ (apart (codes "comparator-i;octet") (codes "subaddress") name refl)
-    (either P _ _ (apart (codes "comparator-i;ascii-casemap") (codes "subaddress") name refl) (either P _ _ (apart (codes "copy") (codes "subaddress") name refl)
-    (apart (codes "vacation-seconds") (codes "subaddress") name refl))))))
+-- a name that it knew is none of another word
+module _ (word name : List ℕ)
+    (fileinto : pointwise nat_eq (codes "fileinto") word ≡ false) (envelope : pointwise nat_eq (codes "envelope") word ≡ false) (vacation : pointwise nat_eq (codes "vacation") word ≡ false)
+    (octet : pointwise nat_eq (codes "comparator-i;octet") word ≡ false) (casemap : pointwise nat_eq (codes "comparator-i;ascii-casemap") word ≡ false)
+    (copy : pointwise nat_eq (codes "copy") word ≡ false) (seconds : pointwise nat_eq (codes "vacation-seconds") word ≡ false) where
+  apart_formerly : is_former_capability name ≡ true → is_named word name ≡ false
+  apart_formerly =
+      let P = is_named word name ≡ false in
+      either P _ _ (apart (codes "fileinto") word name fileinto) (either P _ _ (apart (codes "envelope") word name envelope)
+      (either P _ _ (apart (codes "vacation") word name vacation) (either P _ _ (apart (codes "comparator-i;octet") word name octet)
+      (either P _ _ (apart (codes "comparator-i;ascii-casemap") word name casemap) (either P _ _ (apart (codes "copy") word name copy)
+      (apart (codes "vacation-seconds") word name seconds))))))
 
--- where `subaddress` isn't granted
-module _ (granted : Capabilities) (none : granted.subaddress ≡ false) where
-  whole_part : (part : AddressPart) → MayPart granted part → is_subaddress part ≡ false
-  whole_part part may = not_true (is_subaddress part) (unused granted.subaddress (is_subaddress part) none may)
+no_subaddress : (name : List ℕ) → is_former_capability name ≡ true → is_named (codes "subaddress") name ≡ false
+no_subaddress name = apart_formerly (codes "subaddress") name refl refl refl refl refl refl refl
 
-  whole_check : (check : Check) → MayCheck granted check → IsOfWholes check
-  whole_check (Size size) may = tt
-  whole_check (Exists fields) may = tt
-  whole_check (Header header) may = tt
-  whole_check (Address address) may = whole_part address.part may
-  whole_check (Envelope envelope) may = whole_part envelope.part may.1
+no_mailbox : (name : List ℕ) → is_former_capability name ≡ true → is_named (codes "mailbox") name ≡ false
+no_mailbox name = apart_formerly (codes "mailbox") name refl refl refl refl refl refl refl
+
+-- where neither `subaddress` nor `mailbox` is granted
+module _ (granted : Capabilities) (none : granted.subaddress ≡ false) (no_box : granted.mailbox ≡ false) where
+  former_part : (part : AddressPart) → MayPart granted part → is_subaddress part ≡ false
+  former_part part may = not_true (is_subaddress part) (unused granted.subaddress (is_subaddress part) none may)
+
+  former_check : (check : Check) → MayCheck granted check → IsFormerCheck check
+  former_check (Size size) may = tt
+  former_check (Exists fields) may = tt
+  former_check (Header header) may = tt
+  former_check (Address address) may = former_part address.part may
+  former_check (Envelope envelope) may = former_part envelope.part may.1
+  former_check (MailboxExists names) may = let bad : false ≡ true = sym no_box ∙ may in absurd (cc bad)
+
+  former_action : (action : Action) → MayAct granted action → IsFormerAction action
+  former_action Keep may = tt
+  former_action Discard may = tt
+  former_action (FileInto filing) may = not_true filing.create (unused granted.mailbox filing.create no_box may.2)
+  former_action (Redirect redirect) may = tt
+  former_action (Vacation args) may = tt
 
   mutual
-    whole_test : (condition : TestTree) → MayTest granted condition → EachCheck IsOfWholes condition
-    whole_test yes may = tt
-    whole_test no may = tt
-    whole_test (looks check) may = whole_check check may
-    whole_test (not_of inner) may = whole_test inner may
-    whole_test (all_of inner) may = whole_tests inner may
-    whole_test (any_of inner) may = whole_tests inner may
+    former_test : (condition : TestTree) → MayTest granted condition → EachCheck IsFormerCheck condition
+    former_test yes may = tt
+    former_test no may = tt
+    former_test (looks check) may = former_check check may
+    former_test (not_of inner) may = former_test inner may
+    former_test (all_of inner) may = former_tests inner may
+    former_test (any_of inner) may = former_tests inner may
 
-    whole_tests : (tests : Tests) → MayAllTest granted tests → EachCheckOf IsOfWholes tests
-    whole_tests no_tests may = tt
-    whole_tests (test first more) may = (whole_test first may.0, whole_tests more may.1)
+    former_tests : (tests : Tests) → MayAllTest granted tests → EachCheckOf IsFormerCheck tests
+    former_tests no_tests may = tt
+    former_tests (test first more) may = (former_test first may.0, former_tests more may.1)
 
   mutual
-    whole_command : (tree : CommandTree) → MayStand granted tree → EachAsks IsOfWholes tree
-    whole_command (require names) may = tt
-    whole_command (choose branches) may = whole_branches branches may
-    whole_command stop may = tt
-    whole_command (act action) may = tt
+    former_command : (tree : CommandTree) → MayStand granted tree → EachAsks IsFormerCheck tree
+    former_command (require names) may = tt
+    former_command (choose branches) may = former_branches branches may
+    former_command stop may = tt
+    former_command (act action) may = tt
 
-    whole_branches : (branches : Branches) → MayBranch granted branches → EachAsksInBranches IsOfWholes branches
-    whole_branches no_branches may = tt
-    whole_branches (branch condition block more) may = (whole_test condition may.0.0, (whole_commands block may.1.0, whole_branches more may.1.1))
+    former_branches : (branches : Branches) → MayBranch granted branches → EachAsksInBranches IsFormerCheck branches
+    former_branches no_branches may = tt
+    former_branches (branch condition block more) may = (former_test condition may.0.0, (former_commands block may.1.0, former_branches more may.1.1))
 
-    whole_commands : (commands : Commands) → MayAllStand granted commands → EachAsksIn IsOfWholes commands
-    whole_commands no_commands may = tt
-    whole_commands (command first more) may = (whole_command first may.0, whole_commands more may.1)
+    former_commands : (commands : Commands) → MayAllStand granted commands → EachAsksIn IsFormerCheck commands
+    former_commands no_commands may = tt
+    former_commands (command first more) may = (former_command first may.0, former_commands more may.1)
 
 -- each test in a tree stands after its requires
-after_whole : (tree : Commands) → EachAsksIn IsOfWholes (after_requires tree) → EachAsksIn IsOfWholes tree
-after_whole no_commands each = each
-after_whole (command (require names) more) each = (tt, after_whole more each)
-after_whole (command (choose choice) more) each = each
-after_whole (command stop more) each = each
-after_whole (command (act action) more) each = each
+after_former : (tree : Commands) → EachAsksIn IsFormerCheck (after_requires tree) → EachAsksIn IsFormerCheck tree
+after_former no_commands each = each
+after_former (command (require names) more) each = (tt, after_former more each)
+after_former (command (choose choice) more) each = each
+after_former (command stop more) each = each
+after_former (command (act action) more) each = each
 
-valid_whole : (tree : Commands) → IsValidIn is_capability_of_wholes tree → EachAsksIn IsOfWholes tree
-valid_whole tree valid =
+valid_former : (tree : Commands) → IsValidIn is_former_capability tree → EachAsksIn IsFormerCheck tree × EachIn IsFormerAction tree
+valid_former tree valid =
     let names = required tree in
     let none = none_named (codes "subaddress") names (of_all _ _ no_subaddress names valid.known) in
-    after_whole tree (whole_commands (granted_by names) none (after_requires tree) valid.stand)
+    let no_box = none_named (codes "mailbox") names (of_all _ _ no_mailbox names valid.known) in (
+      after_former tree (former_commands (granted_by names) none no_box (after_requires tree) valid.stand),
+      after_each IsFormerAction tree (each_act IsFormerAction (granted_by names) (former_action (granted_by names) none no_box) (after_requires tree) valid.stand),
+    )
 
 -- ---- the outcome
 
@@ -346,16 +370,17 @@ still_means text tree means =
       same = λ truth. outcome_same before IsOfBefore cancelled_then truth tree (commands_run IsOfBefore truth tree plain);
     }
 
-pub means_wholes : (text : List ℕ) (tree : Commands) → MeansIn of_wholes text tree → MeansWholes text tree
-means_wholes text tree means =
-    let known = of_all _ _ known_of_wholes (required tree) means.valid.known in
+pub means_formerly : (text : List ℕ) (tree : Commands) → MeansIn former text tree → MeansFormerly text tree
+means_formerly text tree means =
+    let known = of_all _ _ known_formerly (required tree) means.valid.known in
     record {
       means = record {
         tokens = means.tokens;
         spelled = means.spelled;
-        read = read_today of_wholes (contents_of means.tokens) tree means.read;
+        read = read_today former (contents_of means.tokens) tree means.read;
         valid = record { known = known; stand = means.valid.stand; shallow = means.valid.shallow };
       };
-      checks = valid_whole tree means.valid;
+      checks = (valid_former tree means.valid).0;
+      actions = (valid_former tree means.valid).1;
       same = λ truth. todays_outcome truth tree;
     }

@@ -3,8 +3,8 @@ use Rattle.std.specs.Prelude.{◌≡◌, ℕ, Bool, false, ◌||◌, List, None}
 use Rattle.sievesyntax.specs.declared.tree.action.Action.{Action}
 use Rattle.sievesyntax.specs.declared.tree.action.Action.TheVariants.{Keep, Discard, FileInto, Redirect, Vacation}
 use Rattle.sievesyntax.specs.declared.tree.checks.Check.{Check}
-use Rattle.sievesyntax.specs.declared.tree.checks.Check.TheVariants.{Address, Envelope}
-use Rattle.sievesyntax.specs.Languages.{Language, before, of_wholes}
+use Rattle.sievesyntax.specs.declared.tree.checks.Check.TheVariants.{Address, Envelope, MailboxExists}
+use Rattle.sievesyntax.specs.Languages.{Language, before, former}
 use Rattle.sievesyntax.specs.Means.{Means}
 use Rattle.sievesyntax.specs.Meaning.{Outcome, ended, outcome}
 use Rattle.sievesyntax.specs.RunState.{RunState, at_first, Flow, Going, Stopped, Failed, performed}
@@ -50,11 +50,17 @@ abbrev mutual
   EachIn P no_commands = Unit {0}
   EachIn P (command first more) = EachAction P first × EachIn P more
 
--- a test that looks at no part of a local part (RFC 5233, 4)
-abbrev pub IsOfWholes : Check → Type 0
-IsOfWholes (Address address) = is_subaddress address.part ≡ false
-IsOfWholes (Envelope envelope) = is_subaddress envelope.part ≡ false
-IsOfWholes _ = Unit {0}
+-- a test that the former language had: it looks at no part of a local part (RFC 5233, 4), and asks for no mailbox (RFC 5490, 3.1)
+abbrev pub IsFormerCheck : Check → Type 0
+IsFormerCheck (Address address) = is_subaddress address.part ≡ false
+IsFormerCheck (Envelope envelope) = is_subaddress envelope.part ≡ false
+IsFormerCheck (MailboxExists names) = ⊥
+IsFormerCheck _ = Unit {0}
+
+-- an action that it had: without `:create`
+abbrev pub IsFormerAction : Action → Type 0
+IsFormerAction (FileInto filing) = filing.create ≡ false
+IsFormerAction _ = Unit {0}
 
 -- each test in a tree that looks at a message or its envelope is so
 abbrev mutual
@@ -85,14 +91,15 @@ abbrev mutual
   EachAsksIn P no_commands = Unit {0}
   EachAsksIn P (command first more) = EachAsks P first × EachAsksIn P more
 
--- the text means this tree, none of whose tests looks at a part of a local part, and on every mail it comes to what it came to before
-pub record MeansWholes (text : List ℕ) (tree : Commands) : Type 0 where
-  pub means : Means text tree
-  pub checks : EachAsksIn IsOfWholes tree
-  pub same : (truth : Check → Bool) → outcome truth tree ≡ outcome_in of_wholes truth tree
-
 -- the text means this tree, which has neither `:copy` nor seconds, and on every mail it comes to what it came to before
 pub record StillMeans (text : List ℕ) (tree : Commands) : Type 0 where
   pub means : Means text tree
   pub actions : EachIn IsOfBefore tree
   pub same : (truth : Check → Bool) → outcome truth tree ≡ outcome_in before truth tree
+
+-- the text means this tree, which has former tests and actions alone, and on every mail it comes to what it came to before
+pub record MeansFormerly (text : List ℕ) (tree : Commands) : Type 0 where
+  pub means : Means text tree
+  pub checks : EachAsksIn IsFormerCheck tree
+  pub actions : EachIn IsFormerAction tree
+  pub same : (truth : Check → Bool) → outcome truth tree ≡ outcome_in former truth tree

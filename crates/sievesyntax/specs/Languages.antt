@@ -84,15 +84,16 @@ cancels_before (D.Vacation args) = false
 abbrev pub before : Language
 before = record { has = is_tag_before; knows = is_capability_before; cancels = cancels_before }
 
--- ---- the language before `:user` and `:detail` (RFC 5233)
+-- ---- the language before `subaddress` (RFC 5233) and `mailbox` (RFC 5490)
 
-abbrev pub is_tag_of_wholes : Tag → Bool
-is_tag_of_wholes T.User = false
-is_tag_of_wholes T.Detail = false
-is_tag_of_wholes _ = true
+abbrev pub is_former_tag : Tag → Bool
+is_former_tag T.User = false
+is_former_tag T.Detail = false
+is_former_tag T.Create = false
+is_former_tag _ = true
 
-abbrev pub is_capability_of_wholes : List ℕ → Bool
-is_capability_of_wholes name =
+abbrev pub is_former_capability : List ℕ → Bool
+is_former_capability name =
     is_named (codes "fileinto") name
     || (is_named (codes "envelope") name
     || (is_named (codes "vacation") name
@@ -101,6 +102,6 @@ is_capability_of_wholes name =
     || (is_named (codes "copy") name
     || is_named (codes "vacation-seconds") name)))))
 
--- actions cancelled what they cancel today; local parts were whole
-abbrev pub of_wholes : Language
-of_wholes = record { has = is_tag_of_wholes; knows = is_capability_of_wholes; cancels = cancels_today }
+-- actions cancelled what they cancel today
+abbrev pub former : Language
+former = record { has = is_former_tag; knows = is_former_capability; cancels = cancels_today }

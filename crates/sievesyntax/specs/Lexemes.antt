@@ -39,7 +39,8 @@ keyword_of name =
     (cond (same_name name (codes "header")) W.Header
     (cond (same_name name (codes "address")) W.Address
     (cond (same_name name (codes "envelope")) W.Envelope
-    W.Other)))))))))))))))))))
+    (cond (same_name name (codes "mailboxexists")) W.MailboxExists
+    W.Other))))))))))))))))))))
 
 -- the tag of this name
 abbrev pub tag_of : List ℕ → Tag
@@ -63,7 +64,8 @@ tag_of name =
     (cond (same_name name (codes "mime")) T.Mime
     (cond (same_name name (codes "handle")) T.Handle
     (cond (same_name name (codes "copy")) T.Copy
-    T.Other))))))))))))))))))
+    (cond (same_name name (codes "create")) T.Create
+    T.Other)))))))))))))))))))
 
 -- a word of the grammar (RFC 5228, 8.2)
 pub data Lexeme : Type 0 where

@@ -7,7 +7,7 @@ use Rattle.sievesyntax.specs.declared.tree.action.Action.TheVariants.{Keep, Disc
 use Rattle.sievesyntax.specs.declared.tree.checks.AddressPart.{AddressPart}
 use Rattle.sievesyntax.specs.declared.tree.checks.AddressPart.TheVariants.{User, Detail}
 use Rattle.sievesyntax.specs.declared.tree.checks.Check.{Check}
-use Rattle.sievesyntax.specs.declared.tree.checks.Check.TheVariants.{Size, Exists, Header, Address, Envelope}
+use Rattle.sievesyntax.specs.declared.tree.checks.Check.TheVariants.{Size, Exists, Header, Address, Envelope, MailboxExists}
 use Rattle.sievesyntax.specs.declared.table.capability.Capabilities.{Capabilities}
 use Rattle.sievesyntax.specs.Reasons.{IsReason}
 use Rattle.sievesyntax.specs.Tree.{TestTree, yes, no, looks, not_of, all_of, any_of, Tests, no_tests, test, list_depth, not_depth, CommandTree, require, choose, stop, act, Branches, no_branches, branch, Commands, no_commands, command, depth}
@@ -32,7 +32,8 @@ is_capability name =
     || (is_named (codes "comparator-i;ascii-casemap") name
     || (is_named (codes "copy") name
     || (is_named (codes "vacation-seconds") name
-    || is_named (codes "subaddress") name))))))
+    || (is_named (codes "subaddress") name
+    || is_named (codes "mailbox") name)))))))
 
 abbrev pub IsCapability : List ℕ → Type 0
 IsCapability name = is_capability name ≡ true
@@ -46,6 +47,7 @@ granted_by names = record {
   copy = list_any (is_named (codes "copy")) names;
   seconds = list_any (is_named (codes "vacation-seconds")) names;
   subaddress = list_any (is_named (codes "subaddress")) names;
+  mailbox = list_any (is_named (codes "mailbox")) names;
 }
 
 -- `vacation` may be used: `vacation-seconds` stands for it too (RFC 6131, 2)
@@ -70,7 +72,7 @@ MayPart granted part = Permits granted.subaddress (is_subaddress part)
 abbrev pub MayAct : Capabilities → Action → Type 0
 MayAct granted Keep = Unit {0}
 MayAct granted Discard = Unit {0}
-MayAct granted (FileInto filing) = (granted.fileinto ≡ true) × Permits granted.copy filing.copy × IsMailbox filing.mailbox
+MayAct granted (FileInto filing) = (granted.fileinto ≡ true) × Permits granted.copy filing.copy × Permits granted.mailbox filing.create × IsMailbox filing.mailbox
 MayAct granted (Redirect redirect) = Permits granted.copy redirect.copy
 MayAct granted (Vacation args) = (may_answer granted ≡ true) × Permits granted.seconds (is_some args.seconds) × IsReason args
 
@@ -81,6 +83,7 @@ MayCheck granted (Exists fields) = Unit {0}
 MayCheck granted (Header header) = Unit {0}
 MayCheck granted (Address address) = MayPart granted address.part
 MayCheck granted (Envelope envelope) = (granted.envelope ≡ true) × MayPart granted envelope.part
+MayCheck granted (MailboxExists names) = granted.mailbox ≡ true
 
 -- a test that may stand where this is granted
 abbrev mutual

@@ -54,6 +54,7 @@ fn read_requires(
         copy: false,
         seconds: false,
         subaddress: false,
+        mailbox: false,
     };
     'found: while take_require(reader) {
         let names = read_names(alloc, reader)?;

@@ -2,12 +2,11 @@
 ghost use Rattle.std.specs.Prelude.{◌≡◌, ◌↔◌, IfOk, OnOk, IsTrue, All};
 ghost use Rattle.std.specs.List.{list_any};
 ghost use Rattle.sievesyntax.specs.Parsing.{IfFault};
-ghost use Rattle.sievesyntax.specs.Valid.{IsCapability, MayPart, is_named};
+ghost use Rattle.sievesyntax.specs.Valid.{IsCapability, Permits, is_named};
 ghost use Rattle.sievesyntax.specs.Valid as spec;
 ghost use Rattle.sievesyntax.specs.Steps.{granted_too};
 
 use crate::error::ReadError;
-use crate::tree::checks::AddressPart;
 use octets::Octets;
 use sievelex::FaultKind;
 
@@ -26,6 +25,8 @@ pub struct Capabilities {
     pub seconds: bool,
     /// `subaddress` (RFC 5233).
     pub subaddress: bool,
+    /// `mailbox` (RFC 5490).
+    pub mailbox: bool,
 }
 
 impl Capabilities {
@@ -35,13 +36,17 @@ impl Capabilities {
     {
         self.vacation || self.seconds
     }
+}
 
-    /// Whether a part of an address may be named.
-    pub(crate) fn may_part(&self, part: AddressPart) -> bool
-        ensures { IsTrue result ↔ MayPart self.now part }
-    {
-        self.subaddress || !part.is_subaddress()
+/// A fault where something is used that isn't granted.
+pub(crate) fn require(is_granted: bool, is_used: bool) -> Result<(), ReadError>
+    ensures granted { OnOk result (Permits is_granted is_used) }
+    ensures fault { IfFault result (Permits is_granted is_used → ⊥) }
+{
+    if is_used && !is_granted {
+        return Err(ReadError::Fault(FaultKind::NotRequired));
     }
+    Ok(())
 }
 
 /// What is granted with these capabilities besides.
@@ -60,6 +65,7 @@ pub(crate) fn grant(granted: Capabilities, names: &[Octets]) -> Result<Capabilit
         copy: granted.copy || is_there(names, b"copy"),
         seconds: granted.seconds || is_there(names, b"vacation-seconds"),
         subaddress: granted.subaddress || is_there(names, b"subaddress"),
+        mailbox: granted.mailbox || is_there(names, b"mailbox"),
     })
 }
 
@@ -87,4 +93,5 @@ fn is_capability(name: &[u8]) -> bool
         || name == b"copy".as_slice()
         || name == b"vacation-seconds".as_slice()
         || name == b"subaddress".as_slice()
+        || name == b"mailbox".as_slice()
 }

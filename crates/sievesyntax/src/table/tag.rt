@@ -26,6 +26,7 @@ pub enum Tag {
     Mime,
     Handle,
     Copy,
+    Create,
     /// A tag of no command and no test.
     Other,
 }
@@ -72,6 +73,8 @@ pub(crate) fn tag_named(name: &[u8]) -> Tag
         Tag::Handle
     } else if is_name(name, b"copy") {
         Tag::Copy
+    } else if is_name(name, b"create") {
+        Tag::Create
     } else {
         Tag::Other
     }

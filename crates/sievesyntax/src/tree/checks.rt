@@ -17,6 +17,8 @@ pub enum Check {
     Address(Address),
     /// `envelope` (RFC 5228, 5.4).
     Envelope(EnvelopeTest),
+    /// `mailboxexists`, with the names that have to be those of mailboxes, each of them (RFC 5490, 3.1).
+    MailboxExists(Texts),
 }
 
 /// The arguments of `size`: how the message's size has to stand to the limit, in octets.
