@@ -89,7 +89,7 @@ user-of : IsPartOf User (record { local = codes "a+b+c"; domain = codes "d" }) (
 user-of = inl (codes "b+c", record { cut = refl; first = refl })
 
 detail-of : IsPart Detail (codes "a+b+c@d") (codes "b+c")
-detail-of = (codes "a+b+c", (codes "d", (inl (record { cut = refl; last = refl }), (codes "a", record { cut = refl; first = refl }))))
+detail-of = (codes "a+b+c", codes "d", inl (record { cut = refl; last = refl }), (codes "a", record { cut = refl; first = refl }))
 
 cut-last-plus : CutsAtFirst (codes "a+b+c") (codes "a+b") (codes "c") → ⊥
 cut-last-plus at = let no : true ≡ false = at.first in cc

@@ -13,4 +13,4 @@ returns-in_err-address c =
 pub returns-in_err-require : goal.returns-in_err-require
 returns-in_err-require c =
     let p = err_from_is_err_and c.from_residual-in_err-require.result c.from_residual-in_err-require.ensures.1 in
-    rw (p.1, p.2, c.is_subaddress.ensures) (one_unfit (IsAddress c.args.args.now) (λ x. MayCheck c.args.granted (C.Address x)) _ c.in_ok-address.ensures.1 _ c.in_err-require.ensures.fault)
+    rw (p.1, p.2) (one_unfit (IsAddress c.args.args.now) (λ x. MayCheck c.args.granted (C.Address x)) _ c.in_ok-address.ensures.1 _ (rw c.is_subaddress.ensures at c.in_err-require.ensures.fault))
