@@ -1,7 +1,7 @@
 -- The definitions at a few mails: what they fit, and what is near it that they don't.
-use Rattle.std.proofs.Common.{◌≡◌, lit<, true, false, inl, inr, [], ◌∷◌, ◌++◌, codes, refl, arith}
+use Rattle.std.proofs.Common.{◌≡◌, lit<, true, false, Some, None, inl, inr, [], ◌∷◌, ◌++◌, codes, refl, arith}
 use Rattle.sievesyntax.specs.declared.tree.checks.Matching.TheVariants.{Is, Contains}
-use Rattle.sievesyntax.specs.declared.tree.checks.AddressPart.TheVariants.{LocalPart, Domain}
+use Rattle.sievesyntax.specs.declared.tree.checks.AddressPart.TheVariants.{LocalPart, Domain, User, Detail}
 use Rattle.sievesyntax.specs.declared.tree.checks.AddressPart.TheVariants as part
 use Rattle.sievesyntax.specs.declared.tree.checks.Bound.TheVariants.{Over, Under}
 use Rattle.sievesyntax.specs.declared.tree.checks.Collation.TheVariants.{Octet, AsciiCasemap}
@@ -11,7 +11,7 @@ use Rattle.addrparts.specs.Reading as reading
 use Rattle.addrparts.proofs.Lists.{addrs-are}
 use Rattle.sieveexec.specs.Mails.{MailSpec, mail_of, values_of, text_shown, has_addresses, addresses_of}
 use Rattle.sieveexec.specs.Matches.{matches_key, matches_some, image_by}
-use Rattle.sieveexec.specs.Parts.{part_of, Cuts, CutsAtLast, IsPart, part_in}
+use Rattle.sieveexec.specs.Parts.{CutsAtFirst, IsPartOf, part_of, Cuts, CutsAtLast, IsPart, part_in}
 use Rattle.sieveexec.specs.Holding.{IsBeyond, IsNamed, SomeAddress}
 
 -- "To: a@b", LF, "to: c", LF, from `x@y@z` to nobody
@@ -70,16 +70,36 @@ cut-first at = let no : true ≡ false = at.last in cc
 bare-domain : IsPart Domain (codes "root") []
 bare-domain = (codes "root", inr (record { whole = refl; none = refl; bare = refl }))
 
-bare-local : part_in LocalPart (codes "root") ≡ codes "root"
+bare-local : part_in LocalPart (codes "root") ≡ Some (codes "root")
 bare-local = refl
 
--- each part of the null reverse-path is empty
-null-parts : (part_in part.All [] ≡ []) × ((part_in LocalPart [] ≡ []) × (part_in Domain [] ≡ []))
-null-parts = (refl, (refl, refl))
+-- each part of the null reverse-path is empty, and it has no detail
+null-parts : (part_in part.All [] ≡ Some []) × ((part_in LocalPart [] ≡ Some []) × ((part_in Domain [] ≡ Some []) × (part_in User [] ≡ Some [])))
+null-parts = (refl, (refl, (refl, refl)))
+
+null-detail : part_in Detail [] ≡ None
+null-detail = refl
 
 -- the parts of an address of a field
-parts-of : part_of part.All (record { local = codes "a"; domain = codes "b" }) ≡ codes "a@b"
+parts-of : part_of part.All (record { local = codes "a"; domain = codes "b" }) ≡ Some (codes "a@b")
 parts-of = refl
+
+-- a local part is cut at its first `+`, and not at its last
+user-of : IsPartOf User (record { local = codes "a+b+c"; domain = codes "d" }) (codes "a")
+user-of = inl (codes "b+c", record { cut = refl; first = refl })
+
+detail-of : IsPart Detail (codes "a+b+c@d") (codes "b+c")
+detail-of = (codes "a+b+c", codes "d", inl (record { cut = refl; last = refl }), (codes "a", record { cut = refl; first = refl }))
+
+cut-last-plus : CutsAtFirst (codes "a+b+c") (codes "a+b") (codes "c") → ⊥
+cut-last-plus at = let no : true ≡ false = at.first in cc
+
+-- a detail may be empty; without `+` there is none, and the user is the whole local part
+empty-detail : part_in Detail (codes "a+@d") ≡ Some []
+empty-detail = refl
+
+no-detail : (part_of Detail (record { local = codes "a"; domain = codes "b+c" }) ≡ None) × (part_of User (record { local = codes "a"; domain = codes "b+c" }) ≡ Some (codes "a"))
+no-detail = (refl, refl)
 
 -- a size that is the limit is neither over nor under it
 beyond-over : IsBeyond Over 4000 3999

@@ -1,26 +1,29 @@
 -- The truth of a test is whether it holds.
-use Rattle.std.proofs.Common.{◌≡◌, ◌≢◌, ℕ, Bool, true, false, cond, ◌||◌, ◌⊎◌, inl, inr, List, [], ◌∷◌, refl, sym, ap, ◌∙◌, subst}
+use Rattle.std.proofs.Common.{◌≡◌, ◌≢◌, ◌≤◌, ◌↔◌, length, ℕ, Bool, true, false, cond, ◌||◌, ◌⊎◌, inl, inr, List, [], ◌∷◌, Option, Some, None, refl, sym, ap, ◌∙◌, subst, arith}
 use Rattle.std.specs.Bool.{Decides}
-use Rattle.std.specs.List.{list_any, flat_map, Any}
+use Rattle.std.specs.List.{list_any, list_all, flat_map, Any, All}
 use Rattle.std.proofs.lemmas.List.Folds.{list_any-append}
-use Rattle.std.proofs.lemmas.Bool.Decides.{Decides-and, Decides-or, Decides-ltb}
+use Rattle.std.proofs.lemmas.Bool.Decides.{Decides-and, Decides-or, Decides-not, Decides-eqb, Decides-ltb, same_from_decides}
 use Rattle.sievesyntax.specs.declared.tree.checks.Bound.{Bound}
 use Rattle.sievesyntax.specs.declared.tree.checks.Bound.TheVariants.{Over, Under}
+use Rattle.sievesyntax.specs.declared.tree.checks.Collation.{Collation}
+use Rattle.sievesyntax.specs.declared.tree.checks.Matching.{Matching}
 use Rattle.sievesyntax.specs.declared.tree.checks.EnvelopeTest.{EnvelopeTest}
 use Rattle.sievesyntax.specs.declared.tree.checks.Check.{Check}
-use Rattle.sievesyntax.specs.declared.tree.checks.Check.TheVariants.{Size, Exists, Header, Address, Envelope}
+use Rattle.sievesyntax.specs.declared.tree.checks.Check.TheVariants.{Size, Exists, Header, Address, Envelope, MailboxExists}
+use Rattle.sievesyntax.specs.Valid.{IsMailbox}
 use Rattle.addrparts.specs.declared.address.Addr.{Addr}
 use Rattle.addrparts.specs.Parts.{AreAddresses}
 use Rattle.addrparts.specs.Reading.{addrs}
 use Rattle.addrparts.proofs.Lists.{addrs-are, addrs-only}
 use Rattle.sieveexec.specs.Mails.{MailSpec, values_of, texts_of, has_addresses, addresses_of}
 use Rattle.sieveexec.specs.Matches.{MatchesSome}
-use Rattle.sieveexec.specs.Parts.{part_of, IsPart, part_in}
+use Rattle.sieveexec.specs.Parts.{IsPartOf, part_of, IsPart, part_in}
 use Rattle.sieveexec.specs.Holding.{IsBeyond, IsNamed, SomeAddress, TestHolds}
-use Rattle.sieveexec.specs.Truth.{is_beyond, is_some_there, envelope_matches, truth_at}
+use Rattle.sieveexec.specs.Truth.{is_beyond, is_some_of, is_mailbox, is_some_there, part_matches, envelope_matches, truth_at}
 use Rattle.sieveexec.proofs.Decisions.{decides_as, any_decides, all_decides}
 use Rattle.sieveexec.proofs.MatchLemmas.{matches_some_decides}
-use Rattle.sieveexec.proofs.PartLemmas.{part_is, part_only}
+use Rattle.sieveexec.proofs.PartLemmas.{given, part_of_is, part_of_only, part_is, part_only}
 
 beyond_decides : (bound : Bound) (size limit : ℕ) → Decides (is_beyond bound size limit) (IsBeyond bound size limit)
 beyond_decides Over size limit = Decides-ltb limit size
@@ -30,20 +33,37 @@ there_decides : (some : List (List ℕ)) → Decides (is_some_there some) (some 
 there_decides [] = (λ h. absurd (let no : ⊥ = cc in no), λ present. absurd (present refl))
 there_decides (one ∷ more) = (λ h same. let no : ⊥ = cc in no, λ present. refl)
 
+-- a part matches: the one that is found, where those that are and it are one
+module _ (collation : Collation) (matching : Matching) (keys : List (List ℕ)) (part : Option (List ℕ)) (Is : List ℕ → Type 0)
+    (is : (found : List ℕ) → part ≡ Some found → Is found) (only : (one : List ℕ) → Is one → part ≡ Some one) where
+  abbrev SomePart : Type 0
+  SomePart = (one : List ℕ) × Is one × MatchesSome collation matching keys one
+
+  part_decides : Decides (part_matches collation matching keys part) SomePart
+  part_decides = split part refl
+    where
+      split : (o : Option (List ℕ)) → part ≡ o → Decides (part_matches collation matching keys part) SomePart
+      split None none = subst (λ (o : Option (List ℕ)). Decides (part_matches collation matching keys o) SomePart) (sym none)
+          (λ h. absurd (cc h), λ (one, there, h). let no : None ≡ Some one = sym none ∙ only one there in absurd (cc no))
+      split (Some found) some = subst (λ (o : Option (List ℕ)). Decides (part_matches collation matching keys o) SomePart) (sym some)
+          (decides_as _ (λ h. (found, is found some, h))
+          (λ (one, there, h). given (MatchesSome collation matching keys) one found (sym (only one there) ∙ some) h)
+          (matches_some_decides collation matching keys found))
+
 -- a part of an address of the envelope matches
 abbrev Part : EnvelopeTest → List ℕ → Type 0
-Part test address = MatchesSome test.comparator test.matching test.keys (part_in test.part address)
+Part test address = (part : List ℕ) × IsPart test.part address part × MatchesSome test.comparator test.matching test.keys part
 
 matching_decides : (test : EnvelopeTest) (address : List ℕ) → Decides (envelope_matches test address) (Part test address)
-matching_decides test address = matches_some_decides test.comparator test.matching test.keys (part_in test.part address)
+matching_decides test address =
+    part_decides test.comparator test.matching test.keys (part_in test.part address) (IsPart test.part address) (part_is test.part address) (part_only test.part address)
 
 named : (mail : MailSpec) (test : EnvelopeTest) → ((test.parts.from ≡ true) × Part test mail.from) ⊎ ((test.parts.to ≡ true) × Part test mail.to) → TestHolds mail (Envelope test)
-named mail test (inl (asked, matches)) = (mail.from, part_in test.part mail.from, inl (asked, refl), part_is test.part mail.from, matches)
-named mail test (inr (asked, matches)) = (mail.to, part_in test.part mail.to, inr (asked, refl), part_is test.part mail.to, matches)
+named mail test (inl (asked, (part, is, matches))) = (mail.from, part, inl (asked, refl), is, matches)
+named mail test (inr (asked, (part, is, matches))) = (mail.to, part, inr (asked, refl), is, matches)
 
 part_there : (test : EnvelopeTest) (address one part : List ℕ) → one ≡ address → IsPart test.part one part → MatchesSome test.comparator test.matching test.keys part → Part test address
-part_there test address one part same is matches =
-    subst (λ (a : List ℕ). Part test a) same (subst (MatchesSome test.comparator test.matching test.keys) (part_only test.part one part is) matches)
+part_there test address one part same is matches = (part, subst (λ (a : List ℕ). IsPart test.part a part) same is, matches)
 
 asked_for : (mail : MailSpec) (test : EnvelopeTest) (one part : List ℕ) → IsNamed test.parts mail one → IsPart test.part one part → MatchesSome test.comparator test.matching test.keys part
     → ((test.parts.from ≡ true) × Part test mail.from) ⊎ ((test.parts.to ≡ true) × Part test mail.to)
@@ -71,6 +91,23 @@ module _ (p : Addr → Bool) (P : Addr → Type 0) (each : (one : Addr) → Deci
       split true has = decides_as _ (λ any. record { fields = has; there = any }) (λ some. some.there) (in_values (values_of mail name))
       split false has = (λ none. absurd (cc none), λ some. let no : false ≡ true = sym has ∙ some.fields in absurd (cc no))
 
+some_decides_of : (name : List ℕ) → Decides (is_some_of name) (name ≢ [])
+some_decides_of [] = (λ h. absurd (cc h), λ some. absurd (some refl))
+some_decides_of (octet ∷ rest) = (λ h same. let no : ⊥ = cc in no, λ some. refl)
+
+-- whether a text is the name of a mailbox
+mailbox_decides : (name : List ℕ) → Decides (is_mailbox name) (IsMailbox name)
+mailbox_decides name =
+    decides_as _ (λ (some, rest). record { some = some; short = rest.0; plain = rest.1 }) (λ is. (is.some, (is.short, is.plain)))
+    (Decides-and _ _ (some_decides_of name)
+    (Decides-and _ _ (decides_as _ (λ below. omega (arith, below)) (λ most. omega (arith, most)) (Decides-ltb (length name) 256))
+    (all_decides _ (λ octet. (32 ≤ octet) × (octet ≢ 127))
+    (λ octet. Decides-and _ _ (decides_as _ (λ above. omega (arith, above)) (λ least. omega (arith, least)) (Decides-ltb 31 octet)) (Decides-not _ (Decides-eqb octet 127))) name)))
+
+-- the names of `mailboxexists`, by another test of them
+pub mailboxes_same : (result : Bool) (names : List (List ℕ)) → (result ≡ true) ↔ All IsMailbox names → result ≡ list_all is_mailbox names
+mailboxes_same result names is = same_from_decides result (list_all is_mailbox names) (is.0, is.1) (all_decides is_mailbox IsMailbox mailbox_decides names)
+
 is_asked : (asked : Bool) → Decides asked (asked ≡ true)
 is_asked asked = (λ h. h, λ h. h)
 
@@ -81,7 +118,9 @@ truth_decides mail (Exists names) = all_decides (λ name. is_some_there (values_
 truth_decides mail (Header header) =
     any_decides _ _ (λ name. any_decides _ _ (matches_some_decides header.comparator header.matching header.keys) (texts_of mail name)) header.fields
 truth_decides mail (Address address) =
-    any_decides _ _ (λ name. some_decides _ _ (λ one. matches_some_decides address.comparator address.matching address.keys (part_of address.part one)) mail name) address.fields
+    any_decides _ _ (λ name. some_decides _ _ (λ one.
+    part_decides address.comparator address.matching address.keys (part_of address.part one) (IsPartOf address.part one) (part_of_is address.part one) (part_of_only address.part one)) mail name) address.fields
+truth_decides mail (MailboxExists names) = all_decides is_mailbox IsMailbox mailbox_decides names
 truth_decides mail (Envelope test) =
     decides_as _ (named mail test) (λ (one, part, name, is, matches). asked_for mail test one part name is matches)
     (Decides-or _ _

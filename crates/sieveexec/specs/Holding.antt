@@ -5,12 +5,13 @@ use Rattle.sievesyntax.specs.declared.tree.checks.Bound.{Bound}
 use Rattle.sievesyntax.specs.declared.tree.checks.Bound.TheVariants.{Over, Under}
 use Rattle.sievesyntax.specs.declared.tree.checks.EnvelopeParts.{EnvelopeParts}
 use Rattle.sievesyntax.specs.declared.tree.checks.Check.{Check}
-use Rattle.sievesyntax.specs.declared.tree.checks.Check.TheVariants.{Size, Exists, Header, Address, Envelope}
+use Rattle.sievesyntax.specs.declared.tree.checks.Check.TheVariants.{Size, Exists, Header, Address, Envelope, MailboxExists}
+use Rattle.sievesyntax.specs.Valid.{IsMailbox}
 use Rattle.addrparts.specs.declared.address.Addr.{Addr}
 use Rattle.addrparts.specs.Parts.{AreAddresses}
 use Rattle.sieveexec.specs.Mails.{MailSpec, values_of, texts_of, has_addresses}
 use Rattle.sieveexec.specs.Matches.{MatchesSome}
-use Rattle.sieveexec.specs.Parts.{IsPart, part_of}
+use Rattle.sieveexec.specs.Parts.{IsPart, IsPartOf}
 
 -- a size over or under a limit; one that is the limit is neither (RFC 5228, 5.9)
 abbrev pub IsBeyond : Bound → ℕ → ℕ → Type 0
@@ -27,14 +28,16 @@ pub record SomeAddress (mail : MailSpec) (name : List ℕ) (P : Addr → Type 0)
   pub fields : has_addresses name ≡ true
   pub there : Any (λ value. (found : List Addr) × AreAddresses value found × Any P found) (values_of mail name)
 
--- a test that looks at the message or its envelope holds (RFC 5228, 5.1, 5.4, 5.5, 5.7, 5.9)
+-- a test that looks at the message, its envelope or mailboxes holds (RFC 5228, 5.1, 5.4, 5.5, 5.7, 5.9). Each mailbox is there, for a
+-- message can be filed into it (RFC 5490, 3.1)
 abbrev pub TestHolds : MailSpec → Check → Type 0
 TestHolds mail (Size size) = IsBeyond size.bound mail.size size.limit
 TestHolds mail (Exists names) = All (λ name. values_of mail name ≢ []) names
 TestHolds mail (Header header) =
     Any (λ name. Any (MatchesSome header.comparator header.matching header.keys) (texts_of mail name)) header.fields
 TestHolds mail (Address address) =
-    Any (λ name. SomeAddress mail name (λ one. MatchesSome address.comparator address.matching address.keys (part_of address.part one))) address.fields
+    Any (λ name. SomeAddress mail name (λ one. (part : List ℕ) × IsPartOf address.part one part × MatchesSome address.comparator address.matching address.keys part)) address.fields
+TestHolds mail (MailboxExists names) = All IsMailbox names
 TestHolds mail (Envelope envelope) =
     (one : List ℕ) × (part : List ℕ) × IsNamed envelope.parts mail one × IsPart envelope.part one part
     × MatchesSome envelope.comparator envelope.matching envelope.keys part

@@ -1,16 +1,63 @@
--- The parts of an address (RFC 5228, 2.7.4).
-use Rattle.std.specs.Prelude.{◌≡◌, ◌==◌, ℕ, Bool, false, ◌&&◌, ◌⊎◌, not, cond, List, [], ◌∷◌, ◌++◌}
+-- The parts of an address (RFC 5228, 2.7.4), and those of its local part (RFC 5233, 4).
+use Rattle.std.specs.Prelude.{◌≡◌, ◌==◌, ℕ, Bool, false, ◌&&◌, ◌⊎◌, not, cond, List, [], ◌∷◌, ◌++◌, Option, Some, None}
 use Rattle.std.specs.List.{list_any}
 use Rattle.addrparts.specs.declared.address.Addr.{Addr}
 use Rattle.addrparts.specs.Spelling.{all_of}
 use Rattle.sievesyntax.specs.declared.tree.checks.AddressPart.{AddressPart}
-use Rattle.sievesyntax.specs.declared.tree.checks.AddressPart.TheVariants.{All, LocalPart, Domain}
+use Rattle.sievesyntax.specs.declared.tree.checks.AddressPart.TheVariants.{All, LocalPart, Domain, User, Detail}
 
--- a part of an address of a field
-abbrev pub part_of : AddressPart → Addr → List ℕ
-part_of All address = all_of address
-part_of LocalPart address = address.local
-part_of Domain address = address.domain
+-- ---- user and detail of a local part
+
+-- `+`
+abbrev pub is_plus : ℕ → Bool
+is_plus octet = octet == 43
+
+-- whether a text has a `+`
+abbrev pub has_plus : List ℕ → Bool
+has_plus text = list_any is_plus text
+
+-- a local part is cut at its first `+`
+pub record CutsAtFirst (local user detail : List ℕ) : Type 0 where
+  pub cut : local ≡ user ++ 43 ∷ detail
+  pub first : has_plus user ≡ false
+
+-- the user of a local part: what stands before its first `+`, or all of it where it has none
+abbrev pub IsUser : List ℕ → List ℕ → Type 0
+IsUser local user = ((detail : List ℕ) × CutsAtFirst local user detail) ⊎ ((user ≡ local) × (has_plus local ≡ false))
+
+-- the detail of a local part: what stands after its first `+`; a local part without one has none
+abbrev pub IsDetail : List ℕ → List ℕ → Type 0
+IsDetail local detail = (user : List ℕ) × CutsAtFirst local user detail
+
+-- the user of a local part: the one that is in IsUser with it
+abbrev pub user_of : List ℕ → List ℕ
+user_of [] = []
+user_of (octet ∷ rest) = cond (is_plus octet) [] (octet ∷ user_of rest)
+
+-- its detail, if it has one: the one that is in IsDetail with it
+abbrev pub detail_of : List ℕ → Option (List ℕ)
+detail_of [] = None
+detail_of (octet ∷ rest) = cond (is_plus octet) (Some rest) (detail_of rest)
+
+-- ---- an address of a field
+
+-- a part of it
+abbrev pub IsPartOf : AddressPart → Addr → List ℕ → Type 0
+IsPartOf All address part = part ≡ all_of address
+IsPartOf LocalPart address part = part ≡ address.local
+IsPartOf Domain address part = part ≡ address.domain
+IsPartOf User address part = IsUser address.local part
+IsPartOf Detail address part = IsDetail address.local part
+
+-- the part that is in IsPartOf with it, if there is one
+abbrev pub part_of : AddressPart → Addr → Option (List ℕ)
+part_of All address = Some (all_of address)
+part_of LocalPart address = Some address.local
+part_of Domain address = Some address.domain
+part_of User address = Some (user_of address.local)
+part_of Detail address = detail_of address.local
+
+-- ---- an address of the envelope
 
 -- `@`
 abbrev pub is_at : ℕ → Bool
@@ -46,14 +93,22 @@ abbrev pub domain_of : List ℕ → List ℕ
 domain_of [] = []
 domain_of (octet ∷ rest) = cond (has_at rest) (domain_of rest) (cond (is_at octet) rest [])
 
+-- a local part of an address of the envelope that this holds of
+abbrev pub InLocal : (List ℕ → Type 0) → List ℕ → Type 0
+InLocal P text = (local : List ℕ) × (domain : List ℕ) × Cuts text local domain × P local
+
 -- a part of an address of the envelope
 abbrev pub IsPart : AddressPart → List ℕ → List ℕ → Type 0
 IsPart All text part = part ≡ text
 IsPart LocalPart text part = (domain : List ℕ) × Cuts text part domain
 IsPart Domain text part = (local : List ℕ) × Cuts text local part
+IsPart User text part = InLocal (λ local. IsUser local part) text
+IsPart Detail text part = InLocal (λ local. IsDetail local part) text
 
--- the part of an address of the envelope: the one that is in IsPart with it
-abbrev pub part_in : AddressPart → List ℕ → List ℕ
-part_in All text = text
-part_in LocalPart text = local_of text
-part_in Domain text = domain_of text
+-- the part of an address of the envelope that is in IsPart with it, if there is one
+abbrev pub part_in : AddressPart → List ℕ → Option (List ℕ)
+part_in All text = Some text
+part_in LocalPart text = Some (local_of text)
+part_in Domain text = Some (domain_of text)
+part_in User text = Some (user_of (local_of text))
+part_in Detail text = detail_of (local_of text)

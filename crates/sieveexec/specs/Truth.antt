@@ -1,13 +1,15 @@
 -- The truth of tests at a mail: true exactly where the test holds (`truth_of_a_check` of laws.rt).
-use Rattle.std.specs.Prelude.{ℕ, Bool, true, false, ◌&&◌, ◌||◌, nat_lt, List, [], ◌∷◌}
+use Rattle.std.specs.Prelude.{◌==◌, ℕ, Bool, true, false, not, ◌&&◌, ◌||◌, nat_lt, length, List, [], ◌∷◌, Option, Some, None}
 use Rattle.std.specs.List.{list_any, list_all}
 use Rattle.sievesyntax.specs.declared.tree.checks.Bound.{Bound}
 use Rattle.sievesyntax.specs.declared.tree.checks.Bound.TheVariants.{Over, Under}
 use Rattle.sievesyntax.specs.declared.tree.checks.Header.{Header as HeaderTest}
 use Rattle.sievesyntax.specs.declared.tree.checks.Address.{Address as AddressTest}
 use Rattle.sievesyntax.specs.declared.tree.checks.EnvelopeTest.{EnvelopeTest}
+use Rattle.sievesyntax.specs.declared.tree.checks.Collation.{Collation}
+use Rattle.sievesyntax.specs.declared.tree.checks.Matching.{Matching}
 use Rattle.sievesyntax.specs.declared.tree.checks.Check.{Check}
-use Rattle.sievesyntax.specs.declared.tree.checks.Check.TheVariants.{Size, Exists, Header, Address, Envelope}
+use Rattle.sievesyntax.specs.declared.tree.checks.Check.TheVariants.{Size, Exists, Header, Address, Envelope, MailboxExists}
 use Rattle.addrparts.specs.declared.address.Addr.{Addr}
 use Rattle.sieveexec.specs.Mails.{MailSpec, values_of, texts_of, addresses_of}
 use Rattle.sieveexec.specs.Matches.{matches_some}
@@ -17,6 +19,15 @@ use Rattle.sieveexec.specs.Parts.{part_of, part_in}
 abbrev pub is_beyond : Bound → ℕ → ℕ → Bool
 is_beyond Over size limit = nat_lt limit size
 is_beyond Under size limit = nat_lt size limit
+
+-- whether a text isn't empty
+abbrev pub is_some_of : List ℕ → Bool
+is_some_of [] = false
+is_some_of (octet ∷ rest) = true
+
+-- whether a text is the name of a mailbox
+abbrev pub is_mailbox : List ℕ → Bool
+is_mailbox name = is_some_of name && (nat_lt (length name) 256 && list_all (λ octet. nat_lt 31 octet && not (octet == 127)) name)
 
 -- whether there are some
 abbrev pub is_some_there : List (List ℕ) → Bool
@@ -35,9 +46,14 @@ text_matches header text = matches_some header.comparator header.matching header
 abbrev pub header_holds : MailSpec → HeaderTest → Bool
 header_holds mail header = list_any (λ name. list_any (text_matches header) (texts_of mail name)) header.fields
 
+-- whether there is a part and it matches a key
+abbrev pub part_matches : Collation → Matching → List (List ℕ) → Option (List ℕ) → Bool
+part_matches collation matching keys None = false
+part_matches collation matching keys (Some part) = matches_some collation matching keys part
+
 -- whether the part of an address matches a key of `address`
 abbrev pub address_matches : AddressTest → Addr → Bool
-address_matches address one = matches_some address.comparator address.matching address.keys (part_of address.part one)
+address_matches address one = part_matches address.comparator address.matching address.keys (part_of address.part one)
 
 -- whether `address` holds
 abbrev pub address_holds : MailSpec → AddressTest → Bool
@@ -45,7 +61,7 @@ address_holds mail address = list_any (λ name. list_any (address_matches addres
 
 -- whether a part of an address of the envelope matches a key of the test
 abbrev pub envelope_matches : EnvelopeTest → List ℕ → Bool
-envelope_matches test address = matches_some test.comparator test.matching test.keys (part_in test.part address)
+envelope_matches test address = part_matches test.comparator test.matching test.keys (part_in test.part address)
 
 -- whether `envelope` holds
 abbrev pub envelope_holds : MailSpec → EnvelopeTest → Bool
@@ -59,3 +75,4 @@ truth_at mail (Exists names) = all_exist mail names
 truth_at mail (Header header) = header_holds mail header
 truth_at mail (Address address) = address_holds mail address
 truth_at mail (Envelope test) = envelope_holds mail test
+truth_at mail (MailboxExists names) = list_all is_mailbox names

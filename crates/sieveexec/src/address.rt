@@ -97,14 +97,24 @@ fn address_matches(address: &Address, found: &[JoinedAddress]) -> bool
     ensures { result ≡ list_any (address_matches address.now) found.now }
 {
     for one in found {
-        if matches_some(
-            address.comparator,
-            address.matching,
-            address.keys.as_slice(),
-            one.part(address.part),
-        ) {
+        if one_matches(address, one) {
             return true;
         }
     }
     false
+}
+
+/// Whether the part of an address is there and matches some key.
+fn one_matches(address: &Address, one: &JoinedAddress) -> bool
+    ensures { result ≡ address_matches address.now one.now }
+{
+    match one.part(address.part) {
+        Some(part) => matches_some(
+            address.comparator,
+            address.matching,
+            address.keys.as_slice(),
+            part,
+        ),
+        None => false,
+    }
 }

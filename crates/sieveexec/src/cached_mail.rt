@@ -1,5 +1,6 @@
 //! What the tests of a run look at.
-ghost use Rattle.std.specs.Prelude.{◌≡◌, IfOk};
+ghost use Rattle.std.specs.Prelude.{◌≡◌, ◌↔◌, All, IsTrue, IfOk};
+ghost use Rattle.sievesyntax.specs.Valid.{IsMailbox};
 ghost use Rattle.sieveexec.specs.Truth.{truth_at, envelope_holds, envelope_matches};
 
 use crate::envelope::part_in;
@@ -7,8 +8,8 @@ use crate::field_cache::FieldCache;
 use crate::joined_address::JoinedAddress;
 use crate::mail::Mail;
 use crate::matching::matches_some;
-use octets::{List, Texts};
-use sievesyntax::{Check, EnvelopeTest};
+use octets::{List, Octets, Texts};
+use sievesyntax::{Check, EnvelopeTest, is_mailbox};
 use std::alloc::{AllocError, Global};
 use std::marker::Model;
 
@@ -44,7 +45,7 @@ impl<'m, 'a> CachedMail<'m, 'a> {
         }
     }
 
-    /// Whether a test that looks at the message or its envelope holds (RFC 5228, 5.1, 5.4, 5.5, 5.7, 5.9).
+    /// Whether a test that looks at the message or its envelope holds (RFC 5228, 5.1, 5.4, 5.5, 5.7, 5.9; RFC 5490, 3.1).
     ///
     /// A value is compared with each key: the time is that of `is`, `contains` or `matches` for each pair, and where a
     /// test is the first to ask for a field, linear in the field's values besides.
@@ -58,8 +59,16 @@ impl<'m, 'a> CachedMail<'m, 'a> {
             Check::Header(header) => self.texts.holds(alloc, header),
             Check::Address(address) => self.addresses.holds(alloc, address),
             Check::Envelope(test) => Ok(envelope_holds(self.mail, test)),
+            Check::MailboxExists(names) => Ok(are_mailboxes(names.as_slice())),
         }
     }
+}
+
+/// Whether each name is that of a mailbox, for each such mailbox is there once something is filed into it. Linear; takes no memory.
+fn are_mailboxes(names: &[Octets]) -> bool
+    ensures { IsTrue result ↔ All IsMailbox names.now }
+{
+    names.iter().all(|name| is_mailbox(name.as_slice()))
 }
 
 /// Whether `envelope` holds (RFC 5228, 5.4).
@@ -70,14 +79,12 @@ fn envelope_holds(mail: &Mail<'_>, test: &EnvelopeTest) -> bool
         || (test.parts.to && address_matches(test, mail.to()))
 }
 
-/// Whether the part of an address of the envelope matches some key.
+/// Whether the part of an address of the envelope is there and matches some key.
 fn address_matches(test: &EnvelopeTest, address: &[u8]) -> bool
     ensures { result ≡ envelope_matches test.now address.now }
 {
-    matches_some(
-        test.comparator,
-        test.matching,
-        test.keys.as_slice(),
-        part_in(test.part, address),
-    )
+    match part_in(test.part, address) {
+        Some(part) => matches_some(test.comparator, test.matching, test.keys.as_slice(), part),
+        None => false,
+    }
 }

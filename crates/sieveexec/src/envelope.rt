@@ -1,7 +1,8 @@
 //! The envelope of a message.
-ghost use Rattle.std.specs.Prelude.{◌≡◌, IfOk};
+ghost use Rattle.std.specs.Prelude.{◌≡◌, None, Some, MatchOption, IfOk};
 ghost use Rattle.sieveexec.specs.Parts.{part_in, local_of, domain_of};
 
+use crate::local_part::{detail_in, user_in};
 use memchr::memrchr;
 use octets::Octets;
 use sievesyntax::AddressPart;
@@ -28,20 +29,24 @@ impl Envelope {
     }
 }
 
-/// A part of an address of the envelope, which is cut at its last `@` and is a local part alone where there is none.
+/// A part of an address of the envelope, which is cut at its last `@` and is a local part alone where there is none; None for
+/// the detail of a local part without `+`.
 ///
-/// The null reverse-path is empty under every part. Linear in the address; takes no memory.
-pub fn part_in(part: AddressPart, address: &[u8]) -> &[u8]
-    ensures { result.now ≡ part_in part address.now }
+/// The null reverse-path is empty under every other part. Linear in the address; takes no memory.
+pub(crate) fn part_in(part: AddressPart, address: &[u8]) -> Option<&[u8]>
+    ensures { MatchOption result (part_in part address.now ≡ None) (λ text. part_in part address.now ≡ Some text.now) }
 {
     match part {
-        AddressPart::All => address,
-        AddressPart::LocalPart => local_in(address),
-        AddressPart::Domain => domain_in(address),
+        AddressPart::All => Some(address),
+        AddressPart::LocalPart => Some(local_in(address)),
+        AddressPart::Domain => Some(domain_in(address)),
+        AddressPart::User => Some(user_in(local_in(address))),
+        AddressPart::Detail => detail_in(local_in(address)),
     }
 }
 
-fn local_in(address: &[u8]) -> &[u8]
+/// What stands before the last `@` of an address of the envelope, or all of it where it has none. Linear; takes no memory.
+pub fn local_in(address: &[u8]) -> &[u8]
     ensures { result.now ≡ local_of address.now }
 {
     match memrchr(b'@', address) {
@@ -50,7 +55,8 @@ fn local_in(address: &[u8]) -> &[u8]
     }
 }
 
-fn domain_in(address: &[u8]) -> &[u8]
+/// What stands after the last `@` of an address of the envelope; empty where it has none. Linear; takes no memory.
+pub fn domain_in(address: &[u8]) -> &[u8]
     ensures { result.now ≡ domain_of address.now }
 {
     match memrchr(b'@', address) {

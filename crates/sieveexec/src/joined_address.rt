@@ -1,7 +1,8 @@
 //! Addresses that are written out once.
-ghost use Rattle.std.specs.Prelude.{◌≡◌, ◌++◌, IfOk, OnOk};
+ghost use Rattle.std.specs.Prelude.{◌≡◌, ◌++◌, None, Some, MatchOption, IfOk, OnOk};
 ghost use Rattle.sieveexec.specs.Parts.{part_of};
 
+use crate::local_part::{detail_in, user_in};
 use addrparts::Addr;
 use octets::{List, Octets};
 use sievesyntax::AddressPart;
@@ -39,15 +40,17 @@ impl JoinedAddress {
         })
     }
 
-    /// A part of the address (RFC 5228, 2.7.4).
-    pub(crate) fn part(&self, part: AddressPart) -> &[u8]
-        ensures { result.now ≡ part_of part self.now }
+    /// A part of the address (RFC 5228, 2.7.4; RFC 5233, 4); None for the detail of a local part without `+`.
+    pub(crate) fn part(&self, part: AddressPart) -> Option<&[u8]>
+        ensures { MatchOption result (part_of part self.now ≡ None) (λ text. part_of part self.now ≡ Some text.now) }
     {
         let all = self.all.as_slice();
         match part {
-            AddressPart::All => all,
-            AddressPart::LocalPart => all.split_at(self.at).0,
-            AddressPart::Domain => all.split_at(self.at + 1).1,
+            AddressPart::All => Some(all),
+            AddressPart::LocalPart => Some(all.split_at(self.at).0),
+            AddressPart::Domain => Some(all.split_at(self.at + 1).1),
+            AddressPart::User => Some(user_in(all.split_at(self.at).0)),
+            AddressPart::Detail => detail_in(all.split_at(self.at).0),
         }
     }
 }

@@ -10,6 +10,7 @@ mod header;
 mod index;
 mod joined_address;
 pub mod laws;
+mod local_part;
 mod machine;
 mod mail;
 mod matching;
@@ -18,7 +19,7 @@ mod raw_values;
 mod run_state;
 
 pub use cached_mail::CachedMail;
-pub use envelope::{Envelope, part_in};
+pub use envelope::{Envelope, domain_in, local_in};
 pub use machine::run;
 pub use mail::Mail;
 pub use outcome::{Failure, Outcome};

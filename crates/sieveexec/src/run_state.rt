@@ -64,7 +64,7 @@ impl RunState {
                 self.cancelled = true;
                 Ok(None)
             }
-            Action::FileInto(FileInto { mailbox, copy }) => {
+            Action::FileInto(FileInto { mailbox, copy, .. }) => {
                 self.file_into(alloc, mailbox_named(mailbox.as_slice()), *copy)
             }
             Action::Redirect(Redirect { target, copy }) => self.send_to(alloc, target, *copy),

@@ -156,6 +156,7 @@ past_elsif (keyword W.AllOf ∷ _) past = tt
 past_elsif (keyword W.AnyOf ∷ _) past = tt
 past_elsif (keyword W.Size ∷ _) past = tt
 past_elsif (keyword W.Exists ∷ _) past = tt
+past_elsif (keyword W.MailboxExists ∷ _) past = tt
 past_elsif (keyword W.Header ∷ _) past = tt
 past_elsif (keyword W.Address ∷ _) past = tt
 past_elsif (keyword W.Envelope ∷ _) past = tt

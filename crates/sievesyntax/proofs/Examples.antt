@@ -125,7 +125,7 @@ no_mailbox is = is.some refl
 stop_valid : IsValid (command stop no_commands)
 stop_valid = record { known = λ k d below. absurd (omega (arith, below)); stand = (tt, tt); shallow = omega arith }
 
-fileinto_bare : IsValid (command (act (D.FileInto (record { mailbox = codes "a"; copy = false }))) no_commands) → ⊥
+fileinto_bare : IsValid (command (act (D.FileInto (record { mailbox = codes "a"; copy = false; create = false }))) no_commands) → ⊥
 fileinto_bare valid = let e : false ≡ true = valid.stand.0.0 in absurd (cc e)
 
 -- capabilities are compared by octets
@@ -146,10 +146,10 @@ block_depths : depth (command (choose (branch yes (command (choose (branch yes n
 block_depths = refl
 
 -- `fileinto "inbox"; keep; discard;` files into INBOX once; `Inbox ` is another mailbox
-inbox_once : (truth : Check → Bool) → outcome truth (command (act (D.FileInto (record { mailbox = codes "inbox"; copy = false }))) (command (act D.Keep) (command (act D.Discard) no_commands))) ≡ Done (record { filed = codes "INBOX" ∷ []; sent = []; reply = None })
+inbox_once : (truth : Check → Bool) → outcome truth (command (act (D.FileInto (record { mailbox = codes "inbox"; copy = false; create = false }))) (command (act D.Keep) (command (act D.Discard) no_commands))) ≡ Done (record { filed = codes "INBOX" ∷ []; sent = []; reply = None })
 inbox_once truth = refl
 
-inbox_twice : (truth : Check → Bool) → outcome truth (command (act (D.FileInto (record { mailbox = codes "Inbox "; copy = false }))) (command (act D.Keep) no_commands)) ≡ Done (record { filed = codes "Inbox " ∷ (codes "INBOX" ∷ []); sent = []; reply = None })
+inbox_twice : (truth : Check → Bool) → outcome truth (command (act (D.FileInto (record { mailbox = codes "Inbox "; copy = false; create = false }))) (command (act D.Keep) no_commands)) ≡ Done (record { filed = codes "Inbox " ∷ (codes "INBOX" ∷ []); sent = []; reply = None })
 inbox_twice truth = refl
 
 -- `redirect` of one address twice sends once, and nothing is kept
@@ -157,17 +157,17 @@ once : (truth : Check → Bool) → outcome truth (command (act (D.Redirect (rec
 once truth = refl
 
 -- `fileinto :copy "x";` keeps the message too (RFC 3894, 3.1); `fileinto "x";` doesn't
-copied : (truth : Check → Bool) → outcome truth (command (act (D.FileInto (record { mailbox = codes "x"; copy = true }))) no_commands) ≡ Done (record { filed = codes "x" ∷ (codes "INBOX" ∷ []); sent = []; reply = None })
+copied : (truth : Check → Bool) → outcome truth (command (act (D.FileInto (record { mailbox = codes "x"; copy = true; create = false }))) no_commands) ≡ Done (record { filed = codes "x" ∷ (codes "INBOX" ∷ []); sent = []; reply = None })
 copied truth = refl
 
-filed_alone : (truth : Check → Bool) → outcome truth (command (act (D.FileInto (record { mailbox = codes "x"; copy = false }))) no_commands) ≡ Done (record { filed = codes "x" ∷ []; sent = []; reply = None })
+filed_alone : (truth : Check → Bool) → outcome truth (command (act (D.FileInto (record { mailbox = codes "x"; copy = false; create = false }))) no_commands) ≡ Done (record { filed = codes "x" ∷ []; sent = []; reply = None })
 filed_alone truth = refl
 
 -- `redirect :copy "c@d"; discard;` keeps nothing: what is cancelled stays cancelled
 copied_and_discarded : (truth : Check → Bool) → outcome truth (command (act (D.Redirect (record { target = record { local = codes "c"; domain = codes "d" }; copy = true }))) (command (act D.Discard) no_commands)) ≡ Done (record { filed = []; sent = record { local = codes "c"; domain = codes "d" } ∷ []; reply = None })
 copied_and_discarded truth = refl
 
-discarded_and_copied : (truth : Check → Bool) → outcome truth (command (act D.Discard) (command (act (D.FileInto (record { mailbox = codes "x"; copy = true }))) no_commands)) ≡ Done (record { filed = codes "x" ∷ []; sent = []; reply = None })
+discarded_and_copied : (truth : Check → Bool) → outcome truth (command (act D.Discard) (command (act (D.FileInto (record { mailbox = codes "x"; copy = true; create = false }))) no_commands)) ≡ Done (record { filed = codes "x" ∷ []; sent = []; reply = None })
 discarded_and_copied truth = refl
 
 -- `vacation` keeps the message; a second one fails, after a `discard` too

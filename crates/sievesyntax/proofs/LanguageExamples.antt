@@ -30,15 +30,20 @@ use Rattle.sievesyntax.specs.declared.parser.argument.Argument.TheVariants as A
 use Rattle.sievesyntax.specs.Arguments.{AreArguments}
 use Rattle.sievesyntax.specs.Table.{IsPlainCommand}
 use Rattle.sievesyntax.specs.declared.tree.action.Action.TheVariants as D
+use Rattle.sievesyntax.specs.declared.tree.checks.AddressPart.{AddressPart}
+use Rattle.sievesyntax.specs.declared.tree.checks.AddressPart.TheVariants as H
+use Rattle.sievesyntax.specs.declared.tree.checks.Collation.TheVariants as L
+use Rattle.sievesyntax.specs.declared.tree.checks.Matching.TheVariants as M
 use Rattle.sievesyntax.specs.declared.tree.checks.Check.{Check}
+use Rattle.sievesyntax.specs.declared.tree.checks.Check.TheVariants as Q
 use Rattle.sievesyntax.specs.declared.tree.vacation.VacArgs.{VacArgs}
-use Rattle.sievesyntax.specs.Before.{outcome_in, IsOfBefore, EachIn}
+use Rattle.sievesyntax.specs.Before.{outcome_in, IsOfBefore, EachIn, IsFormerCheck, EachAsksIn}
 use Rattle.sievesyntax.specs.Grammar.{IsStatement, IsCommand, ReadsScript}
-use Rattle.sievesyntax.specs.Languages.{lexeme_in, lexemes_in, is_capability_before, today, before}
+use Rattle.sievesyntax.specs.Languages.{lexeme_in, lexemes_in, is_capability_before, today, before, former}
 use Rattle.sievesyntax.specs.Lexemes.{Lexeme, keyword, tag, number, text, mark, lexemes_of}
 use Rattle.sievesyntax.specs.Meaning.{Done}
 use Rattle.sievesyntax.specs.Means.{MeansIn, Means}
-use Rattle.sievesyntax.specs.Tree.{CommandTree, require, act, Commands, no_commands, command}
+use Rattle.sievesyntax.specs.Tree.{looks, CommandTree, require, choose, act, no_branches, branch, Commands, no_commands, command}
 use Rattle.sievesyntax.specs.Valid.{is_capability, IsValidIn}
 use Rattle.sievesyntax.proofs.LanguageLaws.{still_means}
 use Rattle.sievesyntax.proofs.LanguageLemmas.{AreKnownLexemes, script_known}
@@ -53,6 +58,16 @@ copy_before = (refl, refl)
 seconds_before : (lexeme_in before (C.Tag (codes "seconds")) ≡ tag T.Other) × (lexeme_in today (C.Tag (codes "seconds")) ≡ tag T.Seconds)
 seconds_before = (refl, refl)
 
+-- `:user`, `:detail` and `:create` were none in the former language, which had `:copy`
+user_formerly : (lexeme_in former (C.Tag (codes "User")) ≡ tag T.Other) × (lexeme_in today (C.Tag (codes "User")) ≡ tag T.User)
+user_formerly = (refl, refl)
+
+detail_formerly : (lexeme_in former (C.Tag (codes "detail")) ≡ tag T.Other) × (lexeme_in former (C.Tag (codes "copy")) ≡ tag T.Copy)
+detail_formerly = (refl, refl)
+
+create_formerly : (lexeme_in former (C.Tag (codes "create")) ≡ tag T.Other) × (lexeme_in today (C.Tag (codes "create")) ≡ tag T.Create)
+create_formerly = (refl, refl)
+
 days_before : lexeme_in before (C.Tag (codes "days")) ≡ tag T.Days
 days_before = refl
 
@@ -66,7 +81,7 @@ abbrev target : Addr
 target = record { local = codes "c"; domain = codes "d" }
 
 abbrev filing : Bool → Commands
-filing copy = command (act (D.FileInto (record { mailbox = codes "x"; copy = copy }))) no_commands
+filing copy = command (act (D.FileInto (record { mailbox = codes "x"; copy = copy; create = false }))) no_commands
 
 abbrev redirecting : Bool → Commands
 redirecting copy = command (act (D.Redirect (record { target = target; copy = copy }))) no_commands
@@ -99,6 +114,17 @@ no_copy each = let e : true ≡ false = each.0 in absurd (cc e)
 
 no_seconds : EachIn IsOfBefore (answering (Some 0)) → ⊥
 no_seconds each = let e : Some 0 ≡ None = each.0 in absurd (cc e)
+
+-- a tree that looks at a whole local part, and one that looks at a part of one
+abbrev asking : AddressPart → Commands
+asking part =
+    command (choose (branch (looks (Q.Address (record { comparator = L.Octet; part = part; matching = M.Is; fields = []; keys = [] }))) no_commands no_branches)) no_commands
+
+whole_asked : EachAsksIn IsFormerCheck (asking H.LocalPart)
+whole_asked = ((refl, (tt, tt)), tt)
+
+part_asked : EachAsksIn IsFormerCheck (asking H.Detail) → ⊥
+part_asked each = let e : true ≡ false = each.0.0 in absurd (cc e)
 
 -- ---- texts
 

@@ -9,16 +9,18 @@ use Rattle.sievelex.specs.Contents.{contents_of}
 use Rattle.sievesyntax.specs.declared.table.capability.Capabilities.{Capabilities}
 use Rattle.sievesyntax.specs.declared.tree.action.Action.{Action}
 use Rattle.sievesyntax.specs.declared.tree.action.Action.TheVariants.{Keep, Discard, FileInto, Redirect, Vacation}
+use Rattle.sievesyntax.specs.declared.tree.checks.AddressPart.{AddressPart}
 use Rattle.sievesyntax.specs.declared.tree.checks.Check.{Check}
+use Rattle.sievesyntax.specs.declared.tree.checks.Check.TheVariants.{Size, Exists, Header, Address, Envelope, MailboxExists}
 use Rattle.sievesyntax.specs.declared.tree.vacation.VacArgs.{VacArgs}
-use Rattle.sievesyntax.specs.Before.{with_cancelled, performed_in, outcome_in, IsOfBefore, EachAction, EachInBranches, EachIn, StillMeans}
-use Rattle.sievesyntax.specs.Languages.{Language, is_capability_before, today, before}
+use Rattle.sievesyntax.specs.Before.{with_cancelled, performed_in, outcome_in, IsOfBefore, EachAction, EachInBranches, EachIn, StillMeans, IsFormerCheck, IsFormerAction, EachCheck, EachCheckOf, EachAsks, EachAsksInBranches, EachAsksIn, MeansFormerly}
+use Rattle.sievesyntax.specs.Languages.{Language, is_capability_before, is_former_capability, today, before, former}
 use Rattle.sievesyntax.specs.Meaning.{holds, ended, outcome}
 use Rattle.sievesyntax.specs.Means.{MeansIn}
 use Rattle.sievesyntax.specs.RunState.{RunState, at_first, max_targets, TwoVacations, Flow, Going, Stopped, Failed, and_then, cancelled_after, same_target, sent_to, replied_by, performed}
 use Rattle.sievesyntax.specs.Trace.{Trace, then_runs, runs, runs_branch, runs_all, actions_run, in_turn_by, in_turn}
-use Rattle.sievesyntax.specs.Tree.{CommandTree, require, choose, stop, act, Branches, no_branches, branch, Commands, no_commands, command}
-use Rattle.sievesyntax.specs.Valid.{is_named, is_capability, granted_by, MayAct, MayStand, MayBranch, MayAllStand, required, after_requires, IsValid, IsValidIn}
+use Rattle.sievesyntax.specs.Tree.{TestTree, yes, no, looks, not_of, all_of, any_of, Tests, no_tests, test, CommandTree, require, choose, stop, act, Branches, no_branches, branch, Commands, no_commands, command}
+use Rattle.sievesyntax.specs.Valid.{is_named, is_capability, granted_by, is_subaddress, MayPart, MayCheck, MayTest, MayAllTest, MayAct, MayStand, MayBranch, MayAllStand, required, after_requires, IsValid, IsValidIn}
 use Rattle.sievesyntax.proofs.LanguageLemmas.{read_today}
 use Rattle.sievesyntax.proofs.TraceLemmas.{outcome_in_turn}
 
@@ -53,19 +55,30 @@ or_true : (a : Bool) → (a || true) ≡ true
 or_true true = refl
 or_true false = refl
 
-five_of_seven : (a b c d e f g : Bool) → (a || (b || (c || (d || e)))) ≡ true → (a || (b || (c || (d || (e || (f || g)))))) ≡ true
-five_of_seven true b c d e f g is = refl
-five_of_seven false true c d e f g is = refl
-five_of_seven false false true d e f g is = refl
-five_of_seven false false false true e f g is = refl
-five_of_seven false false false false true f g is = refl
-five_of_seven false false false false false f g is = absurd (cc is)
+-- one more in a row of five, and of seven
+five_more : (a b c d e f : Bool) → (a || (b || (c || (d || e)))) ≡ true → (a || (b || (c || (d || (e || f))))) ≡ true
+five_more true b c d e f is = refl
+five_more false true c d e f is = refl
+five_more false false true d e f is = refl
+five_more false false false true e f is = refl
+five_more false false false false true f is = refl
+five_more false false false false false f is = absurd (cc is)
+
+seven_more : (a b c d e f g h : Bool) → (a || (b || (c || (d || (e || (f || g)))))) ≡ true → (a || (b || (c || (d || (e || (f || (g || h))))))) ≡ true
+seven_more true b c d e f g h is = refl
+seven_more false true c d e f g h is = refl
+seven_more false false c d e f g h is = five_more c d e f g h is
 
 -- what was known is known
+known_formerly : (name : List ℕ) → is_former_capability name ≡ true → is_capability name ≡ true
+known_formerly name =
+    seven_more (is_named (codes "fileinto") name) (is_named (codes "envelope") name) (is_named (codes "vacation") name) (is_named (codes "comparator-i;octet") name) (is_named (codes "comparator-i;ascii-casemap") name)
+    (is_named (codes "copy") name) (is_named (codes "vacation-seconds") name) (is_named (codes "subaddress") name || is_named (codes "mailbox") name)
+
 still_known : (name : List ℕ) → is_capability_before name ≡ true → is_capability name ≡ true
-still_known name =
-    five_of_seven (is_named (codes "fileinto") name) (is_named (codes "envelope") name) (is_named (codes "vacation") name) (is_named (codes "comparator-i;octet") name) (is_named (codes "comparator-i;ascii-casemap") name)
-    (is_named (codes "copy") name) (is_named (codes "vacation-seconds") name)
+still_known name is = known_formerly name
+    (five_more (is_named (codes "fileinto") name) (is_named (codes "envelope") name) (is_named (codes "vacation") name) (is_named (codes "comparator-i;octet") name) (is_named (codes "comparator-i;ascii-casemap") name)
+    (is_named (codes "copy") name || is_named (codes "vacation-seconds") name) is)
 
 -- what follows of each name follows of all
 of_all : (P Q : List ℕ → Type 0) → ((name : List ℕ) → P name → Q name) → (names : List (List ℕ)) → All P names → All Q names
@@ -99,35 +112,123 @@ module _ (granted : Capabilities) (copy : granted.copy ≡ false) (seconds : gra
   plain_action (Redirect redirect) may = not_true redirect.copy (unused granted.copy redirect.copy copy may)
   plain_action (Vacation args) may = none_given args.seconds (unused granted.seconds (is_some args.seconds) seconds may.1)
 
+-- what is so of each action that may stand is so of each in a tree that may
+module _ (P : Action → Type 0) (granted : Capabilities) (each : (action : Action) → MayAct granted action → P action) where
   mutual
-    plain_command : (tree : CommandTree) → MayStand granted tree → EachAction IsOfBefore tree
-    plain_command (require names) may = tt
-    plain_command (choose branches) may = plain_branches branches may
-    plain_command stop may = tt
-    plain_command (act action) may = plain_action action may
+    act_of : (tree : CommandTree) → MayStand granted tree → EachAction P tree
+    act_of (require names) may = tt
+    act_of (choose branches) may = act_of_branches branches may
+    act_of stop may = tt
+    act_of (act action) may = each action may
 
-    plain_branches : (branches : Branches) → MayBranch granted branches → EachInBranches IsOfBefore branches
-    plain_branches no_branches may = tt
-    plain_branches (branch condition block more) may = (plain_commands block may.1.0, plain_branches more may.1.1)
+    act_of_branches : (branches : Branches) → MayBranch granted branches → EachInBranches P branches
+    act_of_branches no_branches may = tt
+    act_of_branches (branch condition block more) may = (each_act block may.1.0, act_of_branches more may.1.1)
 
-    plain_commands : (commands : Commands) → MayAllStand granted commands → EachIn IsOfBefore commands
-    plain_commands no_commands may = tt
-    plain_commands (command first more) may = (plain_command first may.0, plain_commands more may.1)
+    each_act : (commands : Commands) → MayAllStand granted commands → EachIn P commands
+    each_act no_commands may = tt
+    each_act (command first more) may = (act_of first may.0, each_act more may.1)
 
 -- each action in a tree stands after its requires
-after_plain : (tree : Commands) → EachIn IsOfBefore (after_requires tree) → EachIn IsOfBefore tree
-after_plain no_commands each = each
-after_plain (command (require names) more) each = (tt, after_plain more each)
-after_plain (command (choose choice) more) each = each
-after_plain (command stop more) each = each
-after_plain (command (act action) more) each = each
+after_each : (P : Action → Type 0) (tree : Commands) → EachIn P (after_requires tree) → EachIn P tree
+after_each P no_commands each = each
+after_each P (command (require names) more) each = (tt, after_each P more each)
+after_each P (command (choose choice) more) each = each
+after_each P (command stop more) each = each
+after_each P (command (act action) more) each = each
 
 valid_plain : (tree : Commands) → IsValidIn is_capability_before tree → EachIn IsOfBefore tree
 valid_plain tree valid =
     let names = required tree in
     let copy = none_named (codes "copy") names (of_all _ _ no_copy names valid.known) in
     let seconds = none_named (codes "vacation-seconds") names (of_all _ _ no_seconds names valid.known) in
-    after_plain tree (plain_commands (granted_by names) copy seconds (after_requires tree) valid.stand)
+    after_each IsOfBefore tree (each_act IsOfBefore (granted_by names) (plain_action (granted_by names) copy seconds) (after_requires tree) valid.stand)
+
+-- ---- trees that were valid in the former language have nothing new
+
+-- a name that it knew is none of another word
+module _ (word name : List ℕ)
+    (fileinto : pointwise nat_eq (codes "fileinto") word ≡ false) (envelope : pointwise nat_eq (codes "envelope") word ≡ false) (vacation : pointwise nat_eq (codes "vacation") word ≡ false)
+    (octet : pointwise nat_eq (codes "comparator-i;octet") word ≡ false) (casemap : pointwise nat_eq (codes "comparator-i;ascii-casemap") word ≡ false)
+    (copy : pointwise nat_eq (codes "copy") word ≡ false) (seconds : pointwise nat_eq (codes "vacation-seconds") word ≡ false) where
+  apart_formerly : is_former_capability name ≡ true → is_named word name ≡ false
+  apart_formerly =
+      let P = is_named word name ≡ false in
+      either P _ _ (apart (codes "fileinto") word name fileinto) (either P _ _ (apart (codes "envelope") word name envelope)
+      (either P _ _ (apart (codes "vacation") word name vacation) (either P _ _ (apart (codes "comparator-i;octet") word name octet)
+      (either P _ _ (apart (codes "comparator-i;ascii-casemap") word name casemap) (either P _ _ (apart (codes "copy") word name copy)
+      (apart (codes "vacation-seconds") word name seconds))))))
+
+no_subaddress : (name : List ℕ) → is_former_capability name ≡ true → is_named (codes "subaddress") name ≡ false
+no_subaddress name = apart_formerly (codes "subaddress") name refl refl refl refl refl refl refl
+
+no_mailbox : (name : List ℕ) → is_former_capability name ≡ true → is_named (codes "mailbox") name ≡ false
+no_mailbox name = apart_formerly (codes "mailbox") name refl refl refl refl refl refl refl
+
+-- where neither `subaddress` nor `mailbox` is granted
+module _ (granted : Capabilities) (none : granted.subaddress ≡ false) (no_box : granted.mailbox ≡ false) where
+  former_part : (part : AddressPart) → MayPart granted part → is_subaddress part ≡ false
+  former_part part may = not_true (is_subaddress part) (unused granted.subaddress (is_subaddress part) none may)
+
+  former_check : (check : Check) → MayCheck granted check → IsFormerCheck check
+  former_check (Size size) may = tt
+  former_check (Exists fields) may = tt
+  former_check (Header header) may = tt
+  former_check (Address address) may = former_part address.part may
+  former_check (Envelope envelope) may = former_part envelope.part may.1
+  former_check (MailboxExists names) may = let bad : false ≡ true = sym no_box ∙ may in absurd (cc bad)
+
+  former_action : (action : Action) → MayAct granted action → IsFormerAction action
+  former_action Keep may = tt
+  former_action Discard may = tt
+  former_action (FileInto filing) may = not_true filing.create (unused granted.mailbox filing.create no_box may.2)
+  former_action (Redirect redirect) may = tt
+  former_action (Vacation args) may = tt
+
+  mutual
+    former_test : (condition : TestTree) → MayTest granted condition → EachCheck IsFormerCheck condition
+    former_test yes may = tt
+    former_test no may = tt
+    former_test (looks check) may = former_check check may
+    former_test (not_of inner) may = former_test inner may
+    former_test (all_of inner) may = former_tests inner may
+    former_test (any_of inner) may = former_tests inner may
+
+    former_tests : (tests : Tests) → MayAllTest granted tests → EachCheckOf IsFormerCheck tests
+    former_tests no_tests may = tt
+    former_tests (test first more) may = (former_test first may.0, former_tests more may.1)
+
+  mutual
+    former_command : (tree : CommandTree) → MayStand granted tree → EachAsks IsFormerCheck tree
+    former_command (require names) may = tt
+    former_command (choose branches) may = former_branches branches may
+    former_command stop may = tt
+    former_command (act action) may = tt
+
+    former_branches : (branches : Branches) → MayBranch granted branches → EachAsksInBranches IsFormerCheck branches
+    former_branches no_branches may = tt
+    former_branches (branch condition block more) may = (former_test condition may.0.0, (former_commands block may.1.0, former_branches more may.1.1))
+
+    former_commands : (commands : Commands) → MayAllStand granted commands → EachAsksIn IsFormerCheck commands
+    former_commands no_commands may = tt
+    former_commands (command first more) may = (former_command first may.0, former_commands more may.1)
+
+-- each test in a tree stands after its requires
+after_former : (tree : Commands) → EachAsksIn IsFormerCheck (after_requires tree) → EachAsksIn IsFormerCheck tree
+after_former no_commands each = each
+after_former (command (require names) more) each = (tt, after_former more each)
+after_former (command (choose choice) more) each = each
+after_former (command stop more) each = each
+after_former (command (act action) more) each = each
+
+valid_former : (tree : Commands) → IsValidIn is_former_capability tree → EachAsksIn IsFormerCheck tree × EachIn IsFormerAction tree
+valid_former tree valid =
+    let names = required tree in
+    let none = none_named (codes "subaddress") names (of_all _ _ no_subaddress names valid.known) in
+    let no_box = none_named (codes "mailbox") names (of_all _ _ no_mailbox names valid.known) in (
+      after_former tree (former_commands (granted_by names) none no_box (after_requires tree) valid.stand),
+      after_each IsFormerAction tree (each_act IsFormerAction (granted_by names) (former_action (granted_by names) none no_box) (after_requires tree) valid.stand),
+    )
 
 -- ---- the outcome
 
@@ -267,4 +368,19 @@ still_means text tree means =
       };
       actions = plain;
       same = λ truth. outcome_same before IsOfBefore cancelled_then truth tree (commands_run IsOfBefore truth tree plain);
+    }
+
+pub means_formerly : (text : List ℕ) (tree : Commands) → MeansIn former text tree → MeansFormerly text tree
+means_formerly text tree means =
+    let known = of_all _ _ known_formerly (required tree) means.valid.known in
+    record {
+      means = record {
+        tokens = means.tokens;
+        spelled = means.spelled;
+        read = read_today former (contents_of means.tokens) tree means.read;
+        valid = record { known = known; stand = means.valid.stand; shallow = means.valid.shallow };
+      };
+      checks = (valid_former tree means.valid).0;
+      actions = (valid_former tree means.valid).1;
+      same = λ truth. todays_outcome truth tree;
     }

@@ -71,6 +71,8 @@ tag_value_known (S.Matching M.Matches) from to e so = first_known _ from to e tt
 tag_value_known (S.Part H.All) from to e so = first_known _ from to e tt so
 tag_value_known (S.Part H.LocalPart) from to e so = first_known _ from to e tt so
 tag_value_known (S.Part H.Domain) from to e so = first_known _ from to e tt so
+tag_value_known (S.Part H.User) from to e so = first_known _ from to e tt so
+tag_value_known (S.Part H.Detail) from to e so = first_known _ from to e tt so
 tag_value_known (S.Days days) from to e so = first_known _ from _ e tt (tt, so)
 tag_value_known (S.Seconds seconds) from to e so = first_known _ from _ e tt (tt, so)
 tag_value_known (S.Subject subject) from to e so = first_known _ from _ e tt (tt, so)
@@ -79,6 +81,7 @@ tag_value_known (S.Addresses texts) from to (value, (e, strings)) so = first_kno
 tag_value_known S.Mime from to e so = first_known _ from to e tt so
 tag_value_known (S.Handle handle) from to e so = first_known _ from _ e tt (tt, so)
 tag_value_known S.Copy from to e so = first_known _ from to e tt so
+tag_value_known S.Create from to e so = first_known _ from to e tt so
 
 tag_values_known : (allowed : List TagGroup) (tag_values : List TagValue) (from to : List Argument) → Chain (IsAllowed allowed) tag_values from to → AreKnown to → AreKnown from
 tag_values_known allowed [] from to e so = subst AreKnown (sym e) so
@@ -134,6 +137,7 @@ test_known W.Size args tree is = row_known _ _ _ (λ s p size says. number_known
 test_known W.Exists args tree is = row_known _ _ _ (λ s p fields says. list_known p fields says) args tree is
 test_known W.Header args tree is = row_known _ _ _ (λ s p header says. lists_known p (header.fields, header.keys) says.lists) args tree is
 test_known W.Address args tree is = row_known _ _ _ (λ s p address says. lists_known p (address.fields, address.keys) says.lists) args tree is
+test_known W.MailboxExists args tree is = row_known _ _ _ (λ s p names says. list_known p names says) args tree is
 test_known W.Envelope args tree is = row_known _ _ _ (λ s p envelope says. lists_known p (says.names, envelope.keys) says.lists) args tree is
 test_known _ args tree is = absurd is
 

@@ -32,6 +32,7 @@ not_choose W.AllOf args chosen is = is
 not_choose W.AnyOf args chosen is = is
 not_choose W.Size args chosen is = is
 not_choose W.Exists args chosen is = is
+not_choose W.MailboxExists args chosen is = is
 not_choose W.Header args chosen is = is
 not_choose W.Address args chosen is = is
 not_choose W.Envelope args chosen is = is

@@ -100,6 +100,7 @@ plain_test_same W.True args t u a b = a.tree_is ∙ sym b.tree_is
 plain_test_same W.False args t u a b = a.tree_is ∙ sym b.tree_is
 plain_test_same W.Size args t u a b = row_same _ _ args (call_same _ _ size_same args) t u a b
 plain_test_same W.Exists args t u a b = row_same _ _ args (list_same args) t u a b
+plain_test_same W.MailboxExists args t u a b = row_same _ _ args (list_same args) t u a b
 plain_test_same W.Header args t u a b = row_same _ _ args (call_same _ _ header_same args) t u a b
 plain_test_same W.Address args t u a b = row_same _ _ args (call_same _ _ address_same args) t u a b
 plain_test_same W.Envelope args t u a b = row_same _ _ args (call_same _ _ envelope_same args) t u a b

@@ -32,10 +32,13 @@ tag_value_read (A.Tag T.Matches ∷ to) = Some (S.Matching M.Matches, to)
 tag_value_read (A.Tag T.All ∷ to) = Some (S.Part H.All, to)
 tag_value_read (A.Tag T.LocalPart ∷ to) = Some (S.Part H.LocalPart, to)
 tag_value_read (A.Tag T.Domain ∷ to) = Some (S.Part H.Domain, to)
+tag_value_read (A.Tag T.User ∷ to) = Some (S.Part H.User, to)
+tag_value_read (A.Tag T.Detail ∷ to) = Some (S.Part H.Detail, to)
 tag_value_read (A.Tag T.Mime ∷ to) = Some (S.Mime, to)
 tag_value_read (A.Tag T.Comparator ∷ (A.Text name ∷ to)) = option_map (λ c. (S.Comparator c, to)) (collation_named name)
 tag_value_read (A.Tag T.Days ∷ (A.Number n ∷ to)) = Some (S.Days n, to)
 tag_value_read (A.Tag T.Copy ∷ to) = Some (S.Copy, to)
+tag_value_read (A.Tag T.Create ∷ to) = Some (S.Create, to)
 tag_value_read (A.Tag T.Seconds ∷ (A.Number n ∷ to)) = Some (S.Seconds n, to)
 tag_value_read (A.Tag T.Subject ∷ (A.Text s ∷ to)) = Some (S.Subject s, to)
 tag_value_read (A.Tag T.From ∷ (A.Text s ∷ to)) = Some (S.From s, to)
@@ -54,6 +57,8 @@ tag_value_again (S.Matching M.Matches) from to at = ap tag_value_read at
 tag_value_again (S.Part H.All) from to at = ap tag_value_read at
 tag_value_again (S.Part H.LocalPart) from to at = ap tag_value_read at
 tag_value_again (S.Part H.Domain) from to at = ap tag_value_read at
+tag_value_again (S.Part H.User) from to at = ap tag_value_read at
+tag_value_again (S.Part H.Detail) from to at = ap tag_value_read at
 tag_value_again (S.Days n) from to at = ap tag_value_read at
 tag_value_again (S.Seconds n) from to at = ap tag_value_read at
 tag_value_again (S.Subject s) from to at = ap tag_value_read at
@@ -62,6 +67,7 @@ tag_value_again (S.Addresses xs) from to at = ap tag_value_read at.1.0 ∙ ap (o
 tag_value_again S.Mime from to at = ap tag_value_read at
 tag_value_again (S.Handle s) from to at = ap tag_value_read at
 tag_value_again S.Copy from to at = ap tag_value_read at
+tag_value_again S.Create from to at = ap tag_value_read at
 
 -- at most one tag stands at the front
 pub tag_value_only : (s t : TagValue) (from to end : List Argument) → IsTagValue s from to → IsTagValue t from end → (t ≡ s) × (end ≡ to)
@@ -91,6 +97,7 @@ plain_none (S.Addresses xs) from to at plain = subst IsPlain at.1.0 plain
 plain_none S.Mime from to at plain = subst IsPlain at plain
 plain_none (S.Handle s) from to at plain = subst IsPlain at plain
 plain_none S.Copy from to at plain = subst IsPlain at plain
+plain_none S.Create from to at plain = subst IsPlain at plain
 
 -- nothing is among none
 pub none_there : (x : TagGroup) → Contains [] x → ⊥

@@ -49,6 +49,7 @@ plain_leaf W.AllOf args t is = absurd is
 plain_leaf W.AnyOf args t is = absurd is
 plain_leaf W.Size args t is = subst IsLeaf (sym is.tree_is) tt
 plain_leaf W.Exists args t is = subst IsLeaf (sym is.tree_is) tt
+plain_leaf W.MailboxExists args t is = subst IsLeaf (sym is.tree_is) tt
 plain_leaf W.Header args t is = subst IsLeaf (sym is.tree_is) tt
 plain_leaf W.Address args t is = subst IsLeaf (sym is.tree_is) tt
 plain_leaf W.Envelope args t is = subst IsLeaf (sym is.tree_is) tt

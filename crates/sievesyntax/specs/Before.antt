@@ -3,12 +3,14 @@ use Rattle.std.specs.Prelude.{◌≡◌, ℕ, Bool, false, ◌||◌, List, None}
 use Rattle.sievesyntax.specs.declared.tree.action.Action.{Action}
 use Rattle.sievesyntax.specs.declared.tree.action.Action.TheVariants.{Keep, Discard, FileInto, Redirect, Vacation}
 use Rattle.sievesyntax.specs.declared.tree.checks.Check.{Check}
-use Rattle.sievesyntax.specs.Languages.{Language, before}
+use Rattle.sievesyntax.specs.declared.tree.checks.Check.TheVariants.{Address, Envelope, MailboxExists}
+use Rattle.sievesyntax.specs.Languages.{Language, before, former}
 use Rattle.sievesyntax.specs.Means.{Means}
 use Rattle.sievesyntax.specs.Meaning.{Outcome, ended, outcome}
 use Rattle.sievesyntax.specs.RunState.{RunState, at_first, Flow, Going, Stopped, Failed, performed}
 use Rattle.sievesyntax.specs.Trace.{actions_run, in_turn_by}
-use Rattle.sievesyntax.specs.Tree.{CommandTree, require, choose, stop, act, Branches, no_branches, branch, Commands, no_commands, command}
+use Rattle.sievesyntax.specs.Tree.{TestTree, yes, no, looks, not_of, all_of, any_of, Tests, no_tests, test, CommandTree, require, choose, stop, act, Branches, no_branches, branch, Commands, no_commands, command}
+use Rattle.sievesyntax.specs.Valid.{is_subaddress}
 
 -- the same run with the implicit keep cancelled or not
 abbrev pub with_cancelled : Bool → Flow → Flow
@@ -48,8 +50,56 @@ abbrev mutual
   EachIn P no_commands = Unit {0}
   EachIn P (command first more) = EachAction P first × EachIn P more
 
+-- a test that the former language had: it looks at no part of a local part (RFC 5233, 4), and asks for no mailbox (RFC 5490, 3.1)
+abbrev pub IsFormerCheck : Check → Type 0
+IsFormerCheck (Address address) = is_subaddress address.part ≡ false
+IsFormerCheck (Envelope envelope) = is_subaddress envelope.part ≡ false
+IsFormerCheck (MailboxExists names) = ⊥
+IsFormerCheck _ = Unit {0}
+
+-- an action that it had: without `:create`
+abbrev pub IsFormerAction : Action → Type 0
+IsFormerAction (FileInto filing) = filing.create ≡ false
+IsFormerAction _ = Unit {0}
+
+-- each test in a tree that looks at a message or its envelope is so
+abbrev mutual
+  pub EachCheck : (Check → Type 0) → TestTree → Type 0
+  EachCheck P yes = Unit {0}
+  EachCheck P no = Unit {0}
+  EachCheck P (looks check) = P check
+  EachCheck P (not_of inner) = EachCheck P inner
+  EachCheck P (all_of inner) = EachCheckOf P inner
+  EachCheck P (any_of inner) = EachCheckOf P inner
+
+  pub EachCheckOf : (Check → Type 0) → Tests → Type 0
+  EachCheckOf P no_tests = Unit {0}
+  EachCheckOf P (test first more) = EachCheck P first × EachCheckOf P more
+
+abbrev mutual
+  pub EachAsks : (Check → Type 0) → CommandTree → Type 0
+  EachAsks P (require names) = Unit {0}
+  EachAsks P (choose branches) = EachAsksInBranches P branches
+  EachAsks P stop = Unit {0}
+  EachAsks P (act action) = Unit {0}
+
+  pub EachAsksInBranches : (Check → Type 0) → Branches → Type 0
+  EachAsksInBranches P no_branches = Unit {0}
+  EachAsksInBranches P (branch condition block more) = EachCheck P condition × (EachAsksIn P block × EachAsksInBranches P more)
+
+  pub EachAsksIn : (Check → Type 0) → Commands → Type 0
+  EachAsksIn P no_commands = Unit {0}
+  EachAsksIn P (command first more) = EachAsks P first × EachAsksIn P more
+
 -- the text means this tree, which has neither `:copy` nor seconds, and on every mail it comes to what it came to before
 pub record StillMeans (text : List ℕ) (tree : Commands) : Type 0 where
   pub means : Means text tree
   pub actions : EachIn IsOfBefore tree
   pub same : (truth : Check → Bool) → outcome truth tree ≡ outcome_in before truth tree
+
+-- the text means this tree, which has former tests and actions alone, and on every mail it comes to what it came to before
+pub record MeansFormerly (text : List ℕ) (tree : Commands) : Type 0 where
+  pub means : Means text tree
+  pub checks : EachAsksIn IsFormerCheck tree
+  pub actions : EachIn IsFormerAction tree
+  pub same : (truth : Check → Bool) → outcome truth tree ≡ outcome_in former truth tree

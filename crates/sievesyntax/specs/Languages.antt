@@ -83,3 +83,25 @@ cancels_before (D.Vacation args) = false
 
 abbrev pub before : Language
 before = record { has = is_tag_before; knows = is_capability_before; cancels = cancels_before }
+
+-- ---- the language before `subaddress` (RFC 5233) and `mailbox` (RFC 5490)
+
+abbrev pub is_former_tag : Tag → Bool
+is_former_tag T.User = false
+is_former_tag T.Detail = false
+is_former_tag T.Create = false
+is_former_tag _ = true
+
+abbrev pub is_former_capability : List ℕ → Bool
+is_former_capability name =
+    is_named (codes "fileinto") name
+    || (is_named (codes "envelope") name
+    || (is_named (codes "vacation") name
+    || (is_named (codes "comparator-i;octet") name
+    || (is_named (codes "comparator-i;ascii-casemap") name
+    || (is_named (codes "copy") name
+    || is_named (codes "vacation-seconds") name)))))
+
+-- actions cancelled what they cancel today
+abbrev pub former : Language
+former = record { has = is_former_tag; knows = is_former_capability; cancels = cancels_today }

@@ -39,7 +39,8 @@ keyword_of name =
     (cond (same_name name (codes "header")) W.Header
     (cond (same_name name (codes "address")) W.Address
     (cond (same_name name (codes "envelope")) W.Envelope
-    W.Other)))))))))))))))))))
+    (cond (same_name name (codes "mailboxexists")) W.MailboxExists
+    W.Other))))))))))))))))))))
 
 -- the tag of this name
 abbrev pub tag_of : List ℕ → Tag
@@ -53,6 +54,8 @@ tag_of name =
     (cond (same_name name (codes "all")) T.All
     (cond (same_name name (codes "localpart")) T.LocalPart
     (cond (same_name name (codes "domain")) T.Domain
+    (cond (same_name name (codes "user")) T.User
+    (cond (same_name name (codes "detail")) T.Detail
     (cond (same_name name (codes "days")) T.Days
     (cond (same_name name (codes "seconds")) T.Seconds
     (cond (same_name name (codes "subject")) T.Subject
@@ -61,7 +64,8 @@ tag_of name =
     (cond (same_name name (codes "mime")) T.Mime
     (cond (same_name name (codes "handle")) T.Handle
     (cond (same_name name (codes "copy")) T.Copy
-    T.Other))))))))))))))))
+    (cond (same_name name (codes "create")) T.Create
+    T.Other)))))))))))))))))))
 
 -- a word of the grammar (RFC 5228, 8.2)
 pub data Lexeme : Type 0 where

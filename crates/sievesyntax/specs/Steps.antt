@@ -105,6 +105,8 @@ granted_too granted names = record {
   vacation = granted.vacation || (granted_by names).vacation;
   copy = granted.copy || (granted_by names).copy;
   seconds = granted.seconds || (granted_by names).seconds;
+  subaddress = granted.subaddress || (granted_by names).subaddress;
+  mailbox = granted.mailbox || (granted_by names).mailbox;
 }
 
 -- requires at the front, up to another command or the end

@@ -18,7 +18,7 @@ use Rattle.sievesyntax.specs.declared.table.tag_group.TagGroup.TheVariants as P
 use Rattle.sievesyntax.specs.Lexemes.{same_name}
 use Rattle.sievesyntax.specs.Tags.{IsCall}
 use Rattle.sievesyntax.specs.Positional.{one_number, one_text, one_list, two_lists}
-use Rattle.sievesyntax.specs.TagValues.{bound_in, comparator_in, matching_in, part_in, copy_in}
+use Rattle.sievesyntax.specs.TagValues.{bound_in, comparator_in, matching_in, part_in, copy_in, create_in}
 use Rattle.sievesyntax.specs.Vacations.{Names, IsVacation}
 use Rattle.sievesyntax.specs.Tree.{TestTree, yes, no, looks, CommandTree, require, stop, act}
 
@@ -73,17 +73,19 @@ pub record SaysEnvelope (tag_values : List TagValue) (positional : List Argument
 abbrev pub IsEnvelope : List Argument → EnvelopeTest → Type 0
 IsEnvelope = IsCall (P.Comparator ∷ (P.Part ∷ (P.Matching ∷ []))) SaysEnvelope
 
--- require <capabilities: string-list>; exists <header-names: string-list> (RFC 5228, 3.2, 5.5)
+-- require <capabilities: string-list>; exists <header-names: string-list>; mailboxexists <mailbox-names: string-list>
+-- (RFC 5228, 3.2, 5.5; RFC 5490, 3.1)
 abbrev pub IsList : List Argument → List (List ℕ) → Type 0
 IsList = IsCall [] (λ tag_values positional texts. one_list positional ≡ Some texts)
 
--- fileinto [":copy"] <mailbox: string> (RFC 5228, 4.1; RFC 3894, 3.1)
+-- fileinto [":copy"] [":create"] <mailbox: string> (RFC 5228, 4.1; RFC 3894, 3.1; RFC 5490, 3.2)
 pub record SaysFileInto (tag_values : List TagValue) (positional : List Argument) (filing : FileInto) : Type 0 where
   pub mailbox : one_text positional ≡ Some filing.mailbox
   pub copy : filing.copy ≡ copy_in tag_values
+  pub create : filing.create ≡ create_in tag_values
 
 abbrev pub IsFileInto : List Argument → FileInto → Type 0
-IsFileInto = IsCall (P.Copy ∷ []) SaysFileInto
+IsFileInto = IsCall (P.Copy ∷ (P.Create ∷ [])) SaysFileInto
 
 -- redirect [":copy"] <address: string> (RFC 5228, 4.2; RFC 3894, 3.2)
 pub record SaysRedirect (tag_values : List TagValue) (positional : List Argument) (redirect : Redirect) : Type 0 where
@@ -117,6 +119,7 @@ IsPlainTest W.Exists = IsRow IsList (λ fields. looks (C.Exists fields))
 IsPlainTest W.Header = IsRow IsHeader (λ header. looks (C.Header header))
 IsPlainTest W.Address = IsRow IsAddress (λ address. looks (C.Address address))
 IsPlainTest W.Envelope = IsRow IsEnvelope (λ envelope. looks (C.Envelope envelope))
+IsPlainTest W.MailboxExists = IsRow IsList (λ names. looks (C.MailboxExists names))
 IsPlainTest _ = λ args condition. ⊥
 
 -- the commands that end in a semicolon (RFC 5228, 3, 4)

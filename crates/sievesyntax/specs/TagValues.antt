@@ -81,3 +81,9 @@ abbrev pub copy_in : List TagValue → Bool
 copy_in [] = false
 copy_in (S.Copy ∷ _) = true
 copy_in (_ ∷ more) = copy_in more
+
+-- whether a mailbox that isn't there is to be made (RFC 5490, 3.2)
+abbrev pub create_in : List TagValue → Bool
+create_in [] = false
+create_in (S.Create ∷ _) = true
+create_in (_ ∷ more) = create_in more

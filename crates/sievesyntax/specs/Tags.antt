@@ -35,6 +35,8 @@ abbrev pub part_tag : AddressPart → Tag
 part_tag H.All = T.All
 part_tag H.LocalPart = T.LocalPart
 part_tag H.Domain = T.Domain
+part_tag H.User = T.User
+part_tag H.Detail = T.Detail
 
 -- the name of a comparator, by octets (RFC 4790, 9.2 and 9.3)
 abbrev pub name_of : Collation → List ℕ
@@ -61,6 +63,7 @@ IsTagValue (S.Addresses texts) from to = (value : Argument) × ((from ≡ A.Tag 
 IsTagValue S.Mime from to = from ≡ A.Tag T.Mime ∷ to
 IsTagValue (S.Handle handle) from to = from ≡ A.Tag T.Handle ∷ (A.Text handle ∷ to)
 IsTagValue S.Copy from to = from ≡ A.Tag T.Copy ∷ to
+IsTagValue S.Create from to = from ≡ A.Tag T.Create ∷ to
 
 -- the group of a tag: tags that exclude each other are one group
 abbrev pub group_of : TagValue → TagGroup
@@ -76,6 +79,7 @@ group_of (S.Addresses _) = P.Addresses
 group_of S.Mime = P.Mime
 group_of (S.Handle _) = P.Handle
 group_of S.Copy = P.Copy
+group_of S.Create = P.Create
 
 -- no group stands twice
 abbrev pub AreApart : List TagGroup → Type 0

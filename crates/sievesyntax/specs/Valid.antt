@@ -1,11 +1,13 @@
 -- What a tree may be besides what the grammar asks.
-use Rattle.std.specs.Prelude.{◌≡◌, ◌≢◌, ◌≤◌, ◌||◌, ℕ, Bool, true, is_some, List, [], ◌++◌, codes, length, All, nat_eq}
+use Rattle.std.specs.Prelude.{◌≡◌, ◌≢◌, ◌≤◌, ◌||◌, ℕ, Bool, true, false, is_some, List, [], ◌++◌, codes, length, All, nat_eq}
 use Rattle.std.specs.List.{list_any}
 use Rattle.std.specs.Cmp.Lexicographic.{pointwise}
 use Rattle.sievesyntax.specs.declared.tree.action.Action.{Action}
 use Rattle.sievesyntax.specs.declared.tree.action.Action.TheVariants.{Keep, Discard, FileInto, Redirect, Vacation}
+use Rattle.sievesyntax.specs.declared.tree.checks.AddressPart.{AddressPart}
+use Rattle.sievesyntax.specs.declared.tree.checks.AddressPart.TheVariants.{User, Detail}
 use Rattle.sievesyntax.specs.declared.tree.checks.Check.{Check}
-use Rattle.sievesyntax.specs.declared.tree.checks.Check.TheVariants.{Size, Exists, Header, Address, Envelope}
+use Rattle.sievesyntax.specs.declared.tree.checks.Check.TheVariants.{Size, Exists, Header, Address, Envelope, MailboxExists}
 use Rattle.sievesyntax.specs.declared.table.capability.Capabilities.{Capabilities}
 use Rattle.sievesyntax.specs.Reasons.{IsReason}
 use Rattle.sievesyntax.specs.Tree.{TestTree, yes, no, looks, not_of, all_of, any_of, Tests, no_tests, test, list_depth, not_depth, CommandTree, require, choose, stop, act, Branches, no_branches, branch, Commands, no_commands, command, depth}
@@ -29,7 +31,9 @@ is_capability name =
     || (is_named (codes "comparator-i;octet") name
     || (is_named (codes "comparator-i;ascii-casemap") name
     || (is_named (codes "copy") name
-    || is_named (codes "vacation-seconds") name)))))
+    || (is_named (codes "vacation-seconds") name
+    || (is_named (codes "subaddress") name
+    || is_named (codes "mailbox") name)))))))
 
 abbrev pub IsCapability : List ℕ → Type 0
 IsCapability name = is_capability name ≡ true
@@ -42,6 +46,8 @@ granted_by names = record {
   vacation = list_any (is_named (codes "vacation")) names;
   copy = list_any (is_named (codes "copy")) names;
   seconds = list_any (is_named (codes "vacation-seconds")) names;
+  subaddress = list_any (is_named (codes "subaddress")) names;
+  mailbox = list_any (is_named (codes "mailbox")) names;
 }
 
 -- `vacation` may be used: `vacation-seconds` stands for it too (RFC 6131, 2)
@@ -52,11 +58,21 @@ may_answer granted = granted.vacation || granted.seconds
 abbrev pub Permits : (granted used : Bool) → Type 0
 Permits granted used = used ≡ true → granted ≡ true
 
+-- a part of a local part, which only `subaddress` names (RFC 5233, 4)
+abbrev pub is_subaddress : AddressPart → Bool
+is_subaddress User = true
+is_subaddress Detail = true
+is_subaddress _ = false
+
+-- a part of an address that may be named where this is granted
+abbrev pub MayPart : Capabilities → AddressPart → Type 0
+MayPart granted part = Permits granted.subaddress (is_subaddress part)
+
 -- an action that may stand where this is granted
 abbrev pub MayAct : Capabilities → Action → Type 0
 MayAct granted Keep = Unit {0}
 MayAct granted Discard = Unit {0}
-MayAct granted (FileInto filing) = (granted.fileinto ≡ true) × Permits granted.copy filing.copy × IsMailbox filing.mailbox
+MayAct granted (FileInto filing) = (granted.fileinto ≡ true) × Permits granted.copy filing.copy × Permits granted.mailbox filing.create × IsMailbox filing.mailbox
 MayAct granted (Redirect redirect) = Permits granted.copy redirect.copy
 MayAct granted (Vacation args) = (may_answer granted ≡ true) × Permits granted.seconds (is_some args.seconds) × IsReason args
 
@@ -65,8 +81,9 @@ abbrev pub MayCheck : Capabilities → Check → Type 0
 MayCheck granted (Size size) = Unit {0}
 MayCheck granted (Exists fields) = Unit {0}
 MayCheck granted (Header header) = Unit {0}
-MayCheck granted (Address address) = Unit {0}
-MayCheck granted (Envelope envelope) = granted.envelope ≡ true
+MayCheck granted (Address address) = MayPart granted address.part
+MayCheck granted (Envelope envelope) = (granted.envelope ≡ true) × MayPart granted envelope.part
+MayCheck granted (MailboxExists names) = granted.mailbox ≡ true
 
 -- a test that may stand where this is granted
 abbrev mutual

@@ -1,8 +1,8 @@
 //! Laws of the definitions, each the contract of a function that does nothing.
 ghost use Rattle.std.specs.Prelude.{◌≡◌, ◌↔◌, ℕ, Bool, true, List, All};
 ghost use Rattle.sievesyntax.specs.declared.tree.checks.Check.{Check};
-ghost use Rattle.sievesyntax.specs.Before.{outcome_in, StillMeans};
-ghost use Rattle.sievesyntax.specs.Languages.{today, before};
+ghost use Rattle.sievesyntax.specs.Before.{outcome_in, StillMeans, MeansFormerly};
+ghost use Rattle.sievesyntax.specs.Languages.{today, before, former};
 ghost use Rattle.sievesyntax.specs.Meaning.{ended, outcome};
 ghost use Rattle.sievesyntax.specs.Means.{MeansIn, Means};
 ghost use Rattle.sievesyntax.specs.Reasons.{is_entity, IsEntity};
@@ -35,6 +35,12 @@ pub fn implicit_keep()
 /// The reason of a `vacation` with `:mime` is taken exactly where it is a MIME entity (RFC 5230, 4.4).
 pub fn entity_of_a_reason()
     ensures { (text : List ℕ) → (is_entity text ≡ true) ↔ IsEntity text }
+{}
+
+/// A text that meant a tree before `subaddress` (RFC 5233) and `mailbox` (RFC 5490) means the same tree now. It has nothing of these,
+/// and on every mail it comes to what it came to before.
+pub fn scripts_of_former_language()
+    ensures { (text : List ℕ) (tree : Commands) → MeansIn former text tree → MeansFormerly text tree }
 {}
 
 /// A text that meant a tree before `:copy` (RFC 3894) and `:seconds` (RFC 6131) means the same tree now. The tree has neither, and

@@ -10,6 +10,7 @@ mod tree;
 
 pub use script::{Script, check};
 pub use sievelex::{FaultKind, ScriptError, ScriptFault};
+pub use table::command::is_mailbox;
 pub use tree::action::{Action, FileInto, Redirect};
 pub use tree::checks::{
     Address, AddressPart, Bound, Check, Collation, EnvelopeParts, EnvelopeTest, Header, Matching,

@@ -6,8 +6,8 @@ ghost use Rattle.vacreply.specs.Cases as cases;
 
 use crate::text::{begins_with, ends_with, is_one_of, is_same};
 use addrparts::Addr;
-use sieveexec::{Mail, part_in};
-use sievesyntax::{AddressPart, VacArgs};
+use sieveexec::{Mail, domain_in, local_in};
+use sievesyntax::VacArgs;
 
 /// Local parts of programs that answer mail (RFC 5230, 4.6).
 const ROBOTS: [&[u8]; 3] = [b"mailer-daemon", b"listserv", b"majordomo"];
@@ -16,15 +16,14 @@ const ROBOTS: [&[u8]; 3] = [b"mailer-daemon", b"listserv", b"majordomo"];
 pub(crate) fn is_bad(address: &[u8]) -> bool
     ensures { result ≡ (cases.is_empty (local_of address.now) || cases.is_empty (domain_of address.now)) }
 {
-    part_in(AddressPart::LocalPart, address).is_empty()
-        || part_in(AddressPart::Domain, address).is_empty()
+    local_in(address).is_empty() || domain_in(address).is_empty()
 }
 
 /// Whether an address is that of a program that answers mail.
 pub(crate) fn is_robot(address: &[u8]) -> bool
     ensures { result ≡ cases.is_robot (local_of address.now) }
 {
-    let local = part_in(AddressPart::LocalPart, address);
+    let local = local_in(address);
     is_one_of(&ROBOTS, local) || begins_with(b"owner-", local) || ends_with(b"-request", local)
 }
 

@@ -53,6 +53,8 @@ fn read_requires(
         vacation: false,
         copy: false,
         seconds: false,
+        subaddress: false,
+        mailbox: false,
     };
     'found: while take_require(reader) {
         let names = read_names(alloc, reader)?;

@@ -2,7 +2,7 @@
 ghost use Rattle.std.specs.Prelude.{◌≡◌, ◌↔◌, IfOk, OnOk, IsTrue, All};
 ghost use Rattle.std.specs.List.{list_any};
 ghost use Rattle.sievesyntax.specs.Parsing.{IfFault};
-ghost use Rattle.sievesyntax.specs.Valid.{IsCapability, is_named};
+ghost use Rattle.sievesyntax.specs.Valid.{IsCapability, Permits, is_named};
 ghost use Rattle.sievesyntax.specs.Valid as spec;
 ghost use Rattle.sievesyntax.specs.Steps.{granted_too};
 
@@ -23,6 +23,10 @@ pub struct Capabilities {
     pub copy: bool,
     /// `vacation-seconds` (RFC 6131).
     pub seconds: bool,
+    /// `subaddress` (RFC 5233).
+    pub subaddress: bool,
+    /// `mailbox` (RFC 5490).
+    pub mailbox: bool,
 }
 
 impl Capabilities {
@@ -32,6 +36,17 @@ impl Capabilities {
     {
         self.vacation || self.seconds
     }
+}
+
+/// A fault where something is used that isn't granted.
+pub(crate) fn require(is_granted: bool, is_used: bool) -> Result<(), ReadError>
+    ensures granted { OnOk result (Permits is_granted is_used) }
+    ensures fault { IfFault result (Permits is_granted is_used → ⊥) }
+{
+    if is_used && !is_granted {
+        return Err(ReadError::Fault(FaultKind::NotRequired));
+    }
+    Ok(())
 }
 
 /// What is granted with these capabilities besides.
@@ -49,6 +64,8 @@ pub(crate) fn grant(granted: Capabilities, names: &[Octets]) -> Result<Capabilit
         vacation: granted.vacation || is_there(names, b"vacation"),
         copy: granted.copy || is_there(names, b"copy"),
         seconds: granted.seconds || is_there(names, b"vacation-seconds"),
+        subaddress: granted.subaddress || is_there(names, b"subaddress"),
+        mailbox: granted.mailbox || is_there(names, b"mailbox"),
     })
 }
 
@@ -75,4 +92,6 @@ fn is_capability(name: &[u8]) -> bool
         || name == b"comparator-i;ascii-casemap".as_slice()
         || name == b"copy".as_slice()
         || name == b"vacation-seconds".as_slice()
+        || name == b"subaddress".as_slice()
+        || name == b"mailbox".as_slice()
 }

@@ -1,16 +1,16 @@
 //! The table of commands without a block: what may stand after each name (RFC 5228, 3 and 4; RFC 5230).
-ghost use Rattle.std.specs.Prelude.{◌≡◌, ◌↔◌, IsTrue, IfOk, OnOk};
+ghost use Rattle.std.specs.Prelude.{◌≡◌, ◌↔◌, IsTrue, IfOk};
 ghost use Rattle.sievesyntax.specs.Parsing.{IfFault, FindsFit};
 ghost use Rattle.sievesyntax.specs.Tree.{CommandTree};
 ghost use Rattle.sievesyntax.specs.View.{command_view};
 ghost use Rattle.sievesyntax.specs.Table.{IsPlainCommand, IsFileInto, IsRedirect};
 ghost use Rattle.sievesyntax.specs.Vacations.{IsVacation};
-ghost use Rattle.sievesyntax.specs.Valid.{IsMailbox, Permits, MayAct, MayStand};
+ghost use Rattle.sievesyntax.specs.Valid.{IsMailbox, MayAct, MayStand};
 ghost use Rattle.sievesyntax.specs.declared.tree.action.Action.TheVariants as D;
 
 use crate::error::ReadError;
 use crate::parser::argument::Argument;
-use crate::table::capability::Capabilities;
+use crate::table::capability::{Capabilities, require};
 use crate::table::file_into::read_file_into;
 use crate::table::keyword::Keyword;
 use crate::table::positional::no_arguments;
@@ -53,7 +53,8 @@ pub(crate) fn plain_command(
             no_arguments(args)?;
             Ok(Command::Act(Action::Discard))
         }
-        // Syntax: fileinto [":copy"] <mailbox: string>, where `fileinto` is required, and `copy` with it (RFC 5228, 4.1; RFC 3894)
+        // Syntax: fileinto [":copy"] [":create"] <mailbox: string>, where `fileinto` is required, and `copy` and `mailbox` with their
+        // tags (RFC 5228, 4.1; RFC 3894; RFC 5490, 3.2)
         Keyword::FileInto => {
             let filing = permitted_filing(alloc, args, granted)?;
             Ok(Command::Act(Action::FileInto(filing)))
@@ -87,6 +88,7 @@ fn permitted_filing(
     require(granted.fileinto, true)?;
     let filing = read_file_into(alloc, args)?;
     require(granted.copy, filing.copy)?;
+    require(granted.mailbox, filing.create)?;
     if !is_mailbox(filing.mailbox.as_slice()) {
         return Err(ReadError::Fault(FaultKind::BadMailbox));
     }
@@ -121,19 +123,8 @@ fn permitted_vacation(
     Ok(Vacation::new(alloc, vacation)?)
 }
 
-/// A fault where something is used that isn't granted.
-fn require(is_granted: bool, is_used: bool) -> Result<(), ReadError>
-    ensures granted { OnOk result (Permits is_granted is_used) }
-    ensures fault { IfFault result (Permits is_granted is_used → ⊥) }
-{
-    if is_used && !is_granted {
-        return Err(ReadError::Fault(FaultKind::NotRequired));
-    }
-    Ok(())
-}
-
-/// A mailbox's name has 1 to 255 octets, none below 32 and none 127.
-fn is_mailbox(name: &[u8]) -> bool
+/// Whether a text is the name of a mailbox: 1 to 255 octets, none below 32 and none 127. Linear; takes no memory.
+pub fn is_mailbox(name: &[u8]) -> bool
     ensures { IsTrue result ↔ IsMailbox name.now }
 {
     !name.is_empty()

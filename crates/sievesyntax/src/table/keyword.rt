@@ -25,6 +25,7 @@ pub enum Keyword {
     Header,
     Address,
     Envelope,
+    MailboxExists,
     /// Any other identifier.
     Other,
 }
@@ -80,6 +81,8 @@ pub(crate) fn keyword_named(name: &[u8]) -> Keyword
         Keyword::Address
     } else if is_name(name, b"envelope") {
         Keyword::Envelope
+    } else if is_name(name, b"mailboxexists") {
+        Keyword::MailboxExists
     } else {
         Keyword::Other
     }

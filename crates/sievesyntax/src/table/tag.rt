@@ -16,6 +16,8 @@ pub enum Tag {
     All,
     LocalPart,
     Domain,
+    User,
+    Detail,
     Days,
     Seconds,
     Subject,
@@ -24,6 +26,7 @@ pub enum Tag {
     Mime,
     Handle,
     Copy,
+    Create,
     /// A tag of no command and no test.
     Other,
 }
@@ -50,6 +53,10 @@ pub(crate) fn tag_named(name: &[u8]) -> Tag
         Tag::LocalPart
     } else if is_name(name, b"domain") {
         Tag::Domain
+    } else if is_name(name, b"user") {
+        Tag::User
+    } else if is_name(name, b"detail") {
+        Tag::Detail
     } else if is_name(name, b"days") {
         Tag::Days
     } else if is_name(name, b"seconds") {
@@ -66,6 +73,8 @@ pub(crate) fn tag_named(name: &[u8]) -> Tag
         Tag::Handle
     } else if is_name(name, b"copy") {
         Tag::Copy
+    } else if is_name(name, b"create") {
+        Tag::Create
     } else {
         Tag::Other
     }

@@ -23,7 +23,7 @@ pub enum TagValue {
     Comparator(Collation),
     /// `:is`, `:contains`, `:matches`.
     Matching(Matching),
-    /// `:all`, `:localpart`, `:domain`.
+    /// `:all`, `:localpart`, `:domain`, `:user`, `:detail`.
     Part(AddressPart),
     /// `:days`.
     Days(u64),
@@ -41,6 +41,8 @@ pub enum TagValue {
     Handle(Octets),
     /// `:copy`.
     Copy,
+    /// `:create`.
+    Create,
 }
 
 /// What a tag settles. Tags that exclude each other settle one thing.
@@ -57,6 +59,7 @@ pub enum TagGroup {
     Mime,
     Handle,
     Copy,
+    Create,
 }
 
 impl TagValue {
@@ -76,6 +79,7 @@ impl TagValue {
             TagValue::Mime => TagGroup::Mime,
             TagValue::Handle(_) => TagGroup::Handle,
             TagValue::Copy => TagGroup::Copy,
+            TagValue::Create => TagGroup::Create,
         }
     }
 }
@@ -152,8 +156,11 @@ fn tag_value_at<'a>(
         Tag::All => Ok((TagValue::Part(AddressPart::All), args)),
         Tag::LocalPart => Ok((TagValue::Part(AddressPart::LocalPart), args)),
         Tag::Domain => Ok((TagValue::Part(AddressPart::Domain), args)),
+        Tag::User => Ok((TagValue::Part(AddressPart::User), args)),
+        Tag::Detail => Ok((TagValue::Part(AddressPart::Detail), args)),
         Tag::Mime => Ok((TagValue::Mime, args)),
         Tag::Copy => Ok((TagValue::Copy, args)),
+        Tag::Create => Ok((TagValue::Create, args)),
         Tag::Comparator => {
             let (collation, rest) = collation_at(args)?;
             Ok((TagValue::Comparator(collation), rest))

@@ -1,6 +1,6 @@
 //! What the tags of a command or a test say: the value that is given, or its default.
 ghost use Rattle.std.specs.Prelude.{◌≡◌, IfOk};
-ghost use Rattle.sievesyntax.specs.TagValues.{bound_in, comparator_in, matching_in, part_in, days_in, seconds_in, subject_in, mime_in, handle_in, copy_in};
+ghost use Rattle.sievesyntax.specs.TagValues.{bound_in, comparator_in, matching_in, part_in, days_in, seconds_in, subject_in, mime_in, handle_in, copy_in, create_in};
 
 use crate::table::tag_group::TagValue;
 use crate::tree::checks::{AddressPart, Bound, Collation, Matching};
@@ -127,6 +127,18 @@ pub(crate) fn given_copy(tag_values: &[TagValue]) -> bool
 {
     for tag_value in tag_values {
         if let TagValue::Copy = tag_value {
+            return true;
+        }
+    }
+    false
+}
+
+/// Whether a mailbox that isn't there is to be made.
+pub(crate) fn given_create(tag_values: &[TagValue]) -> bool
+    ensures { result ≡ create_in tag_values.now }
+{
+    for tag_value in tag_values {
+        if let TagValue::Create = tag_value {
             return true;
         }
     }

@@ -1,19 +1,21 @@
 //! The table of tests without a test in them: what may stand after each name (RFC 5228, 5).
 ghost use Rattle.std.specs.Prelude.{◌≡◌, IfOk};
-ghost use Rattle.sievesyntax.specs.Parsing.{IfFault};
+ghost use Rattle.sievesyntax.specs.Parsing.{IfFault, FindsFit};
+ghost use Rattle.sievesyntax.specs.declared.tree.checks.Check.TheVariants as C;
 ghost use Rattle.sievesyntax.specs.Tree.{TestTree};
 ghost use Rattle.sievesyntax.specs.View.{test_view};
-ghost use Rattle.sievesyntax.specs.Table.{IsPlainTest};
-ghost use Rattle.sievesyntax.specs.Valid.{MayTest};
+ghost use Rattle.sievesyntax.specs.Table.{IsPlainTest, IsList, IsAddress, IsEnvelope};
+ghost use Rattle.sievesyntax.specs.Valid.{MayCheck, MayTest};
 
 use crate::error::ReadError;
 use crate::parser::argument::Argument;
-use crate::table::capability::Capabilities;
+use crate::table::capability::{Capabilities, require};
 use crate::table::keyword::Keyword;
 use crate::table::positional::{no_arguments, read_list};
 use crate::table::test_arguments::{read_address, read_envelope, read_header, read_size};
-use crate::tree::checks::Check;
+use crate::tree::checks::{Address, Check, EnvelopeTest};
 use crate::tree::test::Test;
+use octets::Texts;
 use sievelex::FaultKind;
 use std::alloc::Global;
 
@@ -45,17 +47,63 @@ pub(crate) fn plain_test(
         Keyword::Exists => Ok(Test::Check(Check::Exists(read_list(alloc, args)?))),
         // Syntax: header [COMPARATOR] [MATCH-TYPE] <header-names: string-list> <key-list: string-list> (RFC 5228, 5.7)
         Keyword::Header => Ok(Test::Check(Check::Header(read_header(alloc, args)?))),
-        // Syntax: address [COMPARATOR] [ADDRESS-PART] [MATCH-TYPE] <header-list: string-list> <key-list: string-list>
-        // (RFC 5228, 5.1)
-        Keyword::Address => Ok(Test::Check(Check::Address(read_address(alloc, args)?))),
+        // Syntax: address [COMPARATOR] [ADDRESS-PART] [MATCH-TYPE] <header-list: string-list> <key-list: string-list>, where `subaddress`
+        // is required for its parts (RFC 5228, 5.1; RFC 5233)
+        Keyword::Address => {
+            let address = permitted_address(alloc, args, granted)?;
+            Ok(Test::Check(Check::Address(address)))
+        }
         // Syntax: envelope [COMPARATOR] [ADDRESS-PART] [MATCH-TYPE] <envelope-part: string-list> <key-list: string-list>,
-        // where `envelope` is required (RFC 5228, 5.4)
+        // where `envelope` is required, and `subaddress` for its parts (RFC 5228, 5.4; RFC 5233)
         Keyword::Envelope => {
-            if !granted.envelope {
-                return Err(ReadError::Fault(FaultKind::NotRequired));
-            }
-            Ok(Test::Check(Check::Envelope(read_envelope(alloc, args)?)))
+            let envelope = permitted_envelope(alloc, args, granted)?;
+            Ok(Test::Check(Check::Envelope(envelope)))
+        }
+        // Syntax: mailboxexists <mailbox-names: string-list>, where `mailbox` is required (RFC 5490, 3.1)
+        Keyword::MailboxExists => {
+            let names = permitted_names(alloc, args, granted)?;
+            Ok(Test::Check(Check::MailboxExists(names)))
         }
         _ => Err(ReadError::Fault(FaultKind::UnknownTest)),
     }
+}
+
+/// The arguments of `address`, where it may stand.
+fn permitted_address(
+    alloc: Global,
+    args: &[Argument],
+    granted: Capabilities,
+) -> Result<Address, ReadError>
+    ensures { FindsFit (IsAddress args.now) (λ address. MayCheck granted (C.Address address)) result }
+{
+    let address = read_address(alloc, args)?;
+    require(granted.subaddress, address.part.is_subaddress())?;
+    Ok(address)
+}
+
+/// The arguments of `envelope`, where it may stand.
+fn permitted_envelope(
+    alloc: Global,
+    args: &[Argument],
+    granted: Capabilities,
+) -> Result<EnvelopeTest, ReadError>
+    ensures { FindsFit (IsEnvelope args.now) (λ envelope. MayCheck granted (C.Envelope envelope)) result }
+{
+    require(granted.envelope, true)?;
+    let envelope = read_envelope(alloc, args)?;
+    require(granted.subaddress, envelope.part.is_subaddress())?;
+    Ok(envelope)
+}
+
+/// The names of `mailboxexists`, where it may stand.
+fn permitted_names(
+    alloc: Global,
+    args: &[Argument],
+    granted: Capabilities,
+) -> Result<Texts, ReadError>
+    ensures { FindsFit (IsList args.now) (λ names. MayCheck granted (C.MailboxExists names)) result }
+{
+    require(granted.mailbox, true)?;
+    let names = read_list(alloc, args)?;
+    Ok(names)
 }

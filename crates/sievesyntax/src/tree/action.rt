@@ -25,6 +25,8 @@ pub struct FileInto {
     pub mailbox: Octets,
     /// `:copy`: the implicit keep isn't cancelled (RFC 3894, 3.1).
     pub copy: bool,
+    /// `:create`: the mailbox is made where it isn't there, which is so without it too (RFC 5490, 3.2).
+    pub create: bool,
 }
 
 /// The arguments of `redirect`.

@@ -1,4 +1,7 @@
 //! The tests that look at a message or its envelope (RFC 5228, 5).
+ghost use Rattle.std.specs.Prelude.{◌≡◌};
+ghost use Rattle.sievesyntax.specs.Valid.{is_subaddress};
+
 use octets::Texts;
 
 /// A test that looks at the message or its envelope.
@@ -14,6 +17,8 @@ pub enum Check {
     Address(Address),
     /// `envelope` (RFC 5228, 5.4).
     Envelope(EnvelopeTest),
+    /// `mailboxexists`, with the names that have to be those of mailboxes, each of them (RFC 5490, 3.1).
+    MailboxExists(Texts),
 }
 
 /// The arguments of `size`: how the message's size has to stand to the limit, in octets.
@@ -106,7 +111,7 @@ pub enum Matching {
     Matches,
 }
 
-/// A part of an address (RFC 5228, 2.7.4).
+/// A part of an address (RFC 5228, 2.7.4; RFC 5233, 4).
 #[derive(Clone, Copy, Debug, PartialEq, Eq)]
 pub enum AddressPart {
     /// `:all`.
@@ -115,4 +120,17 @@ pub enum AddressPart {
     LocalPart,
     /// `:domain`.
     Domain,
+    /// `:user`: what stands before the first `+` of the local part, or all of it where it has none.
+    User,
+    /// `:detail`: what stands after the first `+` of the local part. A local part without one has no detail.
+    Detail,
+}
+
+impl AddressPart {
+    /// Whether it is part of a local part, which only `subaddress` names (RFC 5233, 4).
+    pub(crate) fn is_subaddress(self) -> bool
+        ensures { result ≡ is_subaddress self }
+    {
+        matches!(self, AddressPart::User | AddressPart::Detail)
+    }
 }

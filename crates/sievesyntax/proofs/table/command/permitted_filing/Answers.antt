@@ -24,7 +24,12 @@ returns-in_err-require-2 c =
     let p = err_from_is_err_and c.from_residual-in_err-require-2.result c.from_residual-in_err-require-2.ensures.1 in
     rw (p.1, p.2) (one_unfit (IsFileInto c.args.args.now) (λ x. MayAct c.args.granted (D.FileInto x)) _ c.in_ok-filing.ensures.1 _ (fault_on _ (Permits c.args.granted.copy c.in_ok-filing.filing.copy → ⊥) (MayAct c.args.granted (D.FileInto c.in_ok-filing.filing) → ⊥) (λ bad fit. bad fit.1) c.in_err-require-2.ensures.fault))
 
+pub returns-in_err-require-3 : goal.returns-in_err-require-3
+returns-in_err-require-3 c =
+    let p = err_from_is_err_and c.from_residual-in_err-require-3.result c.from_residual-in_err-require-3.ensures.1 in
+    rw (p.1, p.2) (one_unfit (IsFileInto c.args.args.now) (λ x. MayAct c.args.granted (D.FileInto x)) _ c.in_ok-filing.ensures.1 _ (fault_on _ (Permits c.args.granted.mailbox c.in_ok-filing.filing.create → ⊥) (MayAct c.args.granted (D.FileInto c.in_ok-filing.filing) → ⊥) (λ bad fit. bad fit.2) c.in_err-require-3.ensures.fault))
+
 pub returns-then-not-is_mailbox : goal.returns-then-not-is_mailbox
 returns-then-not-is_mailbox c =
     let bad = rw c.as_slice.ensures at c.if-not-is_mailbox.ensures in
-    one_unfit (IsFileInto c.args.args.now) (λ x. MayAct c.args.granted (D.FileInto x)) _ c.in_ok-filing.ensures.1 (Fault BadMailbox) (λ fit. let no = bad.1 fit.2 in cc)
+    one_unfit (IsFileInto c.args.args.now) (λ x. MayAct c.args.granted (D.FileInto x)) _ c.in_ok-filing.ensures.1 (Fault BadMailbox) (λ fit. let no = bad.1 fit.3 in cc)

@@ -1,10 +1,10 @@
-use Rattle.std.proofs.Common.{◌≡◌, true, refl, subst}
+use Rattle.std.proofs.Common.{refl}
 use Rattle.std.proofs.lemmas.Result.{err_from_is_err_and}
 use Rattle.sievesyntax.specs.declared.tree.checks.Check.TheVariants as C
 use Rattle.sievesyntax.specs.Table.{IsSize, IsList, IsHeader, IsAddress, IsEnvelope}
 use Rattle.sievesyntax.specs.Tree.{yes, no, looks}
-use Rattle.sievesyntax.specs.Valid.{MayTest}
-use Rattle.sievesyntax.proofs.TableLemmas.{row_only, row_fault, bare_fault}
+use Rattle.sievesyntax.specs.Valid.{MayCheck, MayTest}
+use Rattle.sievesyntax.proofs.TableLemmas.{row_only, row_fault, fit_fault, bare_fault}
 use Rattle.sievesyntax.proofs.ViewLemmas.{view-True, view-False, view-Check}
 use Rattle.sievesyntax.proofs.table.test.plain_test.Goals as goal
 
@@ -68,29 +68,38 @@ returns-in_ok-read_header-in-Header-clause-found c = rw (view-Check, c.in-Header
 pub returns-in_ok-read_header-in-Header-clause-only : goal.returns-in_ok-read_header-in-Header-clause-only
 returns-in_ok-read_header-in-Header-clause-only c = rw (view-Check, c.in-Header.is) (row_only IsHeader (λ x. looks (C.Header x)) _ (MayTest c.args.granted) _ c.in_ok-read_header-in-Header.ensures.1)
 
-pub returns-in_err-read_address-in-Address-clause-fault : goal.returns-in_err-read_address-in-Address-clause-fault
-returns-in_err-read_address-in-Address-clause-fault c =
-    let h = c.in_err-read_address-in-Address.ensures in
-    let p = err_from_is_err_and c.from_residual-in_err-read_address-in-Address.result c.from_residual-in_err-read_address-in-Address.ensures.1 in
-    rw (p.1, p.2, c.in-Address.is) (row_fault IsAddress (λ x. looks (C.Address x)) _ (MayTest c.args.granted) _ h)
+pub returns-in_err-address-in-Address-clause-fault : goal.returns-in_err-address-in-Address-clause-fault
+returns-in_err-address-in-Address-clause-fault c =
+    let h = c.in_err-address-in-Address.ensures in
+    let p = err_from_is_err_and c.from_residual-in_err-address-in-Address.result c.from_residual-in_err-address-in-Address.ensures.1 in
+    rw (p.1, p.2, c.in-Address.is) (fit_fault IsAddress (λ x. looks (C.Address x)) _ (MayTest c.args.granted) (λ x. MayCheck c.args.granted (C.Address x)) (λ x may. may) _ h)
 
-pub returns-in_ok-read_address-in-Address-clause-found : goal.returns-in_ok-read_address-in-Address-clause-found
-returns-in_ok-read_address-in-Address-clause-found c = rw (view-Check, c.in-Address.is) (record { value = _; is = c.in_ok-read_address-in-Address.ensures.0; tree_is = refl }, tt)
+pub returns-in_ok-address-in-Address-clause-found : goal.returns-in_ok-address-in-Address-clause-found
+returns-in_ok-address-in-Address-clause-found c = rw (view-Check, c.in-Address.is) (record { value = _; is = c.in_ok-address-in-Address.ensures.0; tree_is = refl }, c.in_ok-address-in-Address.ensures.1)
 
-pub returns-in_ok-read_address-in-Address-clause-only : goal.returns-in_ok-read_address-in-Address-clause-only
-returns-in_ok-read_address-in-Address-clause-only c = rw (view-Check, c.in-Address.is) (row_only IsAddress (λ x. looks (C.Address x)) _ (MayTest c.args.granted) _ c.in_ok-read_address-in-Address.ensures.1)
+pub returns-in_ok-address-in-Address-clause-only : goal.returns-in_ok-address-in-Address-clause-only
+returns-in_ok-address-in-Address-clause-only c = rw (view-Check, c.in-Address.is) (row_only IsAddress (λ x. looks (C.Address x)) _ (MayTest c.args.granted) _ c.in_ok-address-in-Address.ensures.2)
 
-pub returns-in_err-read_envelope-in-Envelope-clause-fault : goal.returns-in_err-read_envelope-in-Envelope-clause-fault
-returns-in_err-read_envelope-in-Envelope-clause-fault c =
-    let h = c.in_err-read_envelope-in-Envelope.ensures in
-    let p = err_from_is_err_and c.from_residual-in_err-read_envelope-in-Envelope.result c.from_residual-in_err-read_envelope-in-Envelope.ensures.1 in
-    rw (p.1, p.2, c.in-Envelope.is) (row_fault IsEnvelope (λ x. looks (C.Envelope x)) _ (MayTest c.args.granted) _ h)
+pub returns-in_err-envelope-in-Envelope-clause-fault : goal.returns-in_err-envelope-in-Envelope-clause-fault
+returns-in_err-envelope-in-Envelope-clause-fault c =
+    let h = c.in_err-envelope-in-Envelope.ensures in
+    let p = err_from_is_err_and c.from_residual-in_err-envelope-in-Envelope.result c.from_residual-in_err-envelope-in-Envelope.ensures.1 in
+    rw (p.1, p.2, c.in-Envelope.is) (fit_fault IsEnvelope (λ x. looks (C.Envelope x)) _ (MayTest c.args.granted) (λ x. MayCheck c.args.granted (C.Envelope x)) (λ x may. may) _ h)
 
-pub returns-in_ok-read_envelope-in-Envelope-clause-found : goal.returns-in_ok-read_envelope-in-Envelope-clause-found
-returns-in_ok-read_envelope-in-Envelope-clause-found c = rw (view-Check, c.in-Envelope.is) (record { value = _; is = c.in_ok-read_envelope-in-Envelope.ensures.0; tree_is = refl }, c.if-not-granted.false)
+pub returns-in_ok-envelope-in-Envelope-clause-found : goal.returns-in_ok-envelope-in-Envelope-clause-found
+returns-in_ok-envelope-in-Envelope-clause-found c = rw (view-Check, c.in-Envelope.is) (record { value = _; is = c.in_ok-envelope-in-Envelope.ensures.0; tree_is = refl }, c.in_ok-envelope-in-Envelope.ensures.1)
 
-pub returns-in_ok-read_envelope-in-Envelope-clause-only : goal.returns-in_ok-read_envelope-in-Envelope-clause-only
-returns-in_ok-read_envelope-in-Envelope-clause-only c = rw (view-Check, c.in-Envelope.is) (row_only IsEnvelope (λ x. looks (C.Envelope x)) _ (MayTest c.args.granted) _ c.in_ok-read_envelope-in-Envelope.ensures.1)
+pub returns-in_ok-envelope-in-Envelope-clause-only : goal.returns-in_ok-envelope-in-Envelope-clause-only
+returns-in_ok-envelope-in-Envelope-clause-only c = rw (view-Check, c.in-Envelope.is) (row_only IsEnvelope (λ x. looks (C.Envelope x)) _ (MayTest c.args.granted) _ c.in_ok-envelope-in-Envelope.ensures.2)
 
-pub returns-then-not-granted-clause-fault : goal.returns-then-not-granted-clause-fault
-returns-then-not-granted-clause-fault c = rw c.in-Envelope.is (λ other row may. let granted : c.args.granted.envelope ≡ true = subst (MayTest c.args.granted) row.tree_is may in cc)
+pub returns-in_err-names-in-MailboxExists-clause-fault : goal.returns-in_err-names-in-MailboxExists-clause-fault
+returns-in_err-names-in-MailboxExists-clause-fault c =
+    let h = c.in_err-names-in-MailboxExists.ensures in
+    let p = err_from_is_err_and c.from_residual-in_err-names-in-MailboxExists.result c.from_residual-in_err-names-in-MailboxExists.ensures.1 in
+    rw (p.1, p.2, c.in-MailboxExists.is) (fit_fault IsList (λ x. looks (C.MailboxExists x)) _ (MayTest c.args.granted) (λ x. MayCheck c.args.granted (C.MailboxExists x)) (λ x may. may) _ h)
+
+pub returns-in_ok-names-in-MailboxExists-clause-found : goal.returns-in_ok-names-in-MailboxExists-clause-found
+returns-in_ok-names-in-MailboxExists-clause-found c = rw (view-Check, c.in-MailboxExists.is) (record { value = _; is = c.in_ok-names-in-MailboxExists.ensures.0; tree_is = refl }, c.in_ok-names-in-MailboxExists.ensures.1)
+
+pub returns-in_ok-names-in-MailboxExists-clause-only : goal.returns-in_ok-names-in-MailboxExists-clause-only
+returns-in_ok-names-in-MailboxExists-clause-only c = rw (view-Check, c.in-MailboxExists.is) (row_only IsList (λ x. looks (C.MailboxExists x)) _ (MayTest c.args.granted) _ c.in_ok-names-in-MailboxExists.ensures.2)

@@ -1,0 +1,16 @@
+use Rattle.std.proofs.lemmas.Result.{err_from_is_err_and}
+use Rattle.sievesyntax.specs.declared.tree.checks.Check.TheVariants as C
+use Rattle.sievesyntax.specs.Table.{IsAddress}
+use Rattle.sievesyntax.specs.Valid.{MayCheck}
+use Rattle.sievesyntax.proofs.FaultLemmas.{none_fits, one_unfit}
+use Rattle.sievesyntax.proofs.table.test.permitted_address.Goals as goal
+
+pub returns-in_err-address : goal.returns-in_err-address
+returns-in_err-address c =
+    let p = err_from_is_err_and c.from_residual.result c.from_residual.ensures.1 in
+    rw (p.1, p.2) (none_fits (IsAddress c.args.args.now) (λ x. MayCheck c.args.granted (C.Address x)) _ c.in_err-address.ensures)
+
+pub returns-in_err-require : goal.returns-in_err-require
+returns-in_err-require c =
+    let p = err_from_is_err_and c.from_residual-in_err-require.result c.from_residual-in_err-require.ensures.1 in
+    rw (p.1, p.2) (one_unfit (IsAddress c.args.args.now) (λ x. MayCheck c.args.granted (C.Address x)) _ c.in_ok-address.ensures.1 _ (rw c.is_subaddress.ensures at c.in_err-require.ensures.fault))

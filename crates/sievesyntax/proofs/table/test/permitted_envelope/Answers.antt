@@ -1,0 +1,23 @@
+use Rattle.std.proofs.Common.{true}
+use Rattle.std.proofs.lemmas.Result.{err_from_is_err_and}
+use Rattle.sievesyntax.specs.declared.tree.checks.Check.TheVariants as C
+use Rattle.sievesyntax.specs.Table.{IsEnvelope}
+use Rattle.sievesyntax.specs.Valid.{is_subaddress, Permits, MayCheck}
+use Rattle.sievesyntax.specs.declared.tree.checks.EnvelopeTest.{EnvelopeTest}
+use Rattle.sievesyntax.proofs.FaultLemmas.{fault_on, none_fits, one_unfit}
+use Rattle.sievesyntax.proofs.table.test.permitted_envelope.Goals as goal
+
+pub returns-in_err-require : goal.returns-in_err-require
+returns-in_err-require c =
+    let p = err_from_is_err_and c.from_residual.result c.from_residual.ensures.1 in
+    rw (p.1, p.2) (fault_on _ (Permits c.args.granted.envelope true → ⊥) ((x : EnvelopeTest) → IsEnvelope c.args.args.now x → MayCheck c.args.granted (C.Envelope x) → ⊥) (λ bad x is fit. bad (λ used. fit.0)) c.in_err-require.ensures.fault)
+
+pub returns-in_err-envelope : goal.returns-in_err-envelope
+returns-in_err-envelope c =
+    let p = err_from_is_err_and c.from_residual-in_err-envelope.result c.from_residual-in_err-envelope.ensures.1 in
+    rw (p.1, p.2) (none_fits (IsEnvelope c.args.args.now) (λ x. MayCheck c.args.granted (C.Envelope x)) _ c.in_err-envelope.ensures)
+
+pub returns-in_err-require-2 : goal.returns-in_err-require-2
+returns-in_err-require-2 c =
+    let p = err_from_is_err_and c.from_residual-in_err-require-2.result c.from_residual-in_err-require-2.ensures.1 in
+    rw (p.1, p.2) (one_unfit (IsEnvelope c.args.args.now) (λ x. MayCheck c.args.granted (C.Envelope x)) _ c.in_ok-envelope.ensures.1 _ (fault_on _ (Permits c.args.granted.subaddress (is_subaddress c.in_ok-envelope.envelope.part) → ⊥) (MayCheck c.args.granted (C.Envelope c.in_ok-envelope.envelope) → ⊥) (λ bad fit. bad fit.1) (rw c.is_subaddress.ensures at c.in_err-require-2.ensures.fault)))

@@ -1,0 +1,17 @@
+use Rattle.std.proofs.Common.{ℕ, List, true}
+use Rattle.std.proofs.lemmas.Result.{err_from_is_err_and}
+use Rattle.sievesyntax.specs.declared.tree.checks.Check.TheVariants as C
+use Rattle.sievesyntax.specs.Table.{IsList}
+use Rattle.sievesyntax.specs.Valid.{Permits, MayCheck}
+use Rattle.sievesyntax.proofs.FaultLemmas.{fault_on, none_fits}
+use Rattle.sievesyntax.proofs.table.test.permitted_names.Goals as goal
+
+pub returns-in_err-require : goal.returns-in_err-require
+returns-in_err-require c =
+    let p = err_from_is_err_and c.from_residual.result c.from_residual.ensures.1 in
+    rw (p.1, p.2) (fault_on _ (Permits c.args.granted.mailbox true → ⊥) ((x : List (List ℕ)) → IsList c.args.args.now x → MayCheck c.args.granted (C.MailboxExists x) → ⊥) (λ bad x is fit. bad (λ used. fit)) c.in_err-require.ensures.fault)
+
+pub returns-in_err-names : goal.returns-in_err-names
+returns-in_err-names c =
+    let p = err_from_is_err_and c.from_residual-in_err-names.result c.from_residual-in_err-names.ensures.1 in
+    rw (p.1, p.2) (none_fits (IsList c.args.args.now) (λ x. MayCheck c.args.granted (C.MailboxExists x)) _ c.in_err-names.ensures)
