@@ -14,7 +14,7 @@ CASES = f"{HERE}/../crates/wirecases/data/lmtp.cases"
 PROGRAM = [SIEVED]
 PART = re.compile(r"%\{([^*]*)\*(\d+)\}|%([0-9A-F]{2})")
 # Rows in which the cases' host lacks something, or says of a recipient what a store doesn't, or has names that no account has.
-LEFT = re.compile(r"@drop|@room|(busy|broken|full|gone|from|bad|loop|crowded|late|faulty|lines)@x|a\*1022|J%C3%B6rg@x>%0D%0A\t250 2.1.5")
+LEFT = re.compile(r"@drop|@room|(busy|broken|full|gone|closed|from|bad|loop|crowded|late|faulty|lines)@x|a\*1022|J%C3%B6rg@x>%0D%0A\t250 2.1.5")
 STATES = {
     "greeted": [],
     "ready": [b"LHLO c\r\n"],
