@@ -2,10 +2,10 @@
 use Rattle.std.specs.Prelude.{◌≡◌, ◌⊎◌, ℕ, ◌-◌, ◌==◌, if◌then◌else◌, List, [], ◌∷◌, ◌++◌, length, take, Bool, true, false, IsTrue}
 use Rattle.std.specs.List.{flat_map}
 use Rattle.lmtp.specs.declared.reply.Reply.{Reply}
-use Rattle.lmtp.specs.declared.reply.Reply.TheVariants.{NoSuchUser, MessageTooLarge, BadSender, BadRecipient, NoRoom, LocalFault}
+use Rattle.lmtp.specs.declared.reply.Reply.TheVariants.{NoSuchUser, AccountClosed, MessageTooLarge, BadSender, BadRecipient, NoRoom, LocalFault}
 use Rattle.mailstore.specs.Account.{Accounts}
 use Rattle.mailstore.specs.declared.refusal.Refusal.{Refusal}
-use Rattle.mailstore.specs.declared.refusal.Refusal.TheVariants.{Memory, NoUser, TooLarge, BadEnvelope}
+use Rattle.mailstore.specs.declared.refusal.Refusal.TheVariants.{Memory, NoUser, AccountClosed as ClosedAccount, TooLarge, BadEnvelope}
 use Rattle.mailengine.specs.Hosts.{Kept}
 use Rattle.mailengine.specs.Limits.{is_envelope_address}
 use Rattle.mailengine.specs.declared.answer.Answer.{Answer}
@@ -40,6 +40,7 @@ envelope_reply false = BadSender
 -- how a recipient is told that a delivery was refused; for a fault of the host it is told to try again
 abbrev pub reply_to : List ℕ → Refusal → Reply
 reply_to sender NoUser = NoSuchUser
+reply_to sender ClosedAccount = AccountClosed
 reply_to sender TooLarge = MessageTooLarge
 reply_to sender BadEnvelope = envelope_reply (is_envelope_address sender)
 reply_to sender Memory = NoRoom
