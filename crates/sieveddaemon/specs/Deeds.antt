@@ -10,7 +10,7 @@ use Rattle.mailengine.specs.Hosts.{Kept}
 use Rattle.mailengine.specs.Limits.{is_envelope_address}
 use Rattle.mailengine.specs.declared.answer.Answer.{Answer}
 use Rattle.mailengine.specs.declared.answer.Answer.TheVariants as answer
-use Rattle.mailposts.specs.Posts.{Deed, Answered, Asked, Away, Brought}
+use Rattle.mailposts.specs.Posts.{Deed, Answered, Declined, Asked, Away, Brought}
 use Rattle.mailposts.specs.declared.addressee.Became.{Became}
 use Rattle.mailposts.specs.declared.addressee.Became.TheVariants.{Delivered, Refused}
 use Rattle.mailposts.specs.declared.demand.Parcel.{Parcel}
@@ -52,9 +52,9 @@ IsBecame sender (answer.Delivered report) became = (became ≡ Delivered (one_li
 IsBecame sender (answer.Refused refusal) became = became ≡ Refused (reply_to sender refusal)
 IsBecame sender other became = became ≡ Refused LocalFault
 
--- the deed that a note tells
+-- the deed that a note tells; a MAIL that is refused for lack of room is answered too
 abbrev pub IsDeed : Note → Deed → Type 0
-IsDeed note.Answered deed = deed ≡ Answered
+IsDeed note.Answered deed = (deed ≡ Answered) ⊎ ((size : ℕ) × (deed ≡ Declined size))
 IsDeed (note.Asked others user lookup) deed = deed ≡ Asked user lookup
 IsDeed note.Away deed = deed ≡ Away
 IsDeed (note.Did others event told) deed =
@@ -69,16 +69,17 @@ Stores shows r before other q after = NothingDone shows r before q after
 
 -- ---- one step of a client of LMTP, apart from others
 
--- its note tells a deed for it, of which the store and the sessions have their part
-pub record DoesOne {R : Type 0} (shows : R → Accounts → Type 0) (d : Daemon) (r : R) (before : Post) (now : ℕ) (note : Note) (said : List ℕ) (e : Daemon) (q : R) (after : Post) : Type 0 where
+-- its note tells a deed for it, of which the store and the sessions have their part; where there is room for so many octets
+pub record DoesOne {R : Type 0} (shows : R → Accounts → Type 0) (room : ℕ) (d : Daemon) (r : R) (before : Post) (now : ℕ) (note : Note) (said : List ℕ) (e : Daemon) (q : R) (after : Post) : Type 0 where
   pub deed : Deed
   pub is : IsDeed note deed
   pub does : Does now deed said before after
+  pub spare : (size : ℕ) → deed ≡ Declined size → size ≡ room
   pub stores : Stores shows r d.clients.sessions note q e.clients.sessions
   pub places : e.places ≡ d.places
   pub holding : e.holding ≡ holding_behind now note d.holding
 
 -- the same, where it is told
-abbrev pub DoesOneIf : {O R : Type 0} → (O → Bool) → (O → List (Act Note)) → (O → R) → (R → Accounts → Type 0) → O → Daemon → Post → ℕ → ℕ → List ℕ → O → Daemon → Post → Type 0
-DoesOneIf tells seen rest shows o d before now id said p e after =
-    IsTrue (tells p) → (note : Note) × (seen p ≡ seen o ++ Noted id note ∷ []) × DoesOne shows d (rest o) before now note said e (rest p) after
+abbrev pub DoesOneIf : {O R : Type 0} → (O → Bool) → (O → List (Act Note)) → (O → R) → (R → Accounts → Type 0) → ℕ → O → Daemon → Post → ℕ → ℕ → List ℕ → O → Daemon → Post → Type 0
+DoesOneIf tells seen rest shows room o d before now id said p e after =
+    IsTrue (tells p) → (note : Note) × (seen p ≡ seen o ++ Noted id note ∷ []) × DoesOne shows room d (rest o) before now note said e (rest p) after
