@@ -1,5 +1,6 @@
 #!/usr/bin/env python3
-"""Tries `sieved daemon --lmtp`: the dialogues of the cases, recipients, scripts, sockets, a store that is away, and killed.
+"""Tries `sieved daemon --lmtp`: the dialogues of the cases, recipients, scripts, room for many texts, sockets, a store that is away,
+and killed.
 
   tests/lmtp.py [--quick] [--sieved SIEVED] [TRIAL ..]     SIEVED: the program, crates/sieved/out/sieved where none is named
 
@@ -8,13 +9,14 @@ does a tenth of what is done many times. It needs python3 alone.
 """
 import fcntl, os, re, socket, stat, subprocess, sys, threading, time
 import trials
+from hostile import memory
 from managesieve import HERE, SIEVED, Store, connect, end
 
 CASES = f"{HERE}/../crates/wirecases/data/lmtp.cases"
 PROGRAM = [SIEVED]
 PART = re.compile(r"%\{([^*]*)\*(\d+)\}|%([0-9A-F]{2})")
 # Rows in which the cases' host lacks something, or says of a recipient what a store doesn't, or has names that no account has.
-LEFT = re.compile(r"@drop|@room|(busy|broken|full|gone|from|bad|loop|crowded|late|faulty|lines)@x|a\*1022|J%C3%B6rg@x>%0D%0A\t250 2.1.5")
+LEFT = re.compile(r"@drop|@room|(busy|broken|full|gone|closed|from|bad|loop|crowded|late|faulty|lines)@x|a\*1022|J%C3%B6rg@x>%0D%0A\t250 2.1.5")
 STATES = {
     "greeted": [],
     "ready": [b"LHLO c\r\n"],
@@ -241,6 +243,42 @@ def thousand():
     return f"{len(users)} recipients, a reply each; another client's NOOP took {slowest * 1000:.0f} ms at most"
 
 
+def room():
+    """All that 70 clients send at once, who end nothing: together they hold 64 MiB, and who passes that is told so."""
+    store = new_store("alice")
+    size, mib = max(trials.some(30), 5) << 20, 64
+    server, sieve, port = daemon(store, "--managesieve", "0", "--lmtp", "0")
+    before = memory(server, "VmHWM")
+    peers = [Peer(port) for _ in range(20)]
+    for peer in peers:
+        greet(peer)
+        assert peer.open(b"alice@x") == [b"250 2.1.5 Ok\r\n"] and peer.say(b"DATA\r\n")[0].startswith(b"354")
+    part = (b"x" * 998 + b"\r\n") * 1_000
+    for _ in range(size // len(part)):
+        for peer in peers:
+            peer.sock.sendall(part)
+    clients, gone = [connect(sieve) for _ in range(50)], 0
+    literal = b'PUTSCRIPT {1048576+}\r\n' + b"y" * 1_048_576 + b" {1048576+}\r\n" + b"y" * 1_048_000
+    for client in clients:
+        try:
+            client.sock.sendall(literal)
+        except OSError:
+            gone += 1
+    # What they sent is read once this is answered: the daemon reads of each in turn.
+    time.sleep(1)
+    most = memory(server, "VmHWM")
+    told = [peer.say(b".\r\n")[0] for peer in peers]
+    filed, refused = told.count(b"250 2.1.5 file INBOX\r\n"), told.count(b"452 4.3.1 Out of memory, try later\r\n")
+    again = peers[-1].say(b"MAIL FROM:<s@x> SIZE=33000000\r\n")[0]
+    delivered = memory(server, "VmHWM")
+    end(server)
+    assert filed + refused == 20 and filed >= 1 and refused >= 1, told
+    assert count_of(store, "alice") == filed
+    assert again == b"250 2.1.0 Ok\r\n", again
+    assert most - before < 3 * mib * 1024, (before, most)
+    return f"20 texts of {size >> 20} MiB and 50 scripts of 2 MiB at once, of which {mib} MiB may be held: {filed} filed, {refused} told 452, {gone} scripts cut off; {most} kB at most, {before} before, {delivered} with the deliveries"
+
+
 def broken_off():
     """Connections that end in a text: nothing is filed."""
     store = new_store("alice")
@@ -327,7 +365,7 @@ def killed():
     return done.stdout.strip()
 
 
-TRIALS = {"dialogues": dialogues, "names": names, "scripts": scripts, "circles": circles, "thousand": thousand, "broken_off": broken_off, "away": away,
+TRIALS = {"dialogues": dialogues, "names": names, "scripts": scripts, "circles": circles, "thousand": thousand, "room": room, "broken_off": broken_off, "away": away,
           "sockets": sockets, "killed": killed}
 
 

@@ -6,7 +6,7 @@ use Rattle.lmtp.specs.Lines.{line_end}
 use Rattle.lmtp.specs.declared.reply.Outcome.{Outcome}
 use Rattle.lmtp.specs.declared.reply.Outcome.TheVariants.{Delivered, Refused}
 use Rattle.lmtp.specs.declared.reply.Reply.{Reply}
-use Rattle.lmtp.specs.declared.reply.Reply.TheVariants.{Done, SenderTaken, RecipientTaken, Unverified, GoAhead, Helped, Goodbye, UnknownCommand, NotSmtp, LineTooLong, BadArgument, BadSender, BadRecipient, OutOfOrder, NoRecipient, BadParameter, NoSuchUser, MessageTooLarge, MailLoop, NoRoom, TooManyRecipients, StoreAway, LocalFault, Idle}
+use Rattle.lmtp.specs.declared.reply.Reply.TheVariants.{Done, SenderTaken, RecipientTaken, Unverified, GoAhead, Helped, Goodbye, UnknownCommand, NotSmtp, LineTooLong, BadArgument, BadSender, BadRecipient, OutOfOrder, NoRecipient, BadParameter, NoSuchUser, AccountClosed, MessageTooLarge, MailLoop, NoRoom, TooManyRecipients, StoreAway, LocalFault, Idle}
 
 -- a line with its code, and what it says for people
 abbrev pub line_of : Reply → List ℕ
@@ -27,6 +27,7 @@ line_of OutOfOrder = codes "503 5.5.1 Command out of order" ++ line_end
 line_of NoRecipient = codes "503 5.5.1 No recipient" ++ line_end
 line_of BadParameter = codes "555 5.5.4 Parameter not known" ++ line_end
 line_of NoSuchUser = codes "550 5.1.1 No such user" ++ line_end
+line_of AccountClosed = codes "451 4.2.1 Account is closed, try later" ++ line_end
 line_of MessageTooLarge = codes "552 5.3.4 Message too large" ++ line_end
 line_of MailLoop = codes "554 5.4.6 Mail loop" ++ line_end
 line_of NoRoom = codes "452 4.3.1 Out of memory, try later" ++ line_end
@@ -37,6 +38,7 @@ line_of Idle = codes "421 4.4.2 Idle" ++ line_end
 
 -- one for which the host is to blame, and not the client
 abbrev pub is_of_host : Reply → Bool
+is_of_host AccountClosed = true
 is_of_host NoRoom = true
 is_of_host TooManyRecipients = true
 is_of_host StoreAway = true

@@ -52,6 +52,8 @@ pub enum Reply {
     BadParameter,
     /// The recipient has no account.
     NoSuchUser,
+    /// The recipient's account is closed: it may be on its way to another host (RFC 3463, section 3.3).
+    AccountClosed,
     /// The message has more octets than are taken.
     MessageTooLarge,
     /// The message was delivered to this recipient before.
@@ -91,6 +93,7 @@ impl Reply {
             Reply::NoRecipient => b"503 5.5.1 No recipient\r\n",
             Reply::BadParameter => b"555 5.5.4 Parameter not known\r\n",
             Reply::NoSuchUser => b"550 5.1.1 No such user\r\n",
+            Reply::AccountClosed => b"451 4.2.1 Account is closed, try later\r\n",
             Reply::MessageTooLarge => b"552 5.3.4 Message too large\r\n",
             Reply::MailLoop => b"554 5.4.6 Mail loop\r\n",
             Reply::NoRoom => b"452 4.3.1 Out of memory, try later\r\n",

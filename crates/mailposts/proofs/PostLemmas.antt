@@ -1,10 +1,10 @@
 -- What the calls of a connection make of it, put together from their parts.
-use Rattle.std.proofs.Common.{◌≡◌, ◌∙◌, inl, inr, ℕ, ◌+◌, ◌<◌, if◌then◌else◌, List, [], ◌∷◌, ◌++◌, length, Some, None, refl, sym, ap, subst, arith, length-append}
+use Rattle.std.proofs.Common.{◌≡◌, ◌∙◌, inl, inr, ℕ, true, ◌+◌, ◌<◌, if◌then◌else◌, List, [], ◌∷◌, ◌++◌, length, Some, None, refl, sym, ap, subst, arith, length-append}
 use Rattle.lmtp.specs.Dialogues.{Phase, Sending, Dialogue, given, Message}
-use Rattle.lmtp.specs.Receivers.{StandsIn, ComesNext, Goes as GoesIn, GoesFrom, SaysNext, Hears as HearsIn}
+use Rattle.lmtp.specs.Receivers.{StandsIn, ComesNext, Goes as GoesIn, GoesFrom, SaysNext, Hears as HearsIn, Refuses as RefusesIn}
 use Rattle.lmtp.specs.Replies.{line_of, said_of}
 use Rattle.lmtp.specs.Talks.{phase_by}
-use Rattle.lmtp.specs.Turns.{Answers, Resolves, Replies, reply_to, replied}
+use Rattle.lmtp.specs.Turns.{Answers, Declines, Resolves, Replies, reply_to, replied}
 use Rattle.lmtp.specs.declared.receiver.Lookup.{Lookup}
 use Rattle.lmtp.specs.declared.receiver.Lookup.TheVariants.{Known, Unknown, Away as Absent, Fault, NoRoom}
 use Rattle.lmtp.specs.declared.receiver.Next.{Next}
@@ -13,8 +13,8 @@ use Rattle.lmtp.specs.declared.receiver.Stage.{Stage}
 use Rattle.lmtp.specs.declared.receiver.Stage.TheVariants as stage
 use Rattle.lmtp.specs.declared.reply.Outcome.{Outcome}
 use Rattle.lmtp.proofs.DialogueLemmas.{one_item}
-use Rattle.mailposts.specs.Posts.{Post, is_open, is_sending, behind, Answered, Asked, Away, Brought, IsAsked, taken_with, next_form, Finds, IsFound, Resolved, first_form, IsOwed, said_for, told_post, next_recipient}
-use Rattle.mailposts.specs.Stands.{wanted_for, Holds, Stands, is_open_at, is_sending_at, Settles, GoesOn, Asks, ResolvesIt, TellsIt, Hears, Does, IsNext, Demands, AsksIt}
+use Rattle.mailposts.specs.Posts.{Post, is_open, is_sending, behind, Answered, Declined, Asked, Away, Brought, IsAsked, taken_with, next_form, Finds, IsFound, Resolved, first_form, IsOwed, said_for, told_post, next_recipient}
+use Rattle.mailposts.specs.Stands.{wanted_for, Holds, Stands, is_open_at, is_sending_at, Settles, GoesOn, Asks, ResolvesIt, TellsIt, Keeps, Hears, Does, IsNext, Demands, AsksIt}
 use Rattle.mailposts.specs.Tallies.{fresh, done, heard, away}
 use Rattle.mailposts.specs.declared.addressee.Addressee.{Addressee}
 use Rattle.mailposts.specs.declared.addressee.Became.{Became}
@@ -108,6 +108,41 @@ answers now c m e before after none line answered hello names addressees tally g
       inl (record { later = a.next; answers = subst (λ x. Answers p.hello p.dialogue x a.next) said (subst (λ x. Answers x p.dialogue a.said a.next) holds.hello a.does); leaves = refl }),
       goes (record p { dialogue = a.next }) mid,
     )
+
+-- ---- a MAIL for which there is no room
+
+pub declines : (now room : ℕ) (c m e : Code) (before after : List ℕ) → before ≡ [] → RefusesIn room c.receiver m.receiver before after true
+    → m.receiver.talk.hello ≡ c.receiver.talk.hello → m.names ≡ c.names → m.addressees ≡ c.addressees → m.tally ≡ c.tally → GoesOn now m e → Does now (Declined room) after c e
+declines now room c m e before after none refused hello names addressees tally goes = λ p stands.
+    let holds = stands.holds in
+    let a = refused p.dialogue holds.dialogue in
+    let mid : Holds m (record p { dialogue = a.next }) = record {
+      names = names ∙ holds.names;
+      hello = hello ∙ holds.hello;
+      dialogue = a.stands;
+      addressees = ap (λ x. x.items) addressees ∙ holds.addressees;
+      tally = tally ∙ holds.tally;
+    } in
+    let said : a.said ≡ after = sym (a.written ∙ ap (λ x. x ++ a.said) none) in (
+      behind now a.next p.addressees p.tally p,
+      record { later = a.next; declines = subst (λ x. Declines room p.dialogue x a.next) said a.does; leaves = refl },
+      goes (record p { dialogue = a.next }) mid,
+    )
+
+-- ---- the text isn't kept
+
+pub drops : (c e : Code) → ((d : Dialogue) → StandsIn c.receiver d → StandsIn e.receiver d) → e.receiver.talk.hello ≡ c.receiver.talk.hello
+    → e ≡ record c { receiver = e.receiver } → Keeps c e
+drops c e stands_in hello rest = λ p stands. record {
+  holds = record {
+    names = ap (λ (x : Code). x.names) rest ∙ stands.holds.names;
+    hello = hello ∙ stands.holds.hello;
+    dialogue = stands_in p.dialogue stands.holds.dialogue;
+    addressees = ap (λ (x : Code). x.addressees.items) rest ∙ stands.holds.addressees;
+    tally = ap (λ (x : Code). x.tally) rest ∙ stands.holds.tally;
+  };
+  comes = (stands.comes.0, stands.comes.1, ap (λ (x : Code). x.comes) rest ∙ stands.comes.2);
+}
 
 -- ---- a recipient
 

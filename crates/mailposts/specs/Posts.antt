@@ -5,7 +5,7 @@ use Rattle.lmtp.specs.Copies.{IsCopy, was_delivered}
 use Rattle.lmtp.specs.Dialogues.{Phase, Greeted, Ready, Opened, Asking, Sending, Over, Dialogue, new_dialogue, given, Message, IsFirst}
 use Rattle.lmtp.specs.Names.{AreForms}
 use Rattle.lmtp.specs.Replies.{line_of, delivered, capabilities}
-use Rattle.lmtp.specs.Turns.{max_text, Answers, Resolves, replied}
+use Rattle.lmtp.specs.Turns.{max_text, Answers, Declines, Resolves, replied}
 use Rattle.lmtp.specs.declared.name.Names.{Names}
 use Rattle.lmtp.specs.declared.receiver.Lookup.{Lookup}
 use Rattle.lmtp.specs.declared.receiver.Lookup.TheVariants.{Known, Unknown, Away as Absent}
@@ -63,6 +63,8 @@ behind now later addressees tally p = record p {
 pub data Deed : Type 0 where
   -- what comes first was answered without the store
   Answered : Deed
+  -- a MAIL came first that announces more octets than that, of which there was room, and it was refused (RFC 1870, section 6.1)
+  Declined : ℕ → Deed
   -- the store was asked whether there is an account of that name, and this was found
   Asked : List ℕ → Lookup → Deed
   -- the store was asked for, and wasn't to be had
@@ -75,6 +77,12 @@ pub data Deed : Type 0 where
 pub record AnswersLine (now : ℕ) (p : Post) (said : List ℕ) (q : Post) : Type 0 where
   pub later : Dialogue
   pub answers : Answers p.hello p.dialogue said later
+  pub leaves : q ≡ behind now later p.addressees p.tally p
+
+-- there was room for so many octets, and the MAIL that comes first announces more
+pub record DeclinesLine (now room : ℕ) (p : Post) (said : List ℕ) (q : Post) : Type 0 where
+  pub later : Dialogue
+  pub declines : Declines room p.dialogue said later
   pub leaves : q ≡ behind now later p.addressees p.tally p
 
 -- ---- a recipient
@@ -201,6 +209,7 @@ IsAnswered now p said q =
 
 abbrev pub Goes : ℕ → Post → Deed → List ℕ → Post → Type 0
 Goes now p Answered said q = IsAnswered now p said q
+Goes now p (Declined room) said q = DeclinesLine now room p said q
 Goes now p (Asked user lookup) said q =
     MayAsk now p.tally × IsFound lookup
     × ((address : List ℕ) × (others : List (List ℕ)) × IsAsked p address user others × Finds now p address user others lookup said q)

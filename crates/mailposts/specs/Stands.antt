@@ -8,12 +8,12 @@ use Rattle.lmtp.specs.declared.receiver.Next.TheVariants as next
 use Rattle.lmtp.specs.declared.receiver.Lookup.{Lookup}
 use Rattle.lmtp.specs.declared.receiver.Stage.{Stage}
 use Rattle.lmtp.specs.declared.receiver.Stage.TheVariants as stage
-use Rattle.lmtp.specs.Turns.{Resolves, max_text}
+use Rattle.lmtp.specs.Turns.{Declines, Resolves, max_text}
 use Rattle.lmtp.specs.declared.reply.Reply.{Reply}
 use Rattle.lmtp.specs.declared.reply.Reply.TheVariants.{MessageTooLarge, NoRoom}
 use Rattle.lmtp.specs.declared.text.Trouble.{Trouble}
 use Rattle.lmtp.specs.declared.text.Trouble.TheVariants.{TooLarge, Memory}
-use Rattle.mailposts.specs.Posts.{Post, behind, post_heard, Deed, Goes, AsksStore, IsAsked, first_form, IsOwed, Becomes, said_for, told_post, IsParcel}
+use Rattle.mailposts.specs.Posts.{Post, behind, post_heard, Deed, Declined, Goes, AsksStore, IsAsked, first_form, IsOwed, Becomes, said_for, told_post, IsParcel}
 use Rattle.mailposts.specs.Tallies.{MayAsk, HasWaited, fresh, done}
 use Rattle.mailposts.specs.declared.addressee.Addressee.{Addressee}
 use Rattle.mailposts.specs.declared.addressee.Became.{Became}
@@ -97,6 +97,12 @@ Hears now piece c e = (p : Post) → Stands c p → Stands e (post_heard now pie
 -- this was done for it, and said
 abbrev pub Does : ℕ → Deed → List ℕ → Code → Code → Type 0
 Does now deed said c e = (p : Post) → Stands c p → (q : Post) × Goes now p deed said q × Stands e q
+
+-- where so many octets have room, a MAIL that announces more came next and was refused; or none did, and nothing changed
+abbrev pub Refuses : ℕ → ℕ → List ℕ → Bool → Code → Code → Type 0
+Refuses now room said true c e = Does now (Declined room) said c e
+Refuses now room said false c e =
+    (said ≡ []) × (e ≡ c) × ((p : Post) → Stands c p → (octets : List ℕ) (later : Dialogue) → Declines room p.dialogue octets later → ⊥)
 
 -- ---- what is to be done
 

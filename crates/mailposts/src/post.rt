@@ -1,6 +1,7 @@
 //! The state of one connection.
-ghost use Rattle.std.specs.Prelude.{◌≡◌, ◌<◌, List, [], ◌∷◌, ◌++◌, length, Some, IfOk, OnOk, OnErr};
+ghost use Rattle.std.specs.Prelude.{◌≡◌, ◌≢◌, ◌<◌, List, [], ◌∷◌, ◌++◌, length, Some, IfOk, OnOk, OnErr};
 ghost use Rattle.mailposts.specs.declared.addressee.Addressee.{Addressee};
+ghost use Rattle.lmtp.specs.Receivers as receivers;
 ghost use Rattle.lmtp.specs.Replies as replies;
 ghost use Rattle.mailposts.specs.Posts as posts;
 ghost use Rattle.mailposts.specs.Posts.{Answered, Asked, Away, Brought};
@@ -86,6 +87,39 @@ impl Post {
         self.comes = wanted_for(self.receiver.next());
         self.tally = self.tally.heard(now, sending, piece.len());
         Ok(())
+    }
+
+    /// How many octets of lines and of a text it holds; a sender and recipients are held besides. Constant time.
+    pub fn held(&self) -> usize
+        ensures { result ≡ receivers.held_by self.now.receiver }
+    {
+        self.receiver.held()
+    }
+
+    /// A text that is sent, or was, isn't kept any more, since there is no room for it: it is heard to its end, and each recipient is told
+    /// so (452) who has had no reply. Where none is sent, nothing changes. Takes no memory.
+    pub fn drop_text(&mut self)
+        ensures keeps { s.Keeps self.old self.new }
+        ensures dropped { receivers.IsDropped self.new.receiver.talk }
+        ensures other { self.old.receiver.talk.stage ≢ Stage.Sending → self.new ≡ self.old }
+    {
+        self.receiver.drop_text();
+    }
+
+    /// Where a MAIL comes next that announces more octets than there is `room` for, it is refused (452, RFC 1870, section 6.1), and the
+    /// answer is true; else nothing changes.
+    ///
+    /// Lack of memory is the only error; nothing changes then.
+    pub fn refuse(&mut self, now: u64, room: u64, out: &mut Octets) -> Result<bool, AllocError>
+        requires out { out.old ≡ [] }
+        ensures ok { IfOk result (λ did. s.Refuses now room out.new did self.old self.new) }
+        ensures err { OnErr result ((self.new ≡ self.old) × (out.new ≡ out.old)) }
+    {
+        let did = self.receiver.refuse(room, out)?;
+        if did {
+            self.go_on(now);
+        }
+        Ok(did)
     }
 
     /// The line that comes next is answered.

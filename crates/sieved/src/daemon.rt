@@ -20,6 +20,9 @@ use std::{fs, io};
 use systemsockets::SystemSockets;
 use wires::service::Service;
 
+/// So many KiB all connections may hold: 64 MiB.
+const MEMORY: u32 = 65_536;
+
 /// Serves many clients at once, from the store of a keeper. What is inherited is on the descriptor. The answer is the exit status,
 /// where there is one.
 pub fn serve_many<
@@ -163,7 +166,7 @@ fn live<N: Net + Clock, E: Write + Drop, K: Keeper + Drop, T: MailSink + Drop>(
         Ok(name) => name,
         Err(AllocError) => return host.refuse(trouble_of(Fault::from(AllocError))),
     };
-    let mut daemon = MailDaemon::new(alloc, asked.names, name, asked.mail.is_some());
+    let mut daemon = MailDaemon::new(alloc, asked.names, name, asked.mail.is_some(), MEMORY);
     let mut service = Service::new(alloc);
     match life::serve(&mut host, &mut daemon, &mut service, u64::MAX) {
         Ok(()) => 0,

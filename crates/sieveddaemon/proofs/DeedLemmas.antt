@@ -1,10 +1,10 @@
 -- One step of a client of LMTP, put together from what is told and known.
-use Rattle.std.proofs.Common.{◌≡◌, ℕ, Bool, List, Some, None, IsTrue, inl, inr, refl}
+use Rattle.std.proofs.Common.{◌≡◌, ℕ, Bool, true, false, List, Some, None, IsTrue, inl, inr, refl, sym, ◌∙◌, ap}
 use Rattle.lmtp.specs.declared.receiver.Lookup.{Lookup}
 use Rattle.mailstore.specs.Account.{Accounts}
 use Rattle.mailengine.specs.declared.answer.Answer.{Answer}
 use Rattle.mailengine.specs.declared.clients.Clients.{Clients}
-use Rattle.mailposts.specs.Posts.{Deed, Answered, Asked, Away, Brought}
+use Rattle.mailposts.specs.Posts.{Deed, Answered, Declined, Asked, Away, Brought}
 use Rattle.mailposts.specs.Stands.{Keeps, Does, Demands, AsksIt}
 use Rattle.mailposts.specs.declared.addressee.Became.{Became}
 use Rattle.mailposts.specs.declared.demand.Demand.TheVariants as demand
@@ -33,16 +33,44 @@ asks_account now c question asked = λ p stands. let a = asked p stands in (a.0,
 pub asks_delivery : (now : ℕ) (c : Post) (parcel : Parcel) → Demands now c (demand.Delivery parcel) → AsksIt now c
 asks_delivery now c parcel asked = λ p stands. let a = asked p stands in (a.0, inr (a.1.0, a.1.1, a.1.2, a.1.3, parcel, a.1.4))
 
+-- only a MAIL that is refused is so for lack of room
+abbrev is_declined : Deed → Bool
+is_declined (Declined size) = true
+is_declined deed = false
+
+other_deed : (room size : ℕ) (deed : Deed) → is_declined deed ≡ false → deed ≡ Declined size → size ≡ room
+other_deed room size deed other is = absurd (let never : true ≡ false = sym (ap is_declined is) ∙ other in cc)
+
+abbrev size_of : Deed → ℕ
+size_of (Declined size) = size
+size_of deed = 0
+
 module _ {O R : Type 0} (tells : O → Bool) (seen : O → List (Act Note)) (rest : O → R) (shows : R → Accounts → Type 0) (clean : R → Type 0) (sure : (o : O) → IsTrue (tells o) → clean (rest o))
-    (o p : O) (d : Daemon) (c : Clients) (now id : ℕ) (said : List ℕ) (before after : Post) where
+    (o p : O) (d : Daemon) (c : Clients) (now id : ℕ) (said : List ℕ) (before after : Post) (room : ℕ) where
   abbrev One : Daemon → Type 0
-  One e = DoesOneIf tells seen rest shows o d before now id said p e after
+  One e = DoesOneIf tells seen rest shows room o d before now id said p e after
 
   pub answered : Does now Answered said before after → TellsIf tells seen o (Noted id note.Answered) p → StillShowsIf tells rest shows o p → One d
   answered does told still = λ tell. (
     note.Answered,
     told tell,
-    record { deed = Answered; is = refl; does = does; stores = record { shown = still tell; kept = λ clients has. has }; places = refl; holding = refl },
+    record { deed = Answered; is = inl refl; does = does; spare = λ size. other_deed room size Answered refl; stores = record { shown = still tell; kept = λ clients has. has }; places = refl; holding = refl },
+  )
+
+  -- a MAIL was refused that announces more than there is room for
+  pub declined : Does now (Declined room) said before after → TellsIf tells seen o (Noted id note.Answered) p → StillShowsIf tells rest shows o p → One d
+  declined does told still = λ tell. (
+    note.Answered,
+    told tell,
+    record {
+      deed = Declined room;
+      is = inr (room, refl);
+      does = does;
+      spare = λ size is. sym (ap size_of is);
+      stores = record { shown = still tell; kept = λ clients has. has };
+      places = refl;
+      holding = refl;
+    },
   )
 
   pub asked : (user : List ℕ) (lookup : Lookup) → LooksUp tells seen rest shows clean id user o d.clients.sessions (Some lookup) p c.sessions → Does now (Asked user lookup) said before after
@@ -50,14 +78,14 @@ module _ {O R : Type 0} (tells : O → Bool) (seen : O → List (Act Note)) (res
   asked user lookup looks does h had = λ tell. (
     note.Asked looks.0 user lookup,
     looks.2 tell,
-    record { deed = Asked user lookup; is = refl; does = does; stores = looks.1 (sure p tell); places = refl; holding = had },
+    record { deed = Asked user lookup; is = refl; does = does; spare = λ size. other_deed room size (Asked user lookup) refl; stores = looks.1 (sure p tell); places = refl; holding = had },
   )
 
   pub unasked : (user : List ℕ) → LooksUp tells seen rest shows clean id user o d.clients.sessions None p c.sessions → Does now Away said before after → One (record d { clients = c })
   unasked user looks does = λ tell. (
     note.Away,
     looks.1 tell,
-    record { deed = Away; is = refl; does = does; stores = looks.0 (sure p tell); places = refl; holding = refl },
+    record { deed = Away; is = refl; does = does; spare = λ size. other_deed room size Away refl; stores = looks.0 (sure p tell); places = refl; holding = refl },
   )
 
   pub brought : (parcel : Parcel) (answer : Answer) (became : Became) → Delivers tells seen rest shows clean id parcel o d.clients.sessions (Some answer) p c.sessions → IsBecame parcel.sender answer became
@@ -65,20 +93,20 @@ module _ {O R : Type 0} (tells : O → Bool) (seen : O → List (Act Note)) (res
   brought parcel answer became delivers is does h had = λ tell. (
     note.Did delivers.1.0 (delivery_of parcel delivers.0) answer,
     delivers.1.2 tell,
-    record { deed = Brought parcel became; is = (parcel, delivers.0, became, refl, is, refl); does = does; stores = delivers.1.1 (sure p tell); places = refl; holding = had },
+    record { deed = Brought parcel became; is = (parcel, delivers.0, became, refl, is, refl); does = does; spare = λ size. other_deed room size (Brought parcel became) refl; stores = delivers.1.1 (sure p tell); places = refl; holding = had },
   )
 
   pub unbrought : (parcel : Parcel) → Delivers tells seen rest shows clean id parcel o d.clients.sessions None p c.sessions → Does now Away said before after → One (record d { clients = c })
   unbrought parcel delivers does = λ tell. (
     note.Away,
     delivers.1.1 tell,
-    record { deed = Away; is = refl; does = does; stores = delivers.1.0 (sure p tell); places = refl; holding = refl },
+    record { deed = Away; is = refl; does = does; spare = λ size. other_deed room size Away refl; stores = delivers.1.0 (sure p tell); places = refl; holding = refl },
   )
 
 -- one step of a connection that is as it was
-pub one_behind : {O R : Type 0} (tells : O → Bool) (seen : O → List (Act Note)) (rest : O → R) (shows : R → Accounts → Type 0) (o p : O) (d e : Daemon) (before mid after : Post) (now id : ℕ) (said : List ℕ)
-    → Keeps before mid → DoesOneIf tells seen rest shows o d mid now id said p e after → DoesOneIf tells seen rest shows o d before now id said p e after
-one_behind tells seen rest shows o p d e before mid after now id said keeps one = λ tell.
+pub one_behind : {O R : Type 0} (tells : O → Bool) (seen : O → List (Act Note)) (rest : O → R) (shows : R → Accounts → Type 0) (o p : O) (d e : Daemon) (before mid after : Post) (now id : ℕ) (said : List ℕ) (room : ℕ)
+    → Keeps before mid → DoesOneIf tells seen rest shows room o d mid now id said p e after → DoesOneIf tells seen rest shows room o d before now id said p e after
+one_behind tells seen rest shows o p d e before mid after now id said room keeps one = λ tell.
     let s = one tell in (
       s.0,
       s.1,
@@ -86,6 +114,7 @@ one_behind tells seen rest shows o p d e before mid after now id said keeps one 
         deed = s.2.deed;
         is = s.2.is;
         does = behind now s.2.deed said before mid after keeps s.2.does;
+        spare = s.2.spare;
         stores = s.2.stores;
         places = s.2.places;
         holding = s.2.holding;

@@ -151,7 +151,7 @@ err_any (Ok x) p = tt
 err_any (Err e) p = p
 
 -- a change, and then another, of one connection
-twice_by : (b : Bool) (one two o : Option Place) → cond b two (cond b one o) ≡ cond b two o
+pub twice_by : {A : Type 0} → (b : Bool) (one two o : A) → cond b two (cond b one o) ≡ cond b two o
 twice_by true one two o = refl
 twice_by false one two o = refl
 
@@ -168,6 +168,10 @@ some_there (Some x) is = (x, refl)
 pub ok_then : {X E P Q : Type 0} → (r : Result X E) → OnOk r P → (P → Q) → OnOk r Q
 ok_then (Ok x) p f = f p
 ok_then (Err e) p f = tt
+
+pub err_then : {X E P Q : Type 0} → (r : Result X E) → OnErr r P → (P → Q) → OnErr r Q
+err_then (Ok x) p f = tt
+err_then (Err e) p f = f p
 
 pub went_well : {X E P : Type 0} → (r : Result X E) → is_err r ≡ false → OnOk r P → P
 went_well (Ok x) is p = p

@@ -1,3 +1,4 @@
+pub mod BoundLemmas
 pub mod DeedLemmas
 pub mod EventLemmas
 pub mod Examples

@@ -1,11 +1,11 @@
 -- Right cases of the definitions on clients of LMTP, and near misses.
-use Rattle.std.proofs.Common.{◌≡◌, ℕ, List, [], ◌∷◌, Option, Some, None, IfSome, codes, refl, sym, ◌∙◌, ap, subst, arith}
+use Rattle.std.proofs.Common.{◌≡◌, ◌+◌, ◌<◌, ◌≤◌, inl, inr, length, ℕ, List, [], ◌∷◌, Option, Some, None, IfSome, codes, refl, sym, ◌∙◌, ap, subst, arith}
 use Rattle.std.specs.FinMap.{get}
 use Rattle.lmtp.specs.Replies.{greeting}
 use Rattle.lmtp.specs.declared.name.Names.{Names}
 use Rattle.lmtp.specs.declared.receiver.Lookup.TheVariants.{Unknown}
 use Rattle.lmtp.specs.declared.reply.Reply.TheVariants.{NoSuchUser, LocalFault, BadSender}
-use Rattle.mailposts.specs.Posts.{Deed, Away}
+use Rattle.mailposts.specs.Posts.{Deed, Away, Declined}
 use Rattle.mailposts.specs.declared.addressee.Became.TheVariants.{Delivered, Refused}
 use Rattle.mailstore.specs.Account.{Account, known_one}
 use Rattle.mailstore.specs.declared.refusal.Refusal.TheVariants.{NoUser, Store, BadEnvelope}
@@ -17,6 +17,9 @@ use Rattle.wires.specs.Life.{IsFrontOf}
 use Rattle.wires.specs.declared.act.Act.{Act}
 use Rattle.wires.specs.declared.act.Act.TheVariants.{Came, Sent}
 use Rattle.sieveddaemon.specs.Acts.{LeadsBy}
+use Rattle.sieveddaemon.specs.Bounds.{held, bound}
+use Rattle.sieveddaemon.specs.MailRules.{KeepsText, Fits, SessionGives}
+use Rattle.sieveddaemon.specs.declared.mail.MailDaemon.{MailDaemon}
 use Rattle.sieveddaemon.specs.Deeds.{IsDeed, IsBecame, one_line, reply_to}
 use Rattle.sieveddaemon.specs.MailActs.{MailLine, new_mail, sent_more, TellsOn}
 use Rattle.sieveddaemon.specs.declared.note.Note.{Note}
@@ -82,3 +85,21 @@ not_unspelled names host o told front = by told.0 told.1 told.2
         let is : o ≡ Some (sent_more (53 ∷ []) (new_mail names host 0)) = then.2 ∙ then.1.2 ∙ ap (λ (k : MailLine). Some k) (then.1.1 ∙ ap (sent_more (53 ∷ [])) one) in
         let sent : IsFrontOf (53 ∷ []) (greeting host) = subst (λ (x : Option MailLine). IfSome x (λ l. IsFrontOf l.sent l.spelled)) is front in
         let first : 53 ≡ 50 = ap first_of sent.1 in omega (arith, first)
+
+-- ---- room
+
+-- where there is room for the octets that come no text is dropped for them
+kept_where_it_fits : (d e : MailDaemon) (id count : ℕ) → held d + count ≤ bound d → KeepsText d id count e → e ≡ d
+kept_where_it_fits d e id count fits (inl is) = is.1
+kept_where_it_fits d e id count fits (inr is) = absurd (omega (arith, fits, is.0))
+
+-- near misses: octets are taken with which all hold more than they may
+not_over : (d e : MailDaemon) (now id : ℕ) (piece said : List ℕ) → bound d < held d + length piece → SessionGives d now id piece said e → ⊥
+not_over d e now id piece said over gives = omega (arith, over, gives.room)
+
+no_text_over : (d e : MailDaemon) (id count : ℕ) → bound e < held e + count → Fits d id count e → ⊥
+no_text_over d e id count over fits = omega (arith, over, fits.room)
+
+-- a MAIL is told as answered, and what it lacked is one number
+refused_for : IsDeed note.Answered (Declined 1000)
+refused_for = inr (1000, refl)

@@ -2,15 +2,15 @@
 use Rattle.std.specs.Prelude.{◌≡◌, ◌⊎◌, ℕ, ◌-◌, ◌==◌, if◌then◌else◌, List, [], ◌∷◌, ◌++◌, length, take, Bool, true, false, IsTrue}
 use Rattle.std.specs.List.{flat_map}
 use Rattle.lmtp.specs.declared.reply.Reply.{Reply}
-use Rattle.lmtp.specs.declared.reply.Reply.TheVariants.{NoSuchUser, MessageTooLarge, BadSender, BadRecipient, NoRoom, LocalFault}
+use Rattle.lmtp.specs.declared.reply.Reply.TheVariants.{NoSuchUser, AccountClosed, MessageTooLarge, BadSender, BadRecipient, NoRoom, LocalFault}
 use Rattle.mailstore.specs.Account.{Accounts}
 use Rattle.mailstore.specs.declared.refusal.Refusal.{Refusal}
-use Rattle.mailstore.specs.declared.refusal.Refusal.TheVariants.{Memory, NoUser, TooLarge, BadEnvelope}
+use Rattle.mailstore.specs.declared.refusal.Refusal.TheVariants.{Memory, NoUser, AccountClosed as ClosedAccount, TooLarge, BadEnvelope}
 use Rattle.mailengine.specs.Hosts.{Kept}
 use Rattle.mailengine.specs.Limits.{is_envelope_address}
 use Rattle.mailengine.specs.declared.answer.Answer.{Answer}
 use Rattle.mailengine.specs.declared.answer.Answer.TheVariants as answer
-use Rattle.mailposts.specs.Posts.{Deed, Answered, Asked, Away, Brought}
+use Rattle.mailposts.specs.Posts.{Deed, Answered, Declined, Asked, Away, Brought}
 use Rattle.mailposts.specs.declared.addressee.Became.{Became}
 use Rattle.mailposts.specs.declared.addressee.Became.TheVariants.{Delivered, Refused}
 use Rattle.mailposts.specs.declared.demand.Parcel.{Parcel}
@@ -40,6 +40,7 @@ envelope_reply false = BadSender
 -- how a recipient is told that a delivery was refused; for a fault of the host it is told to try again
 abbrev pub reply_to : List ℕ → Refusal → Reply
 reply_to sender NoUser = NoSuchUser
+reply_to sender ClosedAccount = AccountClosed
 reply_to sender TooLarge = MessageTooLarge
 reply_to sender BadEnvelope = envelope_reply (is_envelope_address sender)
 reply_to sender Memory = NoRoom
@@ -51,9 +52,9 @@ IsBecame sender (answer.Delivered report) became = (became ≡ Delivered (one_li
 IsBecame sender (answer.Refused refusal) became = became ≡ Refused (reply_to sender refusal)
 IsBecame sender other became = became ≡ Refused LocalFault
 
--- the deed that a note tells
+-- the deed that a note tells; a MAIL that is refused for lack of room is answered too
 abbrev pub IsDeed : Note → Deed → Type 0
-IsDeed note.Answered deed = deed ≡ Answered
+IsDeed note.Answered deed = (deed ≡ Answered) ⊎ ((size : ℕ) × (deed ≡ Declined size))
 IsDeed (note.Asked others user lookup) deed = deed ≡ Asked user lookup
 IsDeed note.Away deed = deed ≡ Away
 IsDeed (note.Did others event told) deed =
@@ -68,16 +69,17 @@ Stores shows r before other q after = NothingDone shows r before q after
 
 -- ---- one step of a client of LMTP, apart from others
 
--- its note tells a deed for it, of which the store and the sessions have their part
-pub record DoesOne {R : Type 0} (shows : R → Accounts → Type 0) (d : Daemon) (r : R) (before : Post) (now : ℕ) (note : Note) (said : List ℕ) (e : Daemon) (q : R) (after : Post) : Type 0 where
+-- its note tells a deed for it, of which the store and the sessions have their part; where there is room for so many octets
+pub record DoesOne {R : Type 0} (shows : R → Accounts → Type 0) (room : ℕ) (d : Daemon) (r : R) (before : Post) (now : ℕ) (note : Note) (said : List ℕ) (e : Daemon) (q : R) (after : Post) : Type 0 where
   pub deed : Deed
   pub is : IsDeed note deed
   pub does : Does now deed said before after
+  pub spare : (size : ℕ) → deed ≡ Declined size → size ≡ room
   pub stores : Stores shows r d.clients.sessions note q e.clients.sessions
   pub places : e.places ≡ d.places
   pub holding : e.holding ≡ holding_behind now note d.holding
 
 -- the same, where it is told
-abbrev pub DoesOneIf : {O R : Type 0} → (O → Bool) → (O → List (Act Note)) → (O → R) → (R → Accounts → Type 0) → O → Daemon → Post → ℕ → ℕ → List ℕ → O → Daemon → Post → Type 0
-DoesOneIf tells seen rest shows o d before now id said p e after =
-    IsTrue (tells p) → (note : Note) × (seen p ≡ seen o ++ Noted id note ∷ []) × DoesOne shows d (rest o) before now note said e (rest p) after
+abbrev pub DoesOneIf : {O R : Type 0} → (O → Bool) → (O → List (Act Note)) → (O → R) → (R → Accounts → Type 0) → ℕ → O → Daemon → Post → ℕ → ℕ → List ℕ → O → Daemon → Post → Type 0
+DoesOneIf tells seen rest shows room o d before now id said p e after =
+    IsTrue (tells p) → (note : Note) × (seen p ≡ seen o ++ Noted id note ∷ []) × DoesOne shows room d (rest o) before now note said e (rest p) after

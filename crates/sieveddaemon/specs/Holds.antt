@@ -1,5 +1,5 @@
 -- Whether the store is had, when it is given back, and when a message moves on.
-use Rattle.std.specs.Prelude.{ℕ, ◌+◌, ◌==◌, ◌&&◌, ◌||◌, nat_le, nat_lt, Bool, true, false, Option, Some, None, if◌then◌else◌}
+use Rattle.std.specs.Prelude.{ℕ, ◌+◌, ◌==◌, ◌&&◌, ◌||◌, not, nat_le, nat_lt, Bool, true, false, Option, Some, None, if◌then◌else◌}
 use Rattle.wires.specs.Talk.{after_span}
 use Rattle.sieveddaemon.specs.declared.daemon.Holding.{Holding}
 use Rattle.sieveddaemon.specs.declared.note.Note.{Note}
@@ -11,7 +11,7 @@ counted events = if nat_lt events 10 then events + 1 else 10
 
 -- behind an event that asked the store it is had, it is looked at once whether somebody waits for it, and it is looked for mail
 abbrev pub asked_at : ℕ → Holding → Holding
-asked_at now h = record { had = true; look = now; asked = now; moves = h.moves; next = now; events = counted h.events }
+asked_at now h = record { had = true; look = now; asked = now; moves = h.moves; next = now; soon = h.soon; events = counted h.events }
 
 abbrev pub holding_behind : ℕ → Note → Holding → Holding
 holding_behind now (Did others event answer) h = asked_at now h
@@ -35,12 +35,15 @@ is_look_due h now = h.had && nat_le h.look now
 abbrev pub is_rested : Holding → ℕ → Bool
 is_rested h now = nat_le (after_span h.asked max_rest) now
 
--- it was looked; where the store was given back it is looked for mail a second later, and where nobody asked it a minute later
+-- it was looked; where the store was given back it is looked for mail 50 ms later, and where nobody asked it a minute later
+abbrev pub again_span : ℕ
+again_span = 50
+
 abbrev pub span_by : Bool → ℕ
-span_by rests = if rests then 60000 else 1000
+span_by rests = if rests then 60000 else again_span
 
 abbrev pub looked : Holding → ℕ → Bool → Bool → Holding
-looked h now rests given = if given then record h { had = false; next = after_span now (span_by rests) } else record h { look = after_span now look_span }
+looked h now rests given = if given then record h { had = false; next = after_span now (span_by rests); soon = not rests } else record h { look = after_span now look_span }
 
 -- ---- a message moves on
 
@@ -51,10 +54,10 @@ is_turn h now = h.events == 0 || (nat_le 10 h.events || nat_le (after_span h.ask
 abbrev pub is_move_due : Holding → ℕ → Bool
 is_move_due h now = h.moves && (nat_le h.next now && is_turn h now)
 
--- one was to move: for so long none is to; or the store wasn't to be had, and it is asked for a second later
+-- one was to move: for so long none is to; or the store wasn't to be had, and it is asked for 50 ms later
 abbrev pub moved : Holding → ℕ → Option ℕ → Holding
-moved h now (Some span) = record { had = true; look = now; asked = now; moves = h.moves; next = after_span now span; events = 0 }
-moved h now None = record h { next = after_span now 1000 }
+moved h now (Some span) = record { had = true; look = now; asked = now; moves = h.moves; next = after_span now span; soon = false; events = 0 }
+moved h now None = record h { next = after_span now again_span; soon = true }
 
 abbrev pub has_work : Holding → ℕ → Bool
 has_work h now = is_look_due h now || is_move_due h now
@@ -65,5 +68,9 @@ has_work h now = is_look_due h now || is_move_due h now
 abbrev pub is_moving : Holding → Bool
 is_moving h = h.moves && (h.events == 0 && nat_le h.next h.asked)
 
+-- one is to move soon, and the store isn't had
+abbrev pub patience_away : Holding → ℕ
+patience_away h = if h.moves && h.soon then again_span else 1000
+
 abbrev pub patience_by : Holding → ℕ
-patience_by h = if h.had then (if is_moving h then 0 else look_span) else 1000
+patience_by h = if h.had then (if is_moving h then 0 else look_span) else patience_away h

@@ -1,4 +1,5 @@
 pub mod Acts
+pub mod Bounds
 pub mod DaemonRules
 pub mod Deeds
 pub mod Desk

@@ -1,12 +1,13 @@
 -- What the daemon makes of what happens, with clients of LMTP beside those of ManageSieve.
-use Rattle.std.specs.Prelude.{◌≡◌, ◌⊎◌, ℕ, ◌==◌, Bool, true, false, cond, if◌then◌else◌, List, [], ◌∷◌, Option, Some, None}
+use Rattle.std.specs.Prelude.{◌≡◌, ◌⊎◌, ℕ, ◌+◌, ◌<◌, ◌≤◌, ◌==◌, length, Bool, true, false, cond, if◌then◌else◌, List, [], ◌∷◌, Option, Some, None}
 use Rattle.std.specs.Ordering.{nat_cmp}
 use Rattle.std.specs.BTreeMap as tree
+use Rattle.lmtp.specs.Receivers.{IsDropped}
 use Rattle.lmtp.specs.Replies.{greeting, line_of}
 use Rattle.lmtp.specs.declared.reply.Reply.TheVariants.{Idle}
 use Rattle.mailstore.specs.Account.{Accounts}
 use Rattle.mailposts.specs.Posts.{new_post}
-use Rattle.mailposts.specs.Stands.{Stands, Hears}
+use Rattle.mailposts.specs.Stands.{Stands, Keeps, Hears}
 use Rattle.mailposts.specs.Tallies.{wanted, due}
 use Rattle.mailposts.specs.declared.post.Post.{Post}
 use Rattle.mailposts.specs.declared.tally.Wanted.{Wanted}
@@ -15,6 +16,7 @@ use Rattle.wires.specs.Rules.{Rules}
 use Rattle.wires.specs.Talk.{same}
 use Rattle.wires.specs.declared.machine.Want.{Want}
 use Rattle.wires.specs.declared.machine.Want.TheVariants as want
+use Rattle.sieveddaemon.specs.Bounds.{held, bound, room}
 use Rattle.sieveddaemon.specs.DaemonRules.{lmtp, limit_of, displaced_of, place_at, least, patience_of, Opens, Gives, Goes, DoesWork, LacksFor, Closes, Forgets}
 use Rattle.sieveddaemon.specs.Deeds.{DoesOne}
 use Rattle.sieveddaemon.specs.Holds.{has_work}
@@ -46,6 +48,7 @@ Posts d id post e = (other : ℕ) → post_at e other ≡ cond (same id other) p
 pub record SameHost (d e : MailDaemon) : Type 0 where
   pub names : e.names ≡ d.names
   pub host : e.host ≡ d.host
+  pub memory : e.memory ≡ d.memory
 
 -- and what is known of clients of LMTP
 pub record SamePosts (d e : MailDaemon) : Type 0 where
@@ -81,6 +84,42 @@ least_from span (it ∷ entries) = least_from (least span (patience_with (wanted
 abbrev pub patience_for : MailDaemon → ℕ
 patience_for d = least_from (patience_of d.daemon) d.posts.entries
 
+-- ---- room for octets
+
+-- the text of a client of LMTP isn't kept any more, and nothing else changes: its end is heard, and its recipients are told so
+pub record DropsText (d : MailDaemon) (id : ℕ) (e : MailDaemon) : Type 0 where
+  pub before : Post
+  pub was : post_at d id ≡ Some before
+  pub after : Post
+  pub keeps : Keeps before after
+  pub dropped : IsDropped after.receiver.talk
+  pub posts : Posts d id (Some after) e
+  pub daemon : e.daemon ≡ d.daemon
+  pub host : SameHost d e
+
+-- so many octets may come of a client of LMTP: only where the bound would be passed its text is dropped
+abbrev pub KeepsText : MailDaemon → ℕ → ℕ → MailDaemon → Type 0
+KeepsText d id count e = ((held d + count ≤ bound d) × (e ≡ d)) ⊎ ((bound d < held d + count) × DropsText d id e)
+
+-- of that client's text something may be dropped, and nothing else changes
+abbrev pub KeepsPosts : MailDaemon → ℕ → MailDaemon → Type 0
+KeepsPosts d id e = (e ≡ d) ⊎ DropsText d id e
+
+-- octets of a client of LMTP join its dialogue
+pub record TakesPiece (d : MailDaemon) (now id : ℕ) (piece : List ℕ) (e : MailDaemon) : Type 0 where
+  pub before : Post
+  pub was : post_at d id ≡ Some before
+  pub after : Post
+  pub hears : Hears now piece before after
+  pub posts : Posts d id (Some after) e
+  pub daemon : e.daemon ≡ d.daemon
+  pub host : SameHost d e
+
+-- and with them the bound isn't passed
+pub record Fits (d : MailDaemon) (id count : ℕ) (e : MailDaemon) : Type 0 where
+  pub text : KeepsText d id count e
+  pub room : held e + count ≤ bound e
+
 -- ---- connections come, say something, and go
 
 pub record PostOpens (d : MailDaemon) (now id : ℕ) (said : List ℕ) (e : MailDaemon) : Type 0 where
@@ -102,13 +141,17 @@ pub record PostGives (d : MailDaemon) (now id : ℕ) (piece said : List ℕ) (e 
   pub posts : Posts d id (Some after) e
   pub daemon : e.daemon ≡ d.daemon
   pub host : SameHost d e
+  -- with the octets all hold what they may: that was so before they came, or its text was dropped for them
+  pub fitted : MailDaemon
+  pub fits : Fits d id (length piece) fitted
+  pub takes : TakesPiece fitted now id piece e
 
--- one step is one deed, which the note tells
+-- one step is one deed, which the note tells; a MAIL is refused only where it announces more than there is room for
 pub record PostGoes {R : Type 0} (shows : R → Accounts → Type 0) (d : MailDaemon) (r : R) (now id : ℕ) (note : Note) (said : List ℕ) (e : MailDaemon) (q : R) : Type 0 where
   pub before : Post
   pub was : post_at d id ≡ Some before
   pub after : Post
-  pub does : DoesOne shows d.daemon r before now note said e.daemon q after
+  pub does : DoesOne shows (room d) d.daemon r before now note said e.daemon q after
   pub posts : Posts d id (Some after) e
   pub host : SameHost d e
 
@@ -124,11 +167,12 @@ abbrev pub OpensBy : Bool → MailDaemon → ℕ → ℕ → List ℕ → MailDa
 OpensBy true d now id said e = PostOpens d now id said e
 OpensBy false d now id said e = SessionOpens d now id said e
 
--- octets of one come, and the daemon's own rules say what becomes of them
+-- octets of one come, for which there is room, and the daemon's own rules say what becomes of them
 pub record SessionGives (d : MailDaemon) (now id : ℕ) (piece said : List ℕ) (e : MailDaemon) : Type 0 where
   pub other : post_at d id ≡ None
   pub gives : Gives d.daemon now id piece said e.daemon
   pub same : SamePosts d e
+  pub room : held d + length piece ≤ bound d
 
 abbrev pub GivesBy : MailDaemon → ℕ → ℕ → List ℕ → List ℕ → MailDaemon → Type 0
 GivesBy d now id piece said e = PostGives d now id piece said e ⊎ SessionGives d now id piece said e

@@ -27,6 +27,7 @@ fn reply_to(sender: &[u8], refusal: Refusal) -> Reply
 {
     match refusal {
         Refusal::NoUser => Reply::NoSuchUser,
+        Refusal::AccountClosed => Reply::AccountClosed,
         Refusal::TooLarge => Reply::MessageTooLarge,
         Refusal::BadEnvelope => envelope_reply(sender),
         Refusal::Memory => Reply::NoRoom,

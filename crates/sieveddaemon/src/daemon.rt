@@ -20,6 +20,8 @@ pub struct Holding {
     pub moves: bool,
     /// The moment from which on a message may move on.
     pub next: u64,
+    /// It is soon: somebody waited for the store, or it wasn't to be had.
+    pub soon: bool,
     /// How many events asked the store since the last message was to move; ten at most are counted.
     pub events: u64,
 }
@@ -44,6 +46,7 @@ impl Holding {
             asked: now,
             moves: self.moves,
             next: now,
+            soon: self.soon,
             events: counted(self.events),
         }
     }
@@ -73,6 +76,7 @@ impl Daemon {
                 asked: 0,
                 moves,
                 next: 0,
+                soon: false,
                 events: 0,
             },
         }

@@ -4,6 +4,7 @@
 
 pub mod account;
 mod became;
+mod bound;
 pub mod daemon;
 pub mod desk;
 pub mod life;

@@ -20,7 +20,7 @@ const QUIET_SPAN: u64 = 20;
 const MAX_EVENTS: u64 = 10;
 
 /// So many milliseconds later it is looked for mail again, where somebody waited for the store, or it wasn't to be had.
-const AGAIN_SPAN: u64 = 1000;
+const AGAIN_SPAN: u64 = 50;
 
 /// And so many where it was given back since nobody asked it.
 const LONG_SPAN: u64 = 60000;
@@ -93,6 +93,7 @@ fn looked(holding: Holding, now: u64, rests: bool, gives: bool) -> Holding
             asked: holding.asked,
             moves: holding.moves,
             next: holding.next,
+            soon: holding.soon,
             events: holding.events,
         };
     }
@@ -102,6 +103,7 @@ fn looked(holding: Holding, now: u64, rests: bool, gives: bool) -> Holding
         asked: holding.asked,
         moves: holding.moves,
         next: now.wrapping_add(span_behind(rests)),
+        soon: !rests,
         events: holding.events,
     }
 }
@@ -134,6 +136,7 @@ fn moved(holding: Holding, now: u64, span: Option<u64>) -> Holding
             asked: now,
             moves: holding.moves,
             next: now.wrapping_add(span),
+            soon: false,
             events: 0,
         },
         None => Holding {
@@ -142,6 +145,7 @@ fn moved(holding: Holding, now: u64, span: Option<u64>) -> Holding
             asked: holding.asked,
             moves: holding.moves,
             next: now.wrapping_add(AGAIN_SPAN),
+            soon: true,
             events: holding.events,
         },
     }

@@ -17,23 +17,30 @@ pub struct MailDaemon {
     pub names: Names,
     /// The name with which clients of LMTP are greeted.
     pub host: Octets,
+    /// So many KiB all connections may hold together, unread and of texts.
+    pub memory: u32,
 }
 
 impl MailDaemon {
     /// No connections. Where `moves`, mail moves on. Takes no memory.
-    pub fn new(alloc: Global, names: Names, host: Octets, moves: bool) -> MailDaemon
+    ///
+    /// Octets are heard of a connection only where with them all hold at most `memory` KiB (of ManageSieve what isn't answered, of LMTP
+    /// lines and texts), or the connection ends; a text of LMTP is dropped before.
+    pub fn new(alloc: Global, names: Names, host: Octets, moves: bool, memory: u32) -> MailDaemon
         ensures sessions { result.daemon.clients.sessions.entries ≡ [] }
         ensures places { result.daemon.places.entries ≡ [] }
         ensures posts { result.posts.entries ≡ [] }
         ensures names { result.names ≡ names }
         ensures host { result.host ≡ host }
         ensures moves { result.daemon.holding.moves ≡ moves }
+        ensures memory { result.memory ≡ memory }
     {
         MailDaemon {
             daemon: Daemon::new(alloc, moves),
             posts: BTreeMap::new(alloc),
             names,
             host,
+            memory,
         }
     }
 }

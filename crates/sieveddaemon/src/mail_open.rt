@@ -1,8 +1,9 @@
 //! Clients that come, say something, and go.
-ghost use Rattle.std.specs.Prelude.{◌≡◌, [], IsErr, IfSome, OnOk, OnErr};
+ghost use Rattle.std.specs.Prelude.{◌≡◌, true, false, None, [], IsErr, IfSome, OnOk, OnErr};
 ghost use Rattle.sieveddaemon.specs.DaemonRules.{place_at};
 ghost use Rattle.sieveddaemon.specs.MailRules as rules;
 
+use crate::bound::has_room;
 use crate::mail::MailDaemon;
 use crate::session::{enter, hear, leave};
 use crate::step::forget;
@@ -69,11 +70,24 @@ pub fn hear_by(mail: &mut MailDaemon, now: u64, id: u32, piece: &[u8]) -> Result
     if mail.posts.contains_key(&id) {
         hear_post(mail, now, id, piece)
     } else {
-        hear(&mut mail.daemon, now, id, piece)
+        hear_client(mail, now, id, piece)
     }
 }
 
-/// Octets of a client of LMTP come.
+/// Octets of a client of ManageSieve come; where there is no room for them, it ends.
+fn hear_client(mail: &mut MailDaemon, now: u64, id: u32, piece: &[u8]) -> Result<(), AllocError>
+    requires { rules.post_at mail.old id ≡ None }
+    ensures ok { OnOk result (rules.SessionGives mail.old now id piece.now [] mail.new) }
+    ensures err { OnErr result (rules.LacksBy mail.old id mail.new) }
+{
+    if !has_room(mail, piece.len()) {
+        return lack_post(mail, id);
+    }
+    hear(&mut mail.daemon, now, id, piece)
+}
+
+/// Octets of a client of LMTP come; where there is no room for them beside its text, that is dropped, and where there is none then, it
+/// ends.
 fn hear_post(mail: &mut MailDaemon, now: u64, id: u32, piece: &[u8]) -> Result<(), AllocError>
     ensures ok { OnOk result (rules.PostGives mail.old now id piece.now [] mail.new) }
     ensures err { OnErr result (rules.LacksBy mail.old id mail.new) }
@@ -81,6 +95,43 @@ fn hear_post(mail: &mut MailDaemon, now: u64, id: u32, piece: &[u8]) -> Result<(
     if mail.daemon.clients.session(id).is_some() {
         return lack_post(mail, id);
     }
+    if !fit(mail, id, piece.len()) {
+        return lack_post(mail, id);
+    }
+    take_piece(mail, now, id, piece)
+}
+
+/// Makes room for so many octets of a client of LMTP, by its text where that is needed. Whether there is some.
+fn fit(mail: &mut MailDaemon, id: u32, count: usize) -> bool
+    ensures fits { result ≡ true → rules.Fits mail.old id count mail.new }
+    ensures none { result ≡ false → rules.KeepsPosts mail.old id mail.new }
+{
+    if has_room(mail, count) {
+        return true;
+    }
+    if !drop_text(mail, id) {
+        return false;
+    }
+    has_room(mail, count)
+}
+
+/// Drops the text of a client of LMTP, where there is that client.
+fn drop_text(mail: &mut MailDaemon, id: u32) -> bool
+    ensures drops { result ≡ true → rules.DropsText mail.old id mail.new }
+    ensures none { result ≡ false → mail.new ≡ mail.old }
+{
+    let Some(post) = mail.posts.get_mut(&id) else {
+        return false;
+    };
+    post.drop_text();
+    true
+}
+
+/// The octets join its dialogue.
+fn take_piece(mail: &mut MailDaemon, now: u64, id: u32, piece: &[u8]) -> Result<(), AllocError>
+    ensures ok { OnOk result (rules.TakesPiece mail.old now id piece.now mail.new) }
+    ensures err { OnErr result (rules.LacksBy mail.old id mail.new) }
+{
     let Some(post) = mail.posts.get_mut(&id) else {
         return lack_post(mail, id);
     };

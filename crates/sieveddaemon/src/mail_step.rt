@@ -1,12 +1,14 @@
 //! The daemon goes on with a client of LMTP: one deed.
-ghost use Rattle.std.specs.Prelude.{◌≡◌, [], IsTrue, OnOk, OnErr};
+ghost use Rattle.std.specs.Prelude.{◌≡◌, ℕ, [], IsTrue, OnOk, OnErr};
 ghost use Rattle.wires.specs.Rules.{StepsIf, IdlesIf};
 ghost use Rattle.sieveddaemon.specs.Deeds as deeds;
+ghost use Rattle.sieveddaemon.specs.declared.daemon.Daemon.{Daemon as DaemonOf};
 ghost use Rattle.sieveddaemon.specs.MailRules.{mail_rules, LacksBy};
 ghost use Rattle.mailposts.specs.Stands.{Demands, HasSlot};
 ghost use Rattle.mailposts.specs.declared.demand.Demand.TheVariants as demands;
 
 use crate::became::became_of;
+use crate::bound::room;
 use crate::daemon::Daemon;
 use crate::desk::Desk;
 use crate::mail::MailDaemon;
@@ -30,18 +32,20 @@ pub fn step_post<O: Desk>(
     ensures lacks { OnErr result (LacksBy mail.old id mail.new) }
 {
     let alloc = mail.daemon.alloc;
+    let spare = room(mail);
     let Some(post) = mail.posts.get_mut(&id) else {
         return lack_post(mail, id);
     };
-    match do_next(alloc, &mut mail.daemon, post, outside, now, id, out) {
+    match do_next(alloc, spare, &mut mail.daemon, post, outside, now, id, out) {
         Ok(()) => Ok(()),
         Err(AllocError) => lack_post(mail, id),
     }
 }
 
-/// What is to be done next is done.
+/// What is to be done next is done. There is room for so many octets that may be announced.
 fn do_next<O: Desk>(
     alloc: Global,
+    spare: usize,
     daemon: &mut Daemon,
     post: &mut Post,
     outside: &mut O,
@@ -51,17 +55,13 @@ fn do_next<O: Desk>(
 ) -> Result<(), AllocError>
     requires { out.old ≡ [] }
     ensures kept { IsTrue (O.tells outside.new) → IsTrue (O.tells outside.old) }
-    ensures ok { OnOk result (deeds.DoesOneIf O.tells O.seen O.rest O.shows outside.old daemon.old post.old now id out.new outside.new daemon.new post.new) }
+    ensures ok { OnOk result (deeds.DoesOneIf O.tells O.seen O.rest O.shows spare outside.old daemon.old post.old now id out.new outside.new daemon.new post.new) }
     ensures err { OnErr result (IdlesIf O.tells O.seen O.rest outside.old outside.new) }
     ensures lacks { OnErr result (daemon.new ≡ daemon.old) }
 {
     match post.demand(now)? {
         Demand::Nothing => Err(AllocError),
-        Demand::Line => {
-            post.answer(now, out)?;
-            outside.tell_answered(id);
-            Ok(())
-        }
+        Demand::Line => answer_line(spare, post, outside, now, id, out),
         Demand::PutOff => {
             let line = post.put_off(now)?;
             *out = line;
@@ -87,6 +87,31 @@ fn do_next<O: Desk>(
     }
 }
 
+/// The line that comes next is answered; a MAIL that announces more than there is room for is refused.
+fn answer_line<O: Desk>(
+    spare: usize,
+    post: &mut Post,
+    outside: &mut O,
+    now: u64,
+    id: u32,
+    out: &mut Octets,
+) -> Result<(), AllocError>
+    requires line { Demands now post.old demands.Line }
+    requires out { out.old ≡ [] }
+    ensures kept { IsTrue (O.tells outside.new) → IsTrue (O.tells outside.old) }
+    ensures ok { OnOk result ((daemon : DaemonOf) → deeds.DoesOneIf O.tells O.seen O.rest O.shows spare outside.old daemon post.old now id out.new outside.new daemon post.new) }
+    ensures err { OnErr result (IdlesIf O.tells O.seen O.rest outside.old outside.new) }
+{
+    let refused = post.refuse(now, spare as u64, out)?;
+    if refused {
+        outside.tell_answered(id);
+        return Ok(());
+    }
+    post.answer(now, out)?;
+    outside.tell_answered(id);
+    Ok(())
+}
+
 /// The store is asked for an account. What is said.
 fn ask<O: Desk>(
     alloc: Global,
@@ -101,7 +126,7 @@ fn ask<O: Desk>(
     requires asked { Demands now post.old (demands.Account question) }
     requires slot { HasSlot post.old }
     ensures kept { IsTrue (O.tells outside.new) → IsTrue (O.tells outside.old) }
-    ensures does { deeds.DoesOneIf O.tells O.seen O.rest O.shows outside.old daemon.old post.old now id result outside.new daemon.new post.new }
+    ensures does { (spare : ℕ) → deeds.DoesOneIf O.tells O.seen O.rest O.shows spare outside.old daemon.old post.old now id result outside.new daemon.new post.new }
 {
     match outside.look_up(id, &mut daemon.clients, question.user.as_slice()) {
         Some(lookup) => {
@@ -128,7 +153,7 @@ fn bring<O: Desk>(
 ) -> Octets
     requires { Demands now post.old (demands.Delivery parcel) }
     ensures kept { IsTrue (O.tells outside.new) → IsTrue (O.tells outside.old) }
-    ensures does { deeds.DoesOneIf O.tells O.seen O.rest O.shows outside.old daemon.old post.old now id result outside.new daemon.new post.new }
+    ensures does { (spare : ℕ) → deeds.DoesOneIf O.tells O.seen O.rest O.shows spare outside.old daemon.old post.old now id result outside.new daemon.new post.new }
 {
     match outside.deliver(id, &mut daemon.clients, &parcel) {
         Some(answer) => {

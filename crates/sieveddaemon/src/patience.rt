@@ -18,6 +18,9 @@ const WHILE_HAD: u32 = 20;
 /// Where something is kept back.
 const WHILE_KEPT: u32 = 100;
 
+/// Where mail moves on soon, and the store isn't had.
+const WHILE_SOON: u32 = 50;
+
 /// Else.
 const AT_REST: u32 = 1000;
 
@@ -52,17 +55,28 @@ fn patience_of(daemon: &Daemon) -> u32
     span
 }
 
-/// The same by the store: none where the next message is to move at once.
+/// The same by the store: none where the next message is to move at once, and not long where one is to move soon.
 fn patience_by_store(holding: &Holding) -> u32
     ensures { result ≡ holds.patience_by holding.now }
 {
     if !holding.had {
-        return AT_REST;
+        return while_away(holding);
     }
     if is_moving(holding) {
         return 0;
     }
     WHILE_HAD
+}
+
+/// The same where the store isn't had.
+fn while_away(holding: &Holding) -> u32
+    ensures { result ≡ holds.patience_away holding.now }
+{
+    if holding.moves && holding.soon {
+        WHILE_SOON
+    } else {
+        AT_REST
+    }
 }
 
 /// Whether the next message is to move at once, unless an event comes before.

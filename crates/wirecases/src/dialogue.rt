@@ -153,6 +153,7 @@ fn outcome_of(delivery: Delivery<'_>) -> Outcome<'static> {
 fn outcome_for(word: &[u8]) -> Outcome<'static> {
     match word {
         b"gone" => Outcome::Refused(Reply::NoSuchUser),
+        b"closed" => Outcome::Refused(Reply::AccountClosed),
         b"from" => Outcome::Refused(Reply::BadSender),
         b"bad" => Outcome::Refused(Reply::BadRecipient),
         b"loop" => Outcome::Refused(Reply::MailLoop),

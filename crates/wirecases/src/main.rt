@@ -62,6 +62,12 @@ const DAEMONS: [&str; 5] = [
 /// Those of the daemon where mail moves on.
 const MOVERS: [&str; 1] = ["mail-moves.daemon"];
 
+/// Those of a daemon whose connections may hold 4 KiB.
+const SMALL: [&str; 1] = ["mail-memory.daemon"];
+
+/// So many KiB the connections of the others may hold.
+const MEMORY: u32 = 65_536;
+
 /// The dialogues of LMTP.
 const DIALOGUES: &str = "lmtp.cases";
 
@@ -72,6 +78,8 @@ enum Server {
     Daemon,
     /// The daemon, where mail moves on.
     Mover,
+    /// The daemon, whose connections may hold 4 KiB.
+    Small,
 }
 
 fn main(rt: HostRuntime) -> io::Result<ExitCode> {
@@ -82,6 +90,7 @@ fn main(rt: HostRuntime) -> io::Result<ExitCode> {
     try_files(&rt, Server::Echo, &ECHOES, &mut counts)?;
     try_files(&rt, Server::Daemon, &DAEMONS, &mut counts)?;
     try_files(&rt, Server::Mover, &MOVERS, &mut counts)?;
+    try_files(&rt, Server::Small, &SMALL, &mut counts)?;
     try_dialogues(&rt, &mut counts)?;
     println!(rt; "{} passed, {} failed", counts.passed, counts.failed)?;
     Ok(status(counts.failed))
@@ -193,8 +202,9 @@ fn note_checks(tally: &mut Tally, before: usize, checks: &List<Check>) -> Result
 fn play(alloc: Global, server: Server, schedule: &Schedule) -> Result<List<Check>, AllocError> {
     match server {
         Server::Echo => play_echo(alloc, schedule),
-        Server::Daemon => play_daemon(alloc, schedule, false),
-        Server::Mover => play_daemon(alloc, schedule, true),
+        Server::Daemon => play_daemon(alloc, schedule, false, MEMORY),
+        Server::Mover => play_daemon(alloc, schedule, true, MEMORY),
+        Server::Small => play_daemon(alloc, schedule, false, 4),
     }
 }
 
@@ -211,13 +221,18 @@ fn play_echo(alloc: Global, schedule: &Schedule) -> Result<List<Check>, AllocErr
     Ok(player.checks)
 }
 
-fn play_daemon(alloc: Global, schedule: &Schedule, moves: bool) -> Result<List<Check>, AllocError> {
+fn play_daemon(
+    alloc: Global,
+    schedule: &Schedule,
+    moves: bool,
+    memory: u32,
+) -> Result<List<Check>, AllocError> {
     let shelf = new_shelf(alloc)?;
     let host = Octets::from_slice(alloc, b"localhost")?;
     let mut player = Player {
         alloc,
         outside: DeskFake::new(alloc, shelf),
-        machine: MailDaemon::new(alloc, Names::Local, host, moves),
+        machine: MailDaemon::new(alloc, Names::Local, host, moves, memory),
         service: Service::new(alloc),
         owner: Accounts { alloc },
         checks: List::new(alloc),

@@ -1,5 +1,5 @@
 //! What other processes do to the daemon's store, as an entry names it.
-use mailengine::{Envelope, Event};
+use mailengine::{Envelope, Event, Upkeep};
 use octets::{Octets, parse_decimal};
 use std::alloc::{AllocError, Global};
 use wirefakes::schedule::{parse_text, split_word};
@@ -15,6 +15,9 @@ pub fn parse_event(alloc: Global, text: &[u8]) -> Result<Option<Event>, AllocErr
         b"deliver" => delivery(alloc, rest),
         b"takeout" => removal(alloc, rest),
         b"takemail" => removed_mail(alloc, rest),
+        b"closeaccount" => upkept(alloc, rest, Upkeep::CloseAccount),
+        b"openaccount" => upkept(alloc, rest, Upkeep::OpenAccount),
+        b"removeaccount" => upkept(alloc, rest, Upkeep::RemoveAccount { mail: true }),
         _ => Ok(None),
     }
 }
@@ -81,4 +84,10 @@ fn removed_mail(alloc: Global, text: &[u8]) -> Result<Option<Event>, AllocError>
     let user = Octets::from_slice(alloc, user)?;
     let folder = Octets::from_slice(alloc, folder)?;
     Ok(Some(Event::TakeMail { user, folder }))
+}
+
+/// `USER`, to whose account this is done.
+fn upkept(alloc: Global, user: &[u8], upkeep: Upkeep) -> Result<Option<Event>, AllocError> {
+    let user = Octets::from_slice(alloc, user)?;
+    Ok(Some(Event::Keep { user, upkeep }))
 }

@@ -17,5 +17,5 @@ returns-clause-ok c =
       begins = subst (λ h. Stands c.in-Ok.post (new_post m.names h c.args.now)) c.as_slice.ensures c.in-Ok.ensures.begins;
       posts = put.0;
       daemon = c.forget.ensures;
-      host = record { names = refl; host = refl };
+      host = record { names = refl; host = refl; memory = refl };
     }

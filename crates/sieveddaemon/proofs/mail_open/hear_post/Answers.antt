@@ -1,26 +1,39 @@
-use Rattle.std.proofs.Common.{◌≡◌, ◌∙◌, Some, None, option_map, ap, refl, sym, rules}
+use Rattle.std.proofs.Common.{◌≡◌, true, None, option_map, length, ap, refl, rules}
 use Rattle.std.specs.Ordering.{nat_cmp}
 use Rattle.std.specs.BTreeMap as tree
-use Rattle.mailposts.specs.Stands.{Hears}
 use Rattle.sessions.specs.Counts.{SessionView}
-use Rattle.sieveddaemon.specs.MailRules.{post_at}
-use Rattle.sieveddaemon.proofs.EventLemmas.{went_well}
+use Rattle.sieveddaemon.specs.MailRules.{Fits}
+use Rattle.sieveddaemon.proofs.BoundLemmas.{kept_posts, takes_behind, lacks_behind}
+use Rattle.sieveddaemon.proofs.EventLemmas.{ok_then, err_then}
 use Rattle.sieveddaemon.proofs.mail_open.hear_post.Goals as goal
 
 pub returns-clause-ok : goal.returns-clause-ok
 returns-clause-ok c =
-    let was : post_at c.args.mail.now c.args.id ≡ Some c.in-Some.post.now = search rules in
-    let none : tree.get nat_cmp c.args.mail.now.daemon.clients.sessions c.args.id ≡ None = search rules in
-    let put : tree.Updates nat_cmp c.args.mail.now.posts (c.get_mut.follows.lender c.hear.new.self) c.args.id (Some c.hear.new.self) = search rules in
-    let hears : Hears c.args.now c.args.piece.now c.in-Some.post.now c.hear.new.self = went_well c.hear.result (sym c.is_err.ensures.value ∙ c.if-is_err.false) c.hear.ensures.hears in
+    let d = c.args.mail.now in
+    let m = c.fit.new.mail in
+    let e = c.take_piece.new.mail in
+    let fits : Fits d c.args.id (length c.args.piece.now) m = search rules in
+    let none : tree.get nat_cmp d.daemon.clients.sessions c.args.id ≡ None = search rules in
+    ok_then c.take_piece.result c.take_piece.ensures.ok (λ takes.
+    let all = takes_behind d m e c.args.now c.args.id c.args.piece.now (kept_posts d c.args.id (length c.args.piece.now) m fits.text) takes in
     record {
       silent = refl;
-      before = c.in-Some.post.now;
-      was = was;
+      before = all.before;
+      was = all.was;
       other = ap (λ o. option_map (λ (s : SessionView). s.client) o) none;
-      after = c.hear.new.self;
-      hears = hears;
-      posts = put.0;
-      daemon = refl;
-      host = record { names = refl; host = refl };
-    }
+      after = all.after;
+      hears = all.hears;
+      posts = all.posts;
+      daemon = all.daemon;
+      host = all.host;
+      fitted = m;
+      fits = fits;
+      takes = takes;
+    })
+
+pub returns-clause-err : goal.returns-clause-err
+returns-clause-err c =
+    let d = c.args.mail.now in
+    let m = c.fit.new.mail in
+    let fits : Fits d c.args.id (length c.args.piece.now) m = search rules in
+    err_then c.take_piece.result c.take_piece.ensures.err (λ lacks. lacks_behind d m c.take_piece.new.mail c.args.id (kept_posts d c.args.id (length c.args.piece.now) m fits.text) lacks)
