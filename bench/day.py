@@ -69,7 +69,14 @@ class Day:
         self.said = open(f"{self.store.folder.name}/said", "wb")
         self.daemon = subprocess.Popen(words, stdin=subprocess.DEVNULL, stdout=subprocess.DEVNULL, stderr=self.said)
         wait_for(self.lmtp), wait_for(self.sieve)
-        self.lock, self.count, self.sent, self.took, self.trips, self.ends = threading.Lock(), 0, 0, [], [], False
+        self.lock, self.count, self.sent, self.took, self.trips, self.faults, self.ends = threading.Lock(), 0, 0, [], [], [], False
+
+    def work(self, call, *words):
+        """A client; what ends it is kept."""
+        try:
+            call(*words)
+        except (Exception, SystemExit) as fault:
+            self.faults.append(f"{call.__name__}: {fault!r}")
 
     def send(self, at, senders):
         rng, sender = random.Random(at), Sender(self.lmtp)
@@ -129,15 +136,16 @@ class Day:
 
     def run(self):
         self.began, rows = time.monotonic(), []
-        workers = [threading.Thread(target=self.send, args=(at, 3), daemon=True) for at in range(3)] + [threading.Thread(target=self.upload, daemon=True)]
-        workers += [threading.Thread(target=self.look, args=(user,), daemon=True) for user in USERS[:5]]
+        calls = [(self.send, at, 3) for at in range(3)] + [(self.upload,)] + [(self.look, user) for user in USERS[:5]]
+        workers = [threading.Thread(target=self.work, args=call, daemon=True) for call in calls]
         for worker in workers:
             worker.start()
         print("minute, messages, a delivery's 50th and 99th ms, a round trip's 50th and 99th ms, MiB, descriptors, threads, store's MB, messages that wait", flush=True)
         for minute in range(1, self.seconds // 60 + 1):
             time.sleep(max(0, self.began + 60 * minute - time.monotonic()))
             if self.daemon.poll() is not None or not all(worker.is_alive() for worker in workers):
-                raise SystemExit("the daemon has ended, or a client has")
+                self.daemon.kill()
+                raise SystemExit(f"the daemon has ended ({self.daemon.wait()}), or a client has: {self.faults}")
             rows.append(self.row(minute))
             print(" ".join(f"{value:.1f}" if isinstance(value, float) else str(value) for value in rows[-1]), flush=True)
         self.ends = True

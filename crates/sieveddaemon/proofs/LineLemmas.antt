@@ -236,7 +236,7 @@ module _ {R : Type 0} (shows : R → Accounts → Type 0) (d e : MailDaemon) (r 
     session_allowed : (n : ℕ) (note : Note) (said : List ℕ) → same n id ≡ true → SessionGoes shows d r s.moment n note said e q → GoesOn (mail_rules shows) d s n Step u.turn → Allows s.moment l.waits id note
     session_allowed n note said is g on =
         let wants : Want = want_of (place_at d.daemon n) (client_at d.daemon.clients.sessions n) in
-        let wanted : task_wanted s.moment (wants_by (post_at d n) wants) ≡ Step = wanted_at (mail_rules shows) d s.moment n (client_of s n) on.1.task in
+        let wanted : task_wanted s.moment (wants_by (post_at d n) wants) ≡ Step = wanted_at (mail_rules shows) d s.moment on.0 n (client_of s n) on.1.task in
         let own : task_wanted s.moment wants ≡ Step = subst (λ o. task_wanted s.moment (wants_by o wants) ≡ Step) g.other wanted in
         let due : IsDue s.moment g.goes.before.waits =
         due_at s.moment g.goes.before (client_at d.daemon.clients.sessions n) (subst (λ o. task_wanted s.moment (want_of o (client_at d.daemon.clients.sessions n)) ≡ Step) g.goes.was own) in

@@ -8,13 +8,12 @@ use Rattle.wires.specs.declared.service.Service.{Service}
 use Rattle.wires.specs.declared.service.Phase.TheVariants as phase
 use Rattle.wires.specs.declared.turn.Turn.{Turn}
 use Rattle.wires.specs.declared.turn.Turn.TheVariants.{Leaving}
-use Rattle.wires.specs.declared.turn.Task.TheVariants.{Hear, Step}
 use Rattle.wires.specs.Life.{IsFrontOf}
 use Rattle.wires.specs.Rules.{Rules}
-use Rattle.wires.specs.Talk.{same, client_of, kind_of, newcomer, Comes, Answers, Sends, Parts, OrNothing, Shuts, Drops, At, Talks, after_span, max_unsent, max_parting}
+use Rattle.wires.specs.Talk.{same, client_of, kind_of, waits, newcomer, Comes, Answers, Sends, Parts, OrNothing, Shuts, Drops, At, Talks, after_span, max_parting}
 use Rattle.wires.specs.Turns.{Turns, Goes as Went, Parting, Opens as Enters}
-use Rattle.wires.proofs.TalkLemmas.{one_number, unsent_of}
-use Rattle.sieveddaemon.proofs.TurnLemmas.{IsEnd, ends, unsent_at, quiet}
+use Rattle.wires.proofs.TalkLemmas.{one_number, waits_of, no_piece, quiet}
+use Rattle.sieveddaemon.proofs.TurnLemmas.{IsEnd, ends}
 
 -- what a connection's acts spell since it came, and what was sent on it
 pub record Words : Type 0 where
@@ -34,12 +33,12 @@ begins greeting = record { spelled = greeting; sent = [] }
 -- what was sent and what waits is all that is spelled; of one that is gone what was sent is a front of it
 abbrev pub Whole : Words → Option Client → Type 0
 Whole l None = IsFrontOf l.sent l.spelled
-Whole l (Some c) = l.sent ++ c.unsent ≡ l.spelled
+Whole l (Some c) = l.sent ++ waits c ≡ l.spelled
 
 -- it is a front
 abbrev pub Part : Words → Option Client → Type 0
 Part l None = IsFrontOf l.sent l.spelled
-Part l (Some c) = IsFrontOf (l.sent ++ c.unsent) l.spelled
+Part l (Some c) = IsFrontOf (l.sent ++ waits c) l.spelled
 
 -- it is a front alone where nothing but the connection's end follows
 abbrev pub Fits : ℕ → Words → Option Client → Turn → Type 0
@@ -47,11 +46,11 @@ Fits id l o turn = Whole l o ⊎ (Part l o × ((kind : ℕ) × (turn ≡ Leaving
 
 part_of : (l : Words) (o : Option Client) → Whole l o → Part l o
 part_of l None whole = whole
-part_of l (Some c) whole = ([], append-nil (l.sent ++ c.unsent) ∙ whole)
+part_of l (Some c) whole = ([], append-nil (l.sent ++ waits c) ∙ whole)
 
 front_by : (l : Words) (o : Option Client) → Part l o → IsFrontOf l.sent l.spelled
 front_by l None part = part
-front_by l (Some c) part = (c.unsent ++ part.0, sym (append_assoc l.sent c.unsent part.0) ∙ part.1)
+front_by l (Some c) part = (waits c ++ part.0, sym (append_assoc l.sent (waits c) part.0) ∙ part.1)
 
 pub front : (id : ℕ) (l : Words) (o : Option Client) (turn : Turn) → Fits id l o turn → IsFrontOf l.sent l.spelled
 front id l o turn (inl whole) = front_by l o (part_of l o whole)
@@ -59,47 +58,46 @@ front id l o turn (inr part) = front_by l o part.0
 
 -- ---- one act of it
 
--- all is sent where nothing waits
-all_sent : (l : Words) (c : Client) → l.sent ++ c.unsent ≡ l.spelled → c.unsent ≡ [] → l.sent ≡ l.spelled
-all_sent l c whole none = sym (append-nil l.sent) ∙ ap (λ t. l.sent ++ t) (sym none) ∙ whole
+-- what is said waits behind what waited
+answered : (l : Words) (now : ℕ) (said : List ℕ) (o p : Option Client) → Whole l o → Answers now said o p → Whole (spells said l) p
+answered l now said o p whole a =
+    let here : l.sent ++ waits a.before ≡ l.spelled = subst (λ x. Whole l x) a.was whole in
+    subst (λ x. Whole (spells said l) x) (sym a.is) (ap (λ t. l.sent ++ t) a.gathers.joins ∙ sym (append_assoc l.sent (waits a.before) said) ∙ ap (λ t. t ++ said) here)
 
-said_more : (l : Words) (o p : Option Client) (c d : Client) (said : List ℕ) → Whole l o → unsent_of o ≡ [] → o ≡ Some c → p ≡ Some d → d.unsent ≡ said → Whole (spells said l) p
-said_more l o p c d said whole none was is says =
-    let here : l.sent ++ c.unsent ≡ l.spelled = subst (λ x. Whole l x) was whole in
-    let empty : c.unsent ≡ [] = subst (λ x. unsent_of x ≡ []) was none in
-    subst (λ x. Whole (spells said l) x) (sym is) (ap (λ t. l.sent ++ t) says ∙ ap (λ t. t ++ said) (all_sent l c here empty))
-
-answered : (l : Words) (now : ℕ) (said : List ℕ) (o p : Option Client) → Whole l o → unsent_of o ≡ [] → Answers now said o p → Whole (spells said l) p
-answered l now said o p whole none a = said_more l o p a.before (record a.before { unsent = said; until = after_span now max_unsent }) said whole none a.was a.after refl
-
+-- to one that was late and to which nothing waits something is said last
 parted : (l : Words) (now : ℕ) (said : List ℕ) (o p : Option Client) → Whole l o → Parts now said o p → Whole (spells said l) p
-parted l now said o p whole a = said_more l o p a.before (record a.before { unsent = said; phase = phase.Closing; until = after_span now max_parting }) said whole (quiet o a.quiet) a.was a.after refl
+parted l now said o p whole a =
+    let here : l.sent ++ waits a.before ≡ l.spelled = subst (λ x. Whole l x) a.was whole in
+    let empty : waits a.before ≡ [] = subst (λ x. waits_of x ≡ []) a.was (quiet o a.quiet) in
+    let sent : l.sent ≡ l.spelled = sym (append-nil l.sent) ∙ ap (λ t. l.sent ++ t) (sym empty) ∙ here in
+    let one : said ++ a.before.behind ≡ said = ap (λ t. said ++ t) (no_piece a.before.unsent a.before.behind empty) ∙ append-nil said in
+    subst (λ x. Whole (spells said l) x) (sym a.after) (ap (λ t. l.sent ++ t) one ∙ ap (λ t. t ++ said) sent)
 
 silent : (l : Words) (p : Option Client) (said : List ℕ) → said ≡ [] → Whole (spells said l) p → Whole l p
 silent l p said none whole = subst (λ t. Whole (record { spelled = t; sent = l.sent }) p) (ap (λ t. l.spelled ++ t) none ∙ append-nil l.spelled) whole
 
-heard : (l : Words) (now : ℕ) (said : List ℕ) (o p : Option Client) → Whole l o → unsent_of o ≡ [] → said ≡ [] → OrNothing (Answers now said o p) said o p → Whole l p
-heard l now said o p whole none quiet (inl a) = silent l p said quiet (answered l now said o p whole none a)
-heard l now said o p whole none quiet (inr a) = subst (λ x. Whole l x) (sym a.1) whole
+heard : (l : Words) (now : ℕ) (said : List ℕ) (o p : Option Client) → Whole l o → said ≡ [] → OrNothing (Answers now said o p) said o p → Whole l p
+heard l now said o p whole quiet (inl a) = silent l p said quiet (answered l now said o p whole a)
+heard l now said o p whole quiet (inr a) = subst (λ x. Whole l x) (sym a.1) whole
 
 sent : (l : Words) (now : ℕ) (octets : List ℕ) (o p : Option Client) → Whole l o → Sends now octets o p → Whole (sends octets l) p
 sent l now octets o p whole a =
-    let here : l.sent ++ a.before.unsent ≡ l.spelled = subst (λ x. Whole l x) a.was whole in
-    subst (λ x. Whole (sends octets l) x) (sym a.after) (append_assoc l.sent octets a.rest ∙ ap (λ t. l.sent ++ t) (sym a.front) ∙ here)
+    let here : l.sent ++ waits a.before ≡ l.spelled = subst (λ x. Whole l x) a.was whole in
+    subst (λ x. Whole (sends octets l) x) (sym a.is) (append_assoc l.sent octets (waits a.after) ∙ ap (λ t. l.sent ++ t) (sym a.taken.front) ∙ here)
 
 shut : (l : Words) (now : ℕ) (o p : Option Client) → Whole l o → Shuts now o p → Whole l p
 shut l now o p whole a =
-    let here : l.sent ++ a.before.unsent ≡ l.spelled = subst (λ x. Whole l x) a.was whole in
+    let here : l.sent ++ waits a.before ≡ l.spelled = subst (λ x. Whole l x) a.was whole in
     subst (λ x. Whole l x) (sym a.after) here
 
 dropped : (l : Words) (count : ℕ) (o p : Option Client) → Whole l o → Drops count o p → Whole l p
 dropped l count o p whole a =
-    let here : l.sent ++ a.before.unsent ≡ l.spelled = subst (λ x. Whole l x) a.was whole in
+    let here : l.sent ++ waits a.before ≡ l.spelled = subst (λ x. Whole l x) a.was whole in
     subst (λ x. Whole l x) (sym a.after) here
 
 -- one that came
 new_one : (now n kind : ℕ) (greeting said : List ℕ) (p : Option Client) → said ≡ greeting → p ≡ Some (newcomer now n kind said) → Whole (begins greeting) p
-new_one now n kind greeting said p greets is = let whole : Whole (begins greeting) (Some (newcomer now n kind said)) = greets in subst (λ x. Whole (begins greeting) x) (sym is) whole
+new_one now n kind greeting said p greets is = let whole : Whole (begins greeting) (Some (newcomer now n kind said)) = append-nil said ∙ greets in subst (λ x. Whole (begins greeting) x) (sym is) whole
 
 gone_one : (greeting : List ℕ) (p : Option Client) → p ≡ None → Whole (begins greeting) p
 gone_one greeting p is = let none : Whole (begins greeting) None = (greeting, refl) in subst (λ x. Whole (begins greeting) x) (sym is) none
@@ -107,7 +105,7 @@ gone_one greeting p is = let none : Whole (begins greeting) None = (greeting, re
 -- one that was late, and to which nothing is said: its end follows
 still_part : (word : List ℕ) (l : Words) (o : Option Client) → Part l o → Part (spells word l) o
 still_part word l None part = (part.0 ++ word, sym (append_assoc l.sent part.0 word) ∙ ap (λ t. t ++ word) part.1)
-still_part word l (Some c) part = (part.0 ++ word, sym (append_assoc (l.sent ++ c.unsent) part.0 word) ∙ ap (λ t. t ++ word) part.1)
+still_part word l (Some c) part = (part.0 ++ word, sym (append_assoc (l.sent ++ waits c) part.0 word) ∙ ap (λ t. t ++ word) part.1)
 
 said_nothing : (word : List ℕ) (l : Words) (now : ℕ) (said : List ℕ) (o p : Option Client) → Whole l o → said ≡ [] → OrNothing (Parts now said o p) said o p → Part (spells word l) p
 said_nothing word l now said o p whole none (inl a) = still_part word l p (part_of l p (silent l p said none (parted l now said o p whole a)))
@@ -154,14 +152,12 @@ module _ {M N R : Type 0} (rules : Rules M N R) (m n : M) (r q : R) (s u : Servi
     hears : (k : ℕ) (piece said : List ℕ) → same k id ≡ true → Whole l (client_of s id) → Turns rules m r s (Heard k piece) said n q u
         → OrNothing (Answers s.moment said (client_of s id) (client_of u id)) said (client_of s id) (client_of u id) → Whole l (client_of u id)
     hears k piece said is whole t talks =
-        let none : unsent_of (client_of s id) ≡ [] = ap (λ x. unsent_of (client_of s x)) (sym (one_number k id is)) ∙ unsent_at rules m s.moment k (client_of s k) Hear (λ is. cc) t.wanted.task in
-        heard l s.moment said (client_of s id) (client_of u id) whole none (is_silent k t.count piece said is t.goes) talks
+        heard l s.moment said (client_of s id) (client_of u id) whole (is_silent k t.count piece said is t.goes) talks
 
     notes : (k : ℕ) (note : N) (said : List ℕ) → same k id ≡ true → Whole l (client_of s id) → Turns rules m r s (Noted k note) said n q u
         → Answers s.moment said (client_of s id) (client_of u id) → Whole (spells said l) (client_of u id)
     notes k note said is whole t talks =
-        let none : unsent_of (client_of s id) ≡ [] = ap (λ x. unsent_of (client_of s x)) (sym (one_number k id is)) ∙ unsent_at rules m s.moment k (client_of s k) Step (λ is. cc) t.1.1.task in
-        answered l s.moment said (client_of s id) (client_of u id) whole none talks
+        answered l s.moment said (client_of s id) (client_of u id) whole talks
 
     -- one that was late
     lates : (k : ℕ) (said : List ℕ) → same k id ≡ true → Whole l (client_of s id) → Parting rules m s k said n u

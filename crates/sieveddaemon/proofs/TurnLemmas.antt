@@ -12,8 +12,7 @@ use Rattle.wires.specs.declared.turn.Turn.TheVariants.{Free, Stuffed, Leaving}
 use Rattle.wires.specs.declared.turn.Task.{Task}
 use Rattle.wires.specs.declared.turn.Task.TheVariants.{Send, Hear, Step, Rest, HangUp, Drain, End, Nothing}
 use Rattle.wires.specs.Rules.{Rules}
-use Rattle.wires.specs.Talk.{client_of, is_quiet, is_quiet_by, task, task_by, task_wanted, kind_of}
-use Rattle.wires.proofs.TalkLemmas.{unsent_of}
+use Rattle.wires.specs.Talk.{client_of, waits, gathers, task, task_by, task_sent, task_unsent, task_wanted, kind_of}
 use Rattle.wires.specs.Turns.{Turns, Tasks, Calm, Rests, MayWait, Reads, Fails, Lacks, Yields, MayEnd}
 
 -- a turn behind which one act alone may come
@@ -120,36 +119,32 @@ module _ {M N R : Type 0} (rules : Rules M N R) (m n : M) (r q : R) (s u : Servi
   pub fulls : s.turn ≡ Stuffed id kind → (act : Act N) (said : List ℕ) → Turns rules m r s act said n q u → IsFull id act
   fulls stuffed act said t = full_by id kind s.turn stuffed act (follows rules m n r q s u (subst IsBound (sym stuffed) tt) act said t)
 
--- ---- a step is made of one that is open, to which all is sent and of which one is wanted
+-- ---- a step is made of one that is open and of which one is wanted
 
-step_wanted : (unsent : List ℕ) (at : Phase) (now : ℕ) (wanted : Want) → task_by unsent at now wanted ≡ Step → task_wanted now wanted ≡ Step
-step_wanted (x ∷ unsent) at now wanted is = let never : ⊥ = cc in absurd never
-step_wanted [] phase.Open now wanted is = is
-step_wanted [] phase.Closing now wanted is = let never : ⊥ = cc in absurd never
-step_wanted [] (phase.Shut left) now wanted is = by (left == 0) is
+unsent_step : (b : Bool) (to : Task) → task_unsent b to ≡ Step → to ≡ Step
+unsent_step true Step is = refl
+unsent_step true Send is = let never : ⊥ = cc in absurd never
+unsent_step true Hear is = let never : ⊥ = cc in absurd never
+unsent_step true Rest is = let never : ⊥ = cc in absurd never
+unsent_step true HangUp is = let never : ⊥ = cc in absurd never
+unsent_step true Drain is = let never : ⊥ = cc in absurd never
+unsent_step true End is = let never : ⊥ = cc in absurd never
+unsent_step true Nothing is = let never : ⊥ = cc in absurd never
+unsent_step false to is = let never : ⊥ = cc in absurd never
+
+sent_wanted : (at : Phase) (now : ℕ) (wanted : Want) → task_sent at now wanted ≡ Step → task_wanted now wanted ≡ Step
+sent_wanted phase.Open now wanted is = is
+sent_wanted phase.Closing now wanted is = let never : ⊥ = cc in absurd never
+sent_wanted (phase.Shut left) now wanted is = by (left == 0) is
   where
     by : (b : Bool) → cond b End Drain ≡ Step → task_wanted now wanted ≡ Step
     by true is = let never : ⊥ = cc in absurd never
     by false is = let never : ⊥ = cc in absurd never
 
-pub wanted_at : {M N R : Type 0} (rules : Rules M N R) (m : M) (now id : ℕ) (o : Option Client) → task rules m now id o ≡ Step → task_wanted now (rules.wants m id) ≡ Step
-wanted_at rules m now id None is = let never : ⊥ = cc in absurd never
-wanted_at rules m now id (Some c) is = step_wanted c.unsent c.phase now (rules.wants m id) is
+step_wanted : (more : List ℕ) (gathers : Bool) (at : Phase) (now : ℕ) (wanted : Want) → task_by more gathers at now wanted ≡ Step → task_wanted now wanted ≡ Step
+step_wanted [] gathers at now wanted is = sent_wanted at now wanted is
+step_wanted (x ∷ more) gathers at now wanted is = sent_wanted at now wanted (unsent_step gathers (task_sent at now wanted) is)
 
--- ---- where something is heard or said, all that was said before is sent
-
-none_unsent : (unsent : List ℕ) (at : Phase) (now : ℕ) (wanted : Want) (to : Task) → (Send ≡ to → ⊥) → task_by unsent at now wanted ≡ to → unsent ≡ []
-none_unsent [] at now wanted to other is = refl
-none_unsent (x ∷ unsent) at now wanted to other is = absurd (other is)
-
-quiet_by : (unsent : List ℕ) (at : Phase) → is_quiet_by unsent at ≡ true → unsent ≡ []
-quiet_by [] at is = refl
-quiet_by (x ∷ unsent) at is = let never : ⊥ = cc in absurd never
-
-pub unsent_at : {M N R : Type 0} (rules : Rules M N R) (m : M) (now id : ℕ) (o : Option Client) (to : Task) → (Send ≡ to → ⊥) → task rules m now id o ≡ to → unsent_of o ≡ []
-unsent_at rules m now id None to other is = refl
-unsent_at rules m now id (Some c) to other is = none_unsent c.unsent c.phase now (rules.wants m id) to other is
-
-pub quiet : (o : Option Client) → is_quiet o ≡ true → unsent_of o ≡ []
-quiet None is = refl
-quiet (Some c) is = quiet_by c.unsent c.phase is
+pub wanted_at : {M N R : Type 0} (rules : Rules M N R) (m : M) (now count id : ℕ) (o : Option Client) → task rules m now count id o ≡ Step → task_wanted now (rules.wants m id) ≡ Step
+wanted_at rules m now count id None is = let never : ⊥ = cc in absurd never
+wanted_at rules m now count id (Some c) is = step_wanted (waits c) (gathers c count) c.phase now (rules.wants m id) is

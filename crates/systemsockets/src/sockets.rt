@@ -32,6 +32,16 @@ struct Door {
     rests_until: Option<u64>,
 }
 
+/// A connection, and whether the system is to be asked for its octets.
+#[derive(Drop)]
+struct Link {
+    stream: Stream,
+    /// A read got all that there was: there is no more until a wait tells of the connection.
+    drained: bool,
+    /// Its peer sends no more, which a read tells behind the last octet.
+    over: bool,
+}
+
 /// Listeners, one for each kind of connection (its number is its place), and their connections by their numbers. No call but `wait`
 /// blocks. What the system does can't be seen by a contract.
 #[derive(Drop)]
@@ -45,7 +55,7 @@ pub struct SystemSockets<'n, N: Net + Clock> {
     /// What the last poll told, as far as it wasn't handed out yet.
     told: VecDeque<Wake>,
     doors: Vec<Door>,
-    streams: BTreeMap<u32, Stream>,
+    links: BTreeMap<u32, Link>,
 }
 
 impl<'n, N: Net + Clock> SystemSockets<'n, N> {
@@ -67,7 +77,7 @@ impl<'n, N: Net + Clock> SystemSockets<'n, N> {
             events: Events::with_capacity(alloc, MAX_EVENTS)?,
             told: VecDeque::with_capacity(alloc, MAX_EVENTS)?,
             doors: Vec::with_capacity(alloc, listeners.len())?,
-            streams: BTreeMap::new(alloc),
+            links: BTreeMap::new(alloc),
         };
         for listener in listeners {
             sockets.watch(listener)?;
@@ -128,9 +138,16 @@ impl<'n, N: Net + Clock> SystemSockets<'n, N> {
         self.poll
             .poll(&mut self.events, Some(Duration::from_millis(within)))?;
         for event in &self.events {
-            if let Some(wake) = wake_of(event.token()) {
-                self.told.push_back(wake)?;
+            let Some(wake) = wake_of(event.token()) else {
+                continue;
+            };
+            if let Wake::Ready(id) = wake {
+                if let Some(link) = self.links.get_mut(&id) {
+                    link.drained = false;
+                    link.over |= event.is_read_closed();
+                }
             }
+            self.told.push_back(wake)?;
         }
         self.end_rests();
         Ok(())
@@ -202,7 +219,12 @@ impl<'n, N: Net + Clock> SystemSockets<'n, N> {
             .poll
             .registry()
             .register(&mut stream, token_of(id), both_ways());
-        if registered.is_err() || self.streams.insert(id, stream).is_err() {
+        let link = Link {
+            stream,
+            drained: false,
+            over: false,
+        };
+        if registered.is_err() || self.links.insert(id, link).is_err() {
             return self.rest(kind);
         }
         Accepted::Came
@@ -217,17 +239,24 @@ impl<'n, N: Net + Clock> SystemSockets<'n, N> {
         Accepted::Nobody
     }
 
-    /// Reads of a connection what there is, at most as many octets as the buffer has.
+    /// Reads of a connection what there is, at most as many octets as the buffer has. Behind a read that left room in its buffer the
+    /// system isn't asked again until a wait tells of the connection: what comes later is told of anew.
     pub fn read(&mut self, id: u32, buffer: &mut [u8]) -> Input
         requires { 0 < length buffer.old }
         ensures { ReadFits buffer.new result }
     {
-        let Some(stream) = self.streams.get_mut(&id) else {
+        let Some(link) = self.links.get_mut(&id) else {
             return Input::Lost;
         };
-        match stream.read(buffer) {
+        if link.drained {
+            return Input::Nothing;
+        }
+        match link.stream.read(buffer) {
             Ok(0) => Input::Over,
-            Ok(count) => Input::Got(count.min(buffer.len())),
+            Ok(count) => {
+                link.drained = count < buffer.len() && !link.over;
+                Input::Got(count.min(buffer.len()))
+            }
             Err(error) if error.kind() == ErrorKind::WouldBlock => Input::Nothing,
             Err(_) => Input::Lost,
         }
@@ -246,10 +275,10 @@ impl<'n, N: Net + Clock> SystemSockets<'n, N> {
         requires { 0 < length octets.now }
         ensures { WriteFits octets.now result }
     {
-        let Some(stream) = self.streams.get_mut(&id) else {
+        let Some(link) = self.links.get_mut(&id) else {
             return Output::Lost;
         };
-        match stream.write(octets) {
+        match link.stream.write(octets) {
             Ok(0) => Output::Lost,
             Ok(count) => Output::Taken(count.min(octets.len())),
             Err(error) if error.kind() == ErrorKind::WouldBlock => Output::Nothing,
@@ -259,23 +288,23 @@ impl<'n, N: Net + Clock> SystemSockets<'n, N> {
 
     /// Tells a connection's peer that no more is sent.
     pub fn shut(&mut self, id: u32) {
-        if let Some(stream) = self.streams.get(&id) {
-            let _ = stream.shut();
+        if let Some(link) = self.links.get(&id) {
+            let _ = link.stream.shut();
         }
     }
 
     /// Closes a connection.
     pub fn close(&mut self, id: u32) {
-        let _ = self.streams.remove(&id);
+        let _ = self.links.remove(&id);
     }
 
     /// Has a wait tell of the connection again.
     pub fn again(&mut self, id: u32) {
-        if let Some(stream) = self.streams.get_mut(&id) {
+        if let Some(link) = self.links.get_mut(&id) {
             let _ = self
                 .poll
                 .registry()
-                .reregister(stream, token_of(id), both_ways());
+                .reregister(&mut link.stream, token_of(id), both_ways());
         }
     }
 }

@@ -15,7 +15,7 @@ use Rattle.wires.specs.declared.turn.Turn.TheVariants.{Free, Rested, Waked, Swee
 use Rattle.wires.specs.Life.{Move, Passes, kind_by, kind_on, Distinct, Bounded}
 use Rattle.wires.specs.Moves.{Moment}
 use Rattle.wires.specs.Rules.{Rules}
-use Rattle.wires.specs.Talk.{same, client_of, kind_of, Comes, Answers, Sends, Parts, OrNothing, Shuts, Drops, At, Talks}
+use Rattle.wires.specs.Talk.{same, client_of, kind_of, Comes, Stays, Answers, Sends, Parts, OrNothing, Shuts, Drops, At, Talks}
 use Rattle.wires.specs.Turns.{Turns, open_of, Yields, Admits, Opens, Reads, Fails, Lacks, MayEnd, Rests, Calm, MayWait}
 use Rattle.wires.proofs.LifeLemmas.{cut, talks_of, turns_of}
 use Rattle.wires.proofs.TalkLemmas.{one_number}
@@ -206,14 +206,20 @@ over rules m k r q s u id (Dropped n count) said t h = not_stuck id s.turn (Busy
 abbrev IsKept : ℕ → ℕ → Option Client → Turn → Type 0
 IsKept id kind o turn = (is_of kind o ≡ true) ⊎ (stuck turn ≡ Some id)
 
+stays_keeps : (kind : ℕ) (before after : Client) (o p : Option Client) → o ≡ Some before → p ≡ Some after → Stays before after → is_of kind o ≡ true → is_of kind p ≡ true
+stays_keeps kind before after o p was is stays of =
+    let first : is_of kind (Some before) ≡ true = subst (λ w. is_of kind w ≡ true) was of in
+    let then : is_of kind (Some after) ≡ true = subst (λ k. (k == kind) ≡ true) (sym stays.kind) first in
+    subst (λ w. is_of kind w ≡ true) (sym is) then
+
 answers_keeps : (now kind : ℕ) (said : List ℕ) (o p : Option Client) → Answers now said o p → is_of kind o ≡ true → is_of kind p ≡ true
-answers_keeps now kind said o p a is = subst (λ w. is_of kind w ≡ true) (sym a.after) (subst (λ w. is_of kind w ≡ true) a.was is)
+answers_keeps now kind said o p a is = stays_keeps kind a.before a.after o p a.was a.is a.gathers.stays is
 
 parts_keeps : (now kind : ℕ) (said : List ℕ) (o p : Option Client) → Parts now said o p → is_of kind o ≡ true → is_of kind p ≡ true
 parts_keeps now kind said o p a is = subst (λ w. is_of kind w ≡ true) (sym a.after) (subst (λ w. is_of kind w ≡ true) a.was is)
 
 sends_keeps : (now kind : ℕ) (octets : List ℕ) (o p : Option Client) → Sends now octets o p → is_of kind o ≡ true → is_of kind p ≡ true
-sends_keeps now kind octets o p a is = subst (λ w. is_of kind w ≡ true) (sym a.after) (subst (λ w. is_of kind w ≡ true) a.was is)
+sends_keeps now kind octets o p a is = stays_keeps kind a.before a.after o p a.was a.is a.taken.stays is
 
 shuts_keeps : (now kind : ℕ) (o p : Option Client) → Shuts now o p → is_of kind o ≡ true → is_of kind p ≡ true
 shuts_keeps now kind o p a is = subst (λ w. is_of kind w ≡ true) (sym a.after) (subst (λ w. is_of kind w ≡ true) a.was is)

@@ -11,35 +11,56 @@ use Rattle.wires.specs.declared.turn.Task.TheVariants.{Send, Hear, Step, Rest, H
 use Rattle.wires.specs.Moves.{Queues, Waiters, Ticks, Marks, Leaves}
 use Rattle.wires.specs.Life.{Move, AreOpen}
 use Rattle.wires.specs.Rules.{Rules}
-use Rattle.wires.specs.Talk.{Sends, Talks, is_late, newcomer, task, task_by}
+use Rattle.wires.specs.Talk.{Sends, Talks, is_late, newcomer, gathers, task, task_by}
+use Rattle.wires.proofs.TalkLemmas.{hear_quiet}
 use Rattle.wires.specs.Turns.{is_open_of, numbers_between, came_among}
 
 -- ---- what is to be done
 
-sent_before_the_hang_up : task_by (65 ∷ []) phase.Open 0 want.Done ≡ Send
+sent_before_the_hang_up : task_by (65 ∷ []) true phase.Open 0 want.Done ≡ Send
 sent_before_the_hang_up = refl
 
-hung_up_then : task_by [] phase.Open 0 want.Done ≡ HangUp
+hung_up_then : task_by [] true phase.Open 0 want.Done ≡ HangUp
 hung_up_then = refl
 
-waits_up_to_its_moment : task_by [] phase.Open 4 (want.Until 5) ≡ Rest
+waits_up_to_its_moment : task_by [] true phase.Open 4 (want.Until 5) ≡ Rest
 waits_up_to_its_moment = refl
 
-goes_on_at_its_moment : task_by [] phase.Open 5 (want.Until 5) ≡ Step
+goes_on_at_its_moment : task_by [] true phase.Open 5 (want.Until 5) ≡ Step
 goes_on_at_its_moment = refl
 
-late_is_not_asked : task_by [] phase.Closing 5 want.More ≡ HangUp
+late_is_not_asked : task_by [] true phase.Closing 5 want.More ≡ HangUp
 late_is_not_asked = refl
 
-drains_up_to_the_last : task_by [] (phase.Shut 1) 0 want.More ≡ Drain
+drains_up_to_the_last : task_by [] true (phase.Shut 1) 0 want.More ≡ Drain
 drains_up_to_the_last = refl
 
-ends_behind_it : task_by [] (phase.Shut 0) 0 want.More ≡ End
+ends_behind_it : task_by [] true (phase.Shut 0) 0 want.More ≡ End
 ends_behind_it = refl
 
+-- a step goes on where little waits, and the turn has one more act
+goes_on_before_it_sends : task_by (65 ∷ []) true phase.Open 0 want.Step ≡ Step
+goes_on_before_it_sends = refl
+
+one_act_left : gathers (newcomer 0 1 7 (65 ∷ [])) 14 ≡ true
+one_act_left = refl
+
+-- near misses: no act more is left, something waits behind, more is to be heard
+sent_at_the_last_act : gathers (newcomer 0 1 7 (65 ∷ [])) 15 ≡ false
+sent_at_the_last_act = refl
+
+sent_where_memory_was_lacking : gathers (record (newcomer 0 1 7 (65 ∷ [])) { behind = 66 ∷ [] }) 0 ≡ false
+sent_where_memory_was_lacking = refl
+
+sent_before_more_is_heard : task_by (65 ∷ []) true phase.Open 0 want.More ≡ Send
+sent_before_more_is_heard = refl
+
 -- a near miss: to hear where something waits
-hears_nothing_yet : {M N R : Type 0} (rules : Rules M N R) (m : M) → task rules m 0 1 (Some (newcomer 0 1 7 (65 ∷ []))) ≡ Hear → ⊥
-hears_nothing_yet rules m is = cc
+hears_nothing_yet : {M N R : Type 0} (rules : Rules M N R) (m : M) → task rules m 0 0 1 (Some (newcomer 0 1 7 (65 ∷ []))) ≡ Hear → ⊥
+hears_nothing_yet rules m is = something 65 [] (hear_quiet rules m 0 0 1 (Some (newcomer 0 1 7 (65 ∷ []))) is)
+  where
+    something : (x : ℕ) (more : List ℕ) → x ∷ more ≡ [] → ⊥
+    something x more is = cc
 
 -- ---- who is late
 

@@ -4,3 +4,4 @@ pub mod Examples
 pub mod LifeLemmas
 pub mod QueueLemmas
 pub mod TalkLemmas
+pub mod SendLemmas

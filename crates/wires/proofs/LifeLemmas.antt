@@ -110,7 +110,7 @@ caused rules id kind m (move ∷ moves) n free passes leaving = last_cause rules
 
 end_by : {M N R : Type 0} (rules : Rules M N R) (m mid : Moment M N R) (before : List (Move N)) (id kind : ℕ) → Fresh m.service → Passes rules m before mid → MayEnd rules mid.machine mid.service id kind → CausedBy id before ⊎ Farewell (told_of id before)
 end_by rules m mid before id kind fresh passes (inl leaving) = inl (caused rules id kind m before mid fresh.free passes leaving)
-end_by rules m mid before id kind fresh passes (inr w) = inr (farewell rules mid.machine mid.service.moment id (told_of id before) (client_of mid.service id) (agrees_all rules m before mid id fresh passes) w.1.task)
+end_by rules m mid before id kind fresh passes (inr w) = inr (farewell rules mid.machine mid.service.moment w.0 id (told_of id before) (client_of mid.service id) (agrees_all rules m before mid id fresh passes) w.1.task)
 
 pub ends_right : {M N R : Type 0} (rules : Rules M N R) → EndsRight rules
 ends_right {M = M} {N = N} {R = R} rules = λ m n before after end id fresh passes is.

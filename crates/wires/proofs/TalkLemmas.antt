@@ -1,5 +1,5 @@
 -- What is told of one connection agrees with what the loop keeps of it.
-use Rattle.std.proofs.Common.{◌≡◌, ◌⊎◌, inl, inr, ℕ, Bool, true, false, cond, nat_lt, ◌+◌, ◌%◌, ◌^◌, List, [], ◌∷◌, ◌++◌, Option, Some, None, refl, sym, ◌∙◌, ap, subst, append_assoc, append-nil}
+use Rattle.std.proofs.Common.{◌≡◌, ◌⊎◌, inl, inr, ℕ, Bool, true, false, ◌&&◌, cond, nat_lt, length, ◌+◌, ◌%◌, ◌^◌, List, [], ◌∷◌, ◌++◌, Option, Some, None, refl, sym, ◌∙◌, ap, subst, append_assoc, append-nil}
 use Rattle.std.specs.declared.cmp.Ordering.{Ordering}
 use Rattle.std.specs.declared.cmp.Ordering.TheVariants.{Less, Equal, Greater}
 use Rattle.std.specs.Ordering.{nat_cmp, is_eq}
@@ -12,9 +12,10 @@ use Rattle.wires.specs.declared.service.Client.{Client}
 use Rattle.wires.specs.declared.service.Service.{Service}
 use Rattle.wires.specs.declared.service.Phase.{Phase}
 use Rattle.wires.specs.declared.service.Phase.TheVariants as phase
-use Rattle.wires.specs.declared.turn.Task.TheVariants.{Hear, Step, Rest, End}
+use Rattle.wires.specs.declared.turn.Task.{Task}
+use Rattle.wires.specs.declared.turn.Task.TheVariants.{Send, Hear, Step, Rest, HangUp, Drain, End, Nothing}
 use Rattle.wires.specs.Rules.{Rules}
-use Rattle.wires.specs.Talk.{max_dropped, max_unsent, max_parting, same, client_of, is_quiet, is_quiet_by, task, task_by, newcomer, Comes, Answers, Sends, Parts, OrNothing, Shuts, drained, Drops, At, Talks}
+use Rattle.wires.specs.Talk.{max_dropped, max_parting, same, client_of, waits, is_nothing, gathers, takes_more, is_quiet, is_quiet_by, task, task_by, task_sent, task_unsent, newcomer, Comes, Answers, Sends, Parts, OrNothing, Shuts, drained, Drops, At, Talks}
 use Rattle.wires.specs.Turns.{Turns}
 use Rattle.wires.specs.Life.{Told, tell, IsFrontOf, Farewell, concerns}
 
@@ -26,39 +27,82 @@ one_number n id = go (nat_cmp n id) refl
     go Equal at is = nat_cmp-IsAntisymmetric n id at
     go Greater at is = cc
 
--- ---- where something is said, all that was said before is sent
+-- ---- what waits
 
-abbrev pub unsent_of : Option Client → List ℕ
-unsent_of None = []
-unsent_of (Some c) = c.unsent
+abbrev pub waits_of : Option Client → List ℕ
+waits_of None = []
+waits_of (Some c) = waits c
 
-hear_by : (unsent : List ℕ) (at : Phase) (now : ℕ) (wanted : Want) → task_by unsent at now wanted ≡ Hear → unsent ≡ []
-hear_by [] at now wanted is = refl
-hear_by (x ∷ unsent) at now wanted is = let never : ⊥ = cc in absurd never
+-- what is said last to a connection is said where all else is sent
+hear_by : (more : List ℕ) (b : Bool) (at : Phase) (now : ℕ) (wanted : Want) → task_by more b at now wanted ≡ Hear → more ≡ []
+hear_by [] b at now wanted is = refl
+hear_by (x ∷ more) b at now wanted is = absurd (never b (task_sent at now wanted) is)
+  where
+    never : (b : Bool) (to : Task) → task_unsent b to ≡ Hear → ⊥
+    never true Send is = cc
+    never true Hear is = cc
+    never true Step is = cc
+    never true Rest is = cc
+    never true HangUp is = cc
+    never true Drain is = cc
+    never true End is = cc
+    never true Nothing is = cc
+    never false to is = cc
 
-step_by : (unsent : List ℕ) (at : Phase) (now : ℕ) (wanted : Want) → task_by unsent at now wanted ≡ Step → unsent ≡ []
-step_by [] at now wanted is = refl
-step_by (x ∷ unsent) at now wanted is = let never : ⊥ = cc in absurd never
+end_by : (more : List ℕ) (b : Bool) (at : Phase) (now : ℕ) (wanted : Want) → task_by more b at now wanted ≡ End → more ≡ []
+end_by [] b at now wanted is = refl
+end_by (x ∷ more) b at now wanted is = absurd (never b (task_sent at now wanted) is)
+  where
+    never : (b : Bool) (to : Task) → task_unsent b to ≡ End → ⊥
+    never true Send is = cc
+    never true Hear is = cc
+    never true Step is = cc
+    never true Rest is = cc
+    never true HangUp is = cc
+    never true Drain is = cc
+    never true End is = cc
+    never true Nothing is = cc
+    never false to is = cc
 
-end_by : (unsent : List ℕ) (at : Phase) (now : ℕ) (wanted : Want) → task_by unsent at now wanted ≡ End → unsent ≡ []
-end_by [] at now wanted is = refl
-end_by (x ∷ unsent) at now wanted is = let never : ⊥ = cc in absurd never
+-- where a step is made something may wait, in one piece
+step_by : (unsent behind : List ℕ) (b c : Bool) (at : Phase) (now : ℕ) (wanted : Want) → b ≡ (is_nothing behind && c) → task_by (unsent ++ behind) b at now wanted ≡ Step → is_nothing behind ≡ true
+step_by unsent [] b c at now wanted may is = refl
+step_by [] (y ∷ behind) b c at now wanted may is = absurd (never b (task_sent at now wanted) may is)
+  where
+    never : (b : Bool) (to : Task) → b ≡ false → task_unsent b to ≡ Step → ⊥
+    never true to may is = cc
+    never false to may is = cc
+step_by (x ∷ unsent) (y ∷ behind) b c at now wanted may is = absurd (never b (task_sent at now wanted) may is)
+  where
+    never : (b : Bool) (to : Task) → b ≡ false → task_unsent b to ≡ Step → ⊥
+    never true to may is = cc
+    never false to may is = cc
+
+nothing_behind : (unsent behind : List ℕ) → unsent ++ behind ≡ [] → is_nothing behind ≡ true
+nothing_behind unsent [] is = refl
+nothing_behind [] (y ∷ behind) is = let never : ⊥ = cc in absurd never
+nothing_behind (x ∷ unsent) (y ∷ behind) is = let never : ⊥ = cc in absurd never
 
 quiet_by : (unsent : List ℕ) (at : Phase) → is_quiet_by unsent at ≡ true → unsent ≡ []
 quiet_by [] at is = refl
 quiet_by (x ∷ unsent) at is = let never : ⊥ = cc in absurd never
 
-hear_quiet : {M N R : Type 0} (rules : Rules M N R) (m : M) (now id : ℕ) (o : Option Client) → task rules m now id o ≡ Hear → unsent_of o ≡ []
-hear_quiet rules m now id None is = refl
-hear_quiet rules m now id (Some c) is = hear_by c.unsent c.phase now (rules.wants m id) is
+pub hear_quiet : {M N R : Type 0} (rules : Rules M N R) (m : M) (now count id : ℕ) (o : Option Client) → task rules m now count id o ≡ Hear → waits_of o ≡ []
+hear_quiet rules m now count id None is = refl
+hear_quiet rules m now count id (Some c) is = hear_by (waits c) (gathers c count) c.phase now (rules.wants m id) is
 
-step_quiet : {M N R : Type 0} (rules : Rules M N R) (m : M) (now id : ℕ) (o : Option Client) → task rules m now id o ≡ Step → unsent_of o ≡ []
-step_quiet rules m now id None is = refl
-step_quiet rules m now id (Some c) is = step_by c.unsent c.phase now (rules.wants m id) is
+-- more may be said to one that is heard, or of which a step is made
+pub hear_takes : {M N R : Type 0} (rules : Rules M N R) (m : M) (now count id : ℕ) (o : Option Client) → task rules m now count id o ≡ Hear → takes_more o ≡ true
+hear_takes rules m now count id None is = refl
+hear_takes rules m now count id (Some c) is = nothing_behind c.unsent c.behind (hear_by (waits c) (gathers c count) c.phase now (rules.wants m id) is)
 
-quiet : (o : Option Client) → is_quiet o ≡ true → unsent_of o ≡ []
+pub step_takes : {M N R : Type 0} (rules : Rules M N R) (m : M) (now count id : ℕ) (o : Option Client) → task rules m now count id o ≡ Step → takes_more o ≡ true
+step_takes rules m now count id None is = refl
+step_takes rules m now count id (Some c) is = step_by c.unsent c.behind (gathers c count) (nat_lt (length c.unsent) 16384 && nat_lt (count + 1) 16) c.phase now (rules.wants m id) refl is
+
+pub quiet : (o : Option Client) → is_quiet o ≡ true → waits_of o ≡ []
 quiet None is = refl
-quiet (Some c) is = quiet_by c.unsent c.phase is
+quiet (Some c) is = quiet_by (waits c) c.phase is
 
 -- ---- one connection
 
@@ -68,7 +112,7 @@ is_shut_by phase.Closing = false
 is_shut_by (phase.Shut left) = true
 
 pub record Fits (t : Told) (c : Client) : Type 0 where
-  pub sent : t.sent ++ c.unsent ≡ t.said
+  pub sent : t.sent ++ waits c ≡ t.said
   pub shut : is_shut_by c.phase ≡ true → t.shut ≡ true
 
 abbrev pub Agrees : Told → Option Client → Type 0
@@ -77,7 +121,7 @@ Agrees t (Some c) = Fits t c
 
 pub front : (t : Told) (o : Option Client) → Agrees t o → IsFrontOf t.sent t.said
 front t None agrees = agrees
-front t (Some c) agrees = (c.unsent, agrees.sent)
+front t (Some c) agrees = (waits c, agrees.sent)
 
 -- ---- one act of it
 
@@ -86,28 +130,37 @@ comes now id kind said o p h = go h.here
   where
     go : (p ≡ Some (newcomer now id kind said)) ⊎ (p ≡ None) → Agrees (record { said = said; sent = []; shut = false }) p
     go (inl is) =
-        let fits : Fits (record { said = said; sent = []; shut = false }) (newcomer now id kind said) = record { sent = refl; shut = λ never. cc } in
+        let fits : Fits (record { said = said; sent = []; shut = false }) (newcomer now id kind said) = record { sent = append-nil said; shut = λ never. cc } in
         subst (λ q. Agrees (record { said = said; sent = []; shut = false }) q) (sym is) fits
     go (inr is) =
         let none : IsFrontOf {X = ℕ} [] said = (said, refl) in
         subst (λ q. Agrees (record { said = said; sent = []; shut = false }) q) (sym is) none
 
 -- all is sent where nothing waits
-all_sent : (t : Told) (c : Client) → Fits t c → c.unsent ≡ [] → t.sent ≡ t.said
+all_sent : (t : Told) (c : Client) → Fits t c → waits c ≡ [] → t.sent ≡ t.said
 all_sent t c fits none = sym (append-nil t.sent) ∙ ap (λ l. t.sent ++ l) (sym none) ∙ fits.sent
 
-answers : (t : Told) (now : ℕ) (said : List ℕ) (o p : Option Client) → Agrees t o → unsent_of o ≡ [] → Answers now said o p → Agrees (record t { said = t.said ++ said }) p
-answers t now said o p agrees none h =
+-- what is said waits behind what waited
+answers : (t : Told) (now : ℕ) (said : List ℕ) (o p : Option Client) → Agrees t o → Answers now said o p → Agrees (record t { said = t.said ++ said }) p
+answers t now said o p agrees h =
     let fits : Fits t h.before = subst (λ q. Agrees t q) h.was agrees in
-    let empty : h.before.unsent ≡ [] = subst (λ q. unsent_of q ≡ []) h.was none in
-    let after : Fits (record t { said = t.said ++ said }) (record h.before { unsent = said; until = (now + max_unsent) % 2 ^ 64 }) = record { sent = ap (λ l. l ++ said) (all_sent t h.before fits empty); shut = fits.shut } in
-    subst (λ q. Agrees (record t { said = t.said ++ said }) q) (sym h.after) after
+    let after : Fits (record t { said = t.said ++ said }) h.after = record {
+      sent = ap (λ l. t.sent ++ l) h.gathers.joins ∙ sym (append_assoc t.sent (waits h.before) said) ∙ ap (λ l. l ++ said) fits.sent;
+      shut = λ is. fits.shut (ap (λ x. is_shut_by x) (sym h.gathers.stays.phase) ∙ is);
+    } in
+    subst (λ q. Agrees (record t { said = t.said ++ said }) q) (sym h.is) after
 
-parts : (t : Told) (now : ℕ) (said : List ℕ) (o p : Option Client) → Agrees t o → unsent_of o ≡ [] → Parts now said o p → Agrees (record t { said = t.said ++ said }) p
+pub no_piece : (unsent behind : List ℕ) → unsent ++ behind ≡ [] → behind ≡ []
+no_piece unsent [] is = refl
+no_piece [] (y ∷ behind) is = is
+no_piece (x ∷ unsent) (y ∷ behind) is = let never : ⊥ = cc in absurd never
+
+parts : (t : Told) (now : ℕ) (said : List ℕ) (o p : Option Client) → Agrees t o → waits_of o ≡ [] → Parts now said o p → Agrees (record t { said = t.said ++ said }) p
 parts t now said o p agrees none h =
     let fits : Fits t h.before = subst (λ q. Agrees t q) h.was agrees in
-    let empty : h.before.unsent ≡ [] = subst (λ q. unsent_of q ≡ []) h.was none in
-    let after : Fits (record t { said = t.said ++ said }) (record h.before { unsent = said; phase = phase.Closing; until = (now + max_parting) % 2 ^ 64 }) = record { sent = ap (λ l. l ++ said) (all_sent t h.before fits empty); shut = λ never. cc } in
+    let empty : waits h.before ≡ [] = subst (λ q. waits_of q ≡ []) h.was none in
+    let one : said ++ h.before.behind ≡ said = ap (λ l. said ++ l) (no_piece h.before.unsent h.before.behind empty) ∙ append-nil said in
+    let after : Fits (record t { said = t.said ++ said }) (record h.before { unsent = said; phase = phase.Closing; until = (now + max_parting) % 2 ^ 64 }) = record { sent = ap (λ l. t.sent ++ l) one ∙ ap (λ l. l ++ said) (all_sent t h.before fits empty); shut = λ never. cc } in
     subst (λ q. Agrees (record t { said = t.said ++ said }) q) (sym h.after) after
 
 -- where nothing is said nothing changes
@@ -116,15 +169,18 @@ silent t said o p agrees none is =
     let same_said : t.said ≡ t.said ++ said = sym (append-nil t.said) ∙ ap (λ l. t.said ++ l) (sym none) in
     subst (λ l. Agrees (record t { said = l }) p) same_said (subst (λ q. Agrees t q) (sym is) agrees)
 
-hears : (t : Told) (now : ℕ) (said : List ℕ) (o p : Option Client) → Agrees t o → unsent_of o ≡ [] → OrNothing (Answers now said o p) said o p → Agrees (record t { said = t.said ++ said }) p
-hears t now said o p agrees none (inl h) = answers t now said o p agrees none h
-hears t now said o p agrees none (inr h) = silent t said o p agrees h.0 h.1
+hears : (t : Told) (now : ℕ) (said : List ℕ) (o p : Option Client) → Agrees t o → OrNothing (Answers now said o p) said o p → Agrees (record t { said = t.said ++ said }) p
+hears t now said o p agrees (inl h) = answers t now said o p agrees h
+hears t now said o p agrees (inr h) = silent t said o p agrees h.0 h.1
 
 sends : (t : Told) (now : ℕ) (octets : List ℕ) (o p : Option Client) → Agrees t o → Sends now octets o p → Agrees (record t { sent = t.sent ++ octets }) p
 sends t now octets o p agrees h =
     let fits : Fits t h.before = subst (λ q. Agrees t q) h.was agrees in
-    let after : Fits (record t { sent = t.sent ++ octets }) (record h.before { unsent = h.rest; until = (now + max_unsent) % 2 ^ 64 }) = record { sent = append_assoc t.sent octets h.rest ∙ ap (λ l. t.sent ++ l) (sym h.front) ∙ fits.sent; shut = fits.shut } in
-    subst (λ q. Agrees (record t { sent = t.sent ++ octets }) q) (sym h.after) after
+    let after : Fits (record t { sent = t.sent ++ octets }) h.after = record {
+      sent = append_assoc t.sent octets (waits h.after) ∙ ap (λ l. t.sent ++ l) (sym h.taken.front) ∙ fits.sent;
+      shut = λ is. fits.shut (ap (λ x. is_shut_by x) (sym h.taken.stays.phase) ∙ is);
+    } in
+    subst (λ q. Agrees (record t { sent = t.sent ++ octets }) q) (sym h.is) after
 
 shuts : (t : Told) (now : ℕ) (o p : Option Client) → Agrees t o → Shuts now o p → Agrees (record t { shut = true }) p
 shuts t now o p agrees h =
@@ -171,10 +227,10 @@ agrees_act rules m k r q s u id t (Came n kind) said agrees talks turns =
     at_act (same n id) t (record { said = said; sent = []; shut = false }) (client_of s id) (client_of u id) (Comes s.moment n kind said (client_of s id) (client_of u id)) (λ b h. comes s.moment n kind said (client_of s id) (client_of u id) h) agrees talks
 agrees_act rules m k r q s u id t (Heard n piece) said agrees talks turns =
     at_act (same n id) t (record t { said = t.said ++ said }) (client_of s id) (client_of u id) (OrNothing (Answers s.moment said (client_of s id) (client_of u id)) said (client_of s id) (client_of u id))
-    (λ b h. hears t s.moment said (client_of s id) (client_of u id) agrees (subst (λ i. unsent_of (client_of s i) ≡ []) (one_number n id b) (hear_quiet rules m s.moment n (client_of s n) turns.wanted.task)) h) agrees talks
+    (λ b h. hears t s.moment said (client_of s id) (client_of u id) agrees h) agrees talks
 agrees_act rules m k r q s u id t (Noted n note) said agrees talks turns =
     at_act (same n id) t (record t { said = t.said ++ said }) (client_of s id) (client_of u id) (Answers s.moment said (client_of s id) (client_of u id))
-    (λ b h. answers t s.moment said (client_of s id) (client_of u id) agrees (subst (λ i. unsent_of (client_of s i) ≡ []) (one_number n id b) (step_quiet rules m s.moment n (client_of s n) turns.1.1.task)) h) agrees talks
+    (λ b h. answers t s.moment said (client_of s id) (client_of u id) agrees h) agrees talks
 agrees_act rules m k r q s u id t (Late n) said agrees talks turns =
     at_act (same n id) t (record t { said = t.said ++ said }) (client_of s id) (client_of u id) (OrNothing (Parts s.moment said (client_of s id) (client_of u id)) said (client_of s id) (client_of u id))
     (λ b h. lates t s.moment said (client_of s id) (client_of u id) agrees h) agrees talks
@@ -193,25 +249,25 @@ agrees_act rules m k r q s u id t _ said agrees talks turns = stays t (client_of
 
 -- ---- one that is closed in its turn
 
-shut_end : (unsent : List ℕ) (at : Phase) (now : ℕ) (wanted : Want) → task_by unsent at now wanted ≡ End → is_shut_by at ≡ true
-shut_end (x ∷ unsent) at now wanted is = let never : ⊥ = cc in absurd never
-shut_end [] phase.Open now want.More is = let never : ⊥ = cc in absurd never
-shut_end [] phase.Open now want.Step is = let never : ⊥ = cc in absurd never
-shut_end [] phase.Open now want.Wait is = let never : ⊥ = cc in absurd never
-shut_end [] phase.Open now (want.Until moment) is = never_until (nat_lt now moment) is
+shut_end : (more : List ℕ) (b : Bool) (at : Phase) (now : ℕ) (wanted : Want) → task_by more b at now wanted ≡ End → is_shut_by at ≡ true
+shut_end (x ∷ more) b at now wanted is = let none : x ∷ more ≡ [] = end_by (x ∷ more) b at now wanted is in let never : ⊥ = cc in absurd never
+shut_end [] b phase.Open now want.More is = let never : ⊥ = cc in absurd never
+shut_end [] b phase.Open now want.Step is = let never : ⊥ = cc in absurd never
+shut_end [] b phase.Open now want.Wait is = let never : ⊥ = cc in absurd never
+shut_end [] b phase.Open now (want.Until moment) is = never_until (nat_lt now moment) is
   where
     never_until : (b : Bool) → cond b Rest Step ≡ End → is_shut_by phase.Open ≡ true
     never_until true is = let never : ⊥ = cc in absurd never
     never_until false is = let never : ⊥ = cc in absurd never
-shut_end [] phase.Open now want.Done is = let never : ⊥ = cc in absurd never
-shut_end [] phase.Closing now wanted is = let never : ⊥ = cc in absurd never
-shut_end [] (phase.Shut left) now wanted is = refl
+shut_end [] b phase.Open now want.Done is = let never : ⊥ = cc in absurd never
+shut_end [] b phase.Closing now wanted is = let never : ⊥ = cc in absurd never
+shut_end [] b (phase.Shut left) now wanted is = refl
 
-pub farewell : {M N R : Type 0} (rules : Rules M N R) (m : M) (now id : ℕ) (t : Told) (o : Option Client) → Agrees t o → task rules m now id o ≡ End → Farewell t
-farewell rules m now id t None agrees is = let never : ⊥ = cc in absurd never
-farewell rules m now id t (Some c) agrees is = record {
-  sent = all_sent t c agrees (end_by c.unsent c.phase now (rules.wants m id) is);
-  shut = agrees.shut (shut_end c.unsent c.phase now (rules.wants m id) is);
+pub farewell : {M N R : Type 0} (rules : Rules M N R) (m : M) (now count id : ℕ) (t : Told) (o : Option Client) → Agrees t o → task rules m now count id o ≡ End → Farewell t
+farewell rules m now count id t None agrees is = let never : ⊥ = cc in absurd never
+farewell rules m now count id t (Some c) agrees is = record {
+  sent = all_sent t c agrees (end_by (waits c) (gathers c count) c.phase now (rules.wants m id) is);
+  shut = agrees.shut (shut_end (waits c) (gathers c count) c.phase now (rules.wants m id) is);
 }
 
 -- ---- acts of others

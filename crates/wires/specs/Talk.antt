@@ -1,5 +1,5 @@
 -- One connection, act by act: what is heard of it, said to it and sent on it. It knows no other connection.
-use Rattle.std.specs.Prelude.{◌≡◌, ◌⊎◌, ℕ, ◌+◌, ◌-◌, ◌%◌, ◌^◌, ◌<◌, ◌==◌, nat_lt, not, Bool, true, false, if◌then◌else◌, List, []}
+use Rattle.std.specs.Prelude.{◌≡◌, ◌⊎◌, ℕ, ◌+◌, ◌-◌, ◌%◌, ◌^◌, ◌<◌, ◌==◌, nat_lt, not, Bool, true, false, ◌&&◌, if◌then◌else◌, List, []}
 use Rattle.std.specs.Prelude.{◌∷◌, ◌++◌, length, Option, Some, None}
 use Rattle.std.specs.BTreeMap as tree
 use Rattle.std.specs.Ordering.{nat_cmp, is_eq}
@@ -25,15 +25,19 @@ abbrev pub kind_of : Option Client → ℕ
 kind_of (Some c) = c.kind
 kind_of None = 0
 
+-- what was said to a connection and isn't sent yet
+abbrev pub waits : Client → List ℕ
+waits c = c.unsent ++ c.behind
+
 -- it is open, and all that was said to it is sent
 abbrev pub is_quiet_by : List ℕ → Phase → Bool
 is_quiet_by [] phase.Open = true
 is_quiet_by [] phase.Closing = false
 is_quiet_by [] (phase.Shut left) = false
-is_quiet_by (x ∷ unsent) at = false
+is_quiet_by (x ∷ more) at = false
 
 abbrev pub is_quiet : Option Client → Bool
-is_quiet (Some c) = is_quiet_by c.unsent c.phase
+is_quiet (Some c) = is_quiet_by (waits c) c.phase
 is_quiet None = false
 
 abbrev pub is_open_by : Phase → Bool
@@ -73,51 +77,113 @@ task_wanted now want.Wait = Rest
 task_wanted now (want.Until moment) = if nat_lt now moment then Rest else Step
 task_wanted now want.Done = HangUp
 
--- what is to be done on a connection: first what waits is sent. Then one that is open gets what the machine wants; one that was
--- late is hung up; of one that is shut so many octets more are dropped
-abbrev pub task_by : List ℕ → Phase → ℕ → Want → Task
-task_by (x ∷ unsent) at now wanted = Send
-task_by [] phase.Open now wanted = task_wanted now wanted
-task_by [] phase.Closing now wanted = HangUp
-task_by [] (phase.Shut left) now wanted = if left == 0 then End else Drain
+-- what is to be done on a connection to which all is sent: one that is open gets what the machine wants; one that was late is
+-- hung up; of one that is shut so many octets more are dropped
+abbrev pub task_sent : Phase → ℕ → Want → Task
+task_sent phase.Open now wanted = task_wanted now wanted
+task_sent phase.Closing now wanted = HangUp
+task_sent (phase.Shut left) now wanted = if left == 0 then End else Drain
 
-abbrev pub task : {M N R : Type 0} → Rules M N R → M → ℕ → ℕ → Option Client → Task
-task rules m now id (Some c) = task_by c.unsent c.phase now (rules.wants m id)
-task rules m now id None = Nothing
+-- after so many acts in a row of one connection another has its turn
+abbrev pub fair : ℕ
+fair = 16
+
+-- so many octets of answers and more are sent before another step is made
+abbrev pub max_gathered : ℕ
+max_gathered = 16384
+
+-- what waits lies in one piece
+abbrev pub is_nothing : List ℕ → Bool
+is_nothing [] = true
+is_nothing (x ∷ more) = false
+
+-- a step may be made before what waits is sent: while that is less, lies in one piece, and one more act is left of the turn
+abbrev pub gathers : Client → ℕ → Bool
+gathers c count = is_nothing c.behind && (nat_lt (length c.unsent) max_gathered && nat_lt (count + 1) fair)
+
+-- where something waits it is sent; but a step that is wanted is made before where that may be
+abbrev pub task_unsent : Bool → Task → Task
+task_unsent true Step = Step
+task_unsent true _ = Send
+task_unsent false wanted = Send
+
+abbrev pub task_by : List ℕ → Bool → Phase → ℕ → Want → Task
+task_by [] gathers at now wanted = task_sent at now wanted
+task_by (x ∷ more) gathers at now wanted = task_unsent gathers (task_sent at now wanted)
+
+-- nothing waits behind: more may be said to it
+abbrev pub takes_more : Option Client → Bool
+takes_more (Some c) = is_nothing c.behind
+takes_more None = true
+
+-- what is to be done on a connection after so many acts of its turn
+abbrev pub task : {M N R : Type 0} → Rules M N R → M → ℕ → ℕ → ℕ → Option Client → Task
+task rules m now count id (Some c) = task_by (waits c) (gathers c count) c.phase now (rules.wants m id)
+task rules m now count id None = Nothing
 
 -- the moment by which a connection is late: the machine's where it is open and all is sent, else by what is to be sent or dropped
 abbrev pub due_by : List ℕ → Phase → ℕ → ℕ → ℕ
 due_by [] phase.Open until deadline = deadline
 due_by [] phase.Closing until deadline = until
 due_by [] (phase.Shut left) until deadline = until
-due_by (x ∷ unsent) at until deadline = until
+due_by (x ∷ more) at until deadline = until
 
 abbrev pub is_late : ℕ → ℕ → Client → Bool
-is_late now deadline c = not (nat_lt now (due_by c.unsent c.phase c.until deadline))
+is_late now deadline c = not (nat_lt now (due_by (waits c) c.phase c.until deadline))
 
 -- to one that comes what the machine says then is to be sent
 abbrev pub newcomer : ℕ → ℕ → ℕ → List ℕ → Client
-newcomer now id kind said = record { id = id; kind = kind; unsent = said; phase = phase.Open; until = after_span now max_unsent }
+newcomer now id kind said = record { id = id; kind = kind; unsent = said; behind = []; phase = phase.Open; until = after_span now max_unsent }
 
 -- one came, and is there, or not where memory was lacking
 pub record Comes (now id kind : ℕ) (said : List ℕ) (o p : Option Client) : Type 0 where
   pub new : o ≡ None
   pub here : (p ≡ Some (newcomer now id kind said)) ⊎ (p ≡ None)
 
+-- all else of a connection stays the same
+pub record Stays (before after : Client) : Type 0 where
+  pub id : after.id ≡ before.id
+  pub kind : after.kind ≡ before.kind
+  pub phase : after.phase ≡ before.phase
+
+-- the moment by which some of what waits is to be taken: what is said behind something that waits leaves it
+abbrev pub due_after : ℕ → List ℕ → ℕ → ℕ
+due_after now [] until = after_span now max_unsent
+due_after now (x ∷ more) until = until
+
+-- what is said waits, behind what waited
+pub record Gathers (now : ℕ) (said : List ℕ) (before after : Client) : Type 0 where
+  pub joins : waits after ≡ waits before ++ said
+  pub until : after.until ≡ due_after now (waits before) before.until
+  pub stays : Stays before after
+
 -- what the machine answers waits
 pub record Answers (now : ℕ) (said : List ℕ) (o p : Option Client) : Type 0 where
   pub before : Client
   pub was : o ≡ Some before
-  pub after : p ≡ Some (record before { unsent = said; until = after_span now max_unsent })
+  pub after : Client
+  pub is : p ≡ Some after
+  pub gathers : Gathers now said before after
+
+-- what is sent next of two pieces: the first, where there is one
+abbrev pub next_piece : List ℕ → List ℕ → List ℕ
+next_piece [] behind = behind
+next_piece (x ∷ more) behind = x ∷ more
+
+-- a front of what waits is taken off
+pub record Taken (now : ℕ) (octets : List ℕ) (before after : Client) : Type 0 where
+  pub front : waits before ≡ octets ++ waits after
+  pub until : after.until ≡ after_span now max_unsent
+  pub stays : Stays before after
 
 -- what is sent is a front of what waits, and not nothing
 pub record Sends (now : ℕ) (octets : List ℕ) (o p : Option Client) : Type 0 where
   pub before : Client
   pub was : o ≡ Some before
   pub some : 0 < length octets
-  pub rest : List ℕ
-  pub front : before.unsent ≡ octets ++ rest
-  pub after : p ≡ Some (record before { unsent = rest; until = after_span now max_unsent })
+  pub after : Client
+  pub is : p ≡ Some after
+  pub taken : Taken now octets before after
 
 -- to one that was late or makes room for another, and to which nothing waits, something is said last
 pub record Parts (now : ℕ) (said : List ℕ) (o p : Option Client) : Type 0 where

@@ -16,12 +16,8 @@ use Rattle.wires.specs.declared.turn.Turn.TheVariants.{Free, Rested, Waked, Swee
 use Rattle.wires.specs.declared.turn.Task.{Task}
 use Rattle.wires.specs.declared.turn.Task.TheVariants.{Send, Hear, Step, Rest, HangUp, Drain, End, Nothing}
 use Rattle.wires.specs.Rules.{Rules}
-use Rattle.wires.specs.Talk.{same, client_of, kind_of, is_quiet, is_closing, is_late, task, is_open_by, newcomer, Answers, Alone, MayAnswer, MayPart}
+use Rattle.wires.specs.Talk.{same, client_of, kind_of, is_quiet, is_closing, is_late, fair, task, is_open_by, newcomer, Answers, Alone, MayAnswer, MayPart}
 use Rattle.wires.specs.Told.{largest_piece}
-
--- after so many acts in a row of one connection another has its turn
-abbrev pub fair : ℕ
-fair = 16
 
 -- how many connections of a kind are open
 abbrev pub open_of : ℕ → Service → ℕ
@@ -35,7 +31,7 @@ HasPlace rules kind s = open_of kind s < rules.limit kind
 pub record Tasks {M N R : Type 0} (rules : Rules M N R) (m : M) (s : Service) (id count : ℕ) (wanted : Task) : Type 0 where
   pub busy : s.turn ≡ Busy id count
   pub few : count < fair
-  pub task : task rules m s.moment id (client_of s id) ≡ wanted
+  pub task : task rules m s.moment count id (client_of s id) ≡ wanted
 
 -- whose turn begins by what a wait told: the door's, or that of a connection which is there
 abbrev pub turn_by : ℕ → Option Client → Turn
@@ -69,7 +65,7 @@ goes_on Rest = false
 goes_on _ = true
 
 abbrev pub first_roused : {M N R : Type 0} → Rules M N R → M → Service → Option ℕ
-first_roused rules m s = find (λ id. goes_on (task rules m s.moment id (client_of s id))) s.waiting.items
+first_roused rules m s = find (λ id. goes_on (task rules m s.moment 0 id (client_of s id))) s.waiting.items
 
 -- nobody's turn, and nobody is late whom the last reading of the clock showed
 abbrev pub Calm : {M N R : Type 0} → Rules M N R → M → Service → Type 0
@@ -137,7 +133,7 @@ pub record Enters {M N R : Type 0} (rules : Rules M N R) (m : M) (s : Service) (
 abbrev pub Goes : Type 0 → Type 0 → ℕ → ℕ → ℕ → List ℕ → Turn → Type 0
 Goes done lacks id kind count said turn = (done × (turn ≡ Busy id (count + 1))) ⊎ (lacks × (said ≡ []) × (turn ≡ Stuffed id kind))
 
--- a piece is heard only where nothing waits to be sent and the machine wants more
+-- a piece is heard only where all is sent and the machine wants more
 pub record Hears {M N R : Type 0} (rules : Rules M N R) (m : M) (s : Service) (id : ℕ) (piece said : List ℕ) (n : M) (t : Service) : Type 0 where
   pub count : ℕ
   pub wanted : Tasks rules m s id count Hear

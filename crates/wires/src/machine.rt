@@ -6,7 +6,7 @@ use crate::outside::Outside;
 use octets::Octets;
 use std::alloc::AllocError;
 
-/// What a machine wants of a connection to which nothing is to be sent.
+/// What a machine wants of a connection. All but a step waits until what it said is sent, and so does a step where that is much.
 #[derive(Clone, Copy, Debug, PartialEq, Eq)]
 pub enum Want {
     /// More octets.
@@ -38,7 +38,7 @@ pub trait Machine<O: Outside> {
     fn displaced(&self, kind: u32) -> Option<u32>
         ensures { result ≡ rules.displaced self.now kind };
 
-    /// What it wants of that connection, once all that it said is sent.
+    /// What it wants of that connection.
     fn wants(&self, id: u32) -> Want
         ensures { result ≡ rules.wants self.now id };
 

@@ -1,8 +1,9 @@
 //! The loop: one act a call.
-ghost use Rattle.std.specs.Prelude.{◌≡◌, ◌==◌, ℕ, ◌<◌, [], not, filter, find, true, Some, None, IsTrue, IsSome, OnErr};
+ghost use Rattle.std.specs.Prelude.{◌≡◌, ◌==◌, ℕ, ◌<◌, ◌≤◌, ◌↔◌, ◌⊎◌, [], length, take, not, filter, find, true, Some, None, IsTrue, IsSome, OnErr};
 ghost use Rattle.std.specs.BTreeMap as tree;
 ghost use Rattle.wires.specs.Moves.{MovesIf, MovesOrIf};
-ghost use Rattle.wires.specs.Talk.{client_of, kind_of, is_open_by, is_quiet, is_late, task, task_by, task_wanted, drained};
+ghost use Rattle.wires.specs.Talk.{client_of, kind_of, waits, is_open_by, is_quiet, is_late, is_nothing, gathers, task, task_by, task_sent};
+ghost use Rattle.wires.specs.Talk.{task_unsent, task_wanted, takes_more, next_piece, Gathers, Taken, Stays, drained};
 ghost use Rattle.wires.specs.Turns.{Tasks, Enters, Answered, Given, Parted, Yields, MayEnd, Admits, NoPlace, MayWait, Calm, Rests, Quiet};
 ghost use Rattle.wires.specs.Turns.{open_of, is_open_of, came_since, makes_room, turn_of, first_late, first_roused, goes_on};
 ghost use Rattle.wires.specs.declared.turn.Turn.TheVariants.{Free, Rested, Waked, Sweep, Door, Busy, Stuffed};
@@ -16,6 +17,10 @@ use crate::turn::{Task, Turn};
 use octets::{Octets, Pending};
 use std::alloc::Global;
 use std::collections::{BTreeMap, VecDeque};
+use std::mem;
+
+/// While fewer octets than that wait to be sent to a connection, steps of it go on before they are.
+const MAX_GATHERED: usize = 16384;
 
 /// No more octets of a connection are read at once.
 const MAX_PIECE: usize = 4096;
@@ -53,6 +58,8 @@ pub struct Client {
     pub kind: u32,
     /// What is to be sent.
     pub unsent: Pending,
+    /// What is to be sent behind it, where memory was lacking to put it there.
+    pub behind: Octets,
     pub phase: Phase,
     /// The moment by which it is late with what is to be sent, or dropped.
     pub until: u64,
@@ -278,7 +285,7 @@ fn is_client_late(client: &Client, now: u64, deadline: u64) -> bool
 fn is_client_quiet(client: &Client) -> bool
     ensures { result ≡ is_quiet (Some client.now) }
 {
-    if !client.unsent.is_empty() {
+    if !is_all_sent(client) {
         return false;
     }
     match client.phase {
@@ -286,6 +293,13 @@ fn is_client_quiet(client: &Client) -> bool
         Phase::Closing => false,
         Phase::Shut(_) => false,
     }
+}
+
+/// Whether all that was said to it is sent.
+fn is_all_sent(client: &Client) -> bool
+    ensures { IsTrue result ↔ (waits client.now ≡ []) }
+{
+    client.unsent.is_empty() && client.behind.is_empty()
 }
 
 /// The first of those who wait that has something to do now.
@@ -301,7 +315,7 @@ fn first_among<O: Sockets + Clock, M: Machine<O>>(
     service: &Service,
     ids: &[u32],
 ) -> Option<u32>
-    ensures { result ≡ find (λ id. goes_on (task M.rules machine.now service.now.moment id (client_of service.now id))) ids.now }
+    ensures { result ≡ find (λ id. goes_on (task M.rules machine.now service.now.moment 0 id (client_of service.now id))) ids.now }
 {
     let mut rest = ids;
     while let Some((id, others)) = rest.split_first() {
@@ -315,9 +329,9 @@ fn first_among<O: Sockets + Clock, M: Machine<O>>(
 
 /// Whether it has something to do now.
 fn may_go_on<O: Sockets + Clock, M: Machine<O>>(machine: &M, service: &Service, id: u32) -> bool
-    ensures { result ≡ goes_on (task M.rules machine.now service.now.moment id (client_of service.now id)) }
+    ensures { result ≡ goes_on (task M.rules machine.now service.now.moment 0 id (client_of service.now id)) }
 {
-    is_to_go_on(task_of(machine, service, id))
+    is_to_go_on(task_of(machine, service, id, 0))
 }
 
 fn is_to_go_on(task: Task) -> bool
@@ -640,6 +654,7 @@ fn admit<O: Sockets + Clock, M: Machine<O>>(
         id,
         kind,
         unsent: Pending::from_octets(out),
+        behind: Octets::new(service.alloc),
         phase: Phase::Open,
         until: service.moment.wrapping_add(MAX_UNSENT),
     };
@@ -652,27 +667,57 @@ fn admit<O: Sockets + Clock, M: Machine<O>>(
 
 // ---- the turn of one connection
 
-/// What is to be done on it.
-fn task_of<O: Sockets + Clock, M: Machine<O>>(machine: &M, service: &Service, id: u32) -> Task
-    ensures { result ≡ task M.rules machine.now service.now.moment id (client_of service.now id) }
+/// What is to be done on it, after so many acts of its turn.
+fn task_of<O: Sockets + Clock, M: Machine<O>>(
+    machine: &M,
+    service: &Service,
+    id: u32,
+    count: u32,
+) -> Task
+    ensures { result ≡ task M.rules machine.now service.now.moment count id (client_of service.now id) }
 {
     match service.clients.get(&id) {
-        Some(client) => task_of_client(client, service.moment, machine.wants(id)),
+        Some(client) => task_of_client(client, service.moment, count, machine.wants(id)),
         None => Task::Nothing,
     }
 }
 
-fn task_of_client(client: &Client, now: u64, want: Want) -> Task
-    ensures { result ≡ task_by client.now.unsent client.now.phase now want }
+fn task_of_client(client: &Client, now: u64, count: u32, want: Want) -> Task
+    ensures { result ≡ task_by (waits client.now) (gathers client.now count) client.now.phase now want }
 {
-    if !client.unsent.is_empty() {
-        return Task::Send;
+    let task = task_of_phase(client.phase, now, want);
+    if is_all_sent(client) {
+        return task;
     }
-    match client.phase {
+    task_of_unsent(may_gather(client, count), task)
+}
+
+/// What is to be done where all is sent.
+fn task_of_phase(phase: Phase, now: u64, want: Want) -> Task
+    ensures { result ≡ task_sent phase now want }
+{
+    match phase {
         Phase::Open => task_of_want(now, want),
         Phase::Closing => Task::HangUp,
         Phase::Shut(left) => { if left == 0 { Task::End } else { Task::Drain } }
     }
+}
+
+/// What is to be done where something waits: that is sent, but for a step that may be made before.
+fn task_of_unsent(gathers: bool, task: Task) -> Task
+    ensures { result ≡ task_unsent gathers task }
+{
+    match task {
+        Task::Step => { if gathers { Task::Step } else { Task::Send } }
+        _ => Task::Send,
+    }
+}
+
+/// Whether a step may be made before what waits is sent.
+fn may_gather(client: &Client, count: u32) -> bool
+    ensures { result ≡ gathers client.now count }
+{
+    client.behind.is_empty() && client.unsent.len() < MAX_GATHERED && count < MAX_ACTS - 1
 }
 
 fn task_of_want(now: u64, want: Want) -> Task
@@ -713,7 +758,7 @@ fn busy_once<O: Sockets + Clock, M: Machine<O>>(
         return again_once(outside, machine, service, id);
     }
     let kind = kind_of_client(service, id);
-    match task_of(machine, service, id) {
+    match task_of(machine, service, id, count) {
         Task::Send => send_once(outside, machine, service, id, count, kind),
         Task::Hear => hear_once(outside, machine, service, id, count, kind),
         Task::Step => step_once(outside, machine, service, id, count, kind),
@@ -742,10 +787,9 @@ fn send_once<O: Sockets + Clock, M: Machine<O>>(
     let Some(client) = service.clients.get_mut(&id) else {
         return;
     };
-    match outside.write(id, client.unsent.as_slice()) {
+    match outside.write(id, first_piece(client)) {
         Output::Taken(taken) => {
-            client.unsent.drop_front(taken);
-            client.until = service.moment.wrapping_add(MAX_UNSENT);
+            take_off(client, service.alloc, service.moment, taken);
             service.turn = Turn::Busy(id, count + 1);
         }
         Output::Nothing => {
@@ -755,6 +799,41 @@ fn send_once<O: Sockets + Clock, M: Machine<O>>(
             service.turn = Turn::Leaving(id, kind);
         }
     }
+}
+
+/// What is sent next of what waits.
+fn first_piece(client: &Client) -> &[u8]
+    ensures { result.now ≡ next_piece client.now.unsent client.now.behind }
+{
+    if client.unsent.is_empty() {
+        return client.behind.as_slice();
+    }
+    client.unsent.as_slice()
+}
+
+/// So many octets of that were sent.
+#[tactic(auto, using(crate::proofs::SendLemmas::taken_front))]
+fn take_off(client: &mut Client, alloc: Global, now: u64, count: usize)
+    requires { count ≤ length (next_piece client.old.unsent client.old.behind) }
+    ensures { Taken now (take count (next_piece client.old.unsent client.old.behind)) client.old client.new }
+{
+    bring_up(client, alloc);
+    client.unsent.drop_front(count);
+    client.until = now.wrapping_add(MAX_UNSENT);
+}
+
+/// Where nothing waits before it, what waits behind is next.
+fn bring_up(client: &mut Client, alloc: Global)
+    ensures first { client.new.unsent ≡ next_piece client.old.unsent client.old.behind }
+    ensures waits { waits client.new ≡ waits client.old }
+    ensures until { client.new.until ≡ client.old.until }
+    ensures stays { Stays client.old client.new }
+{
+    if !client.unsent.is_empty() {
+        return;
+    }
+    let behind = mem::replace(&mut client.behind, Octets::new(alloc));
+    client.unsent = Pending::from_octets(behind);
 }
 
 /// Reads, and has the machine hear it.
@@ -810,6 +889,7 @@ fn give<O: Sockets + Clock, M: Machine<O>>(
 /// What is said to it is to be sent, and its turn goes on.
 fn answer(service: &mut Service, id: u32, count: u32, said: Octets)
     requires some { IsSome (client_of service.old id) }
+    requires more { takes_more (client_of service.old id) ≡ true }
     requires few { count < 16 }
     ensures { Answered id count said service.old service.new }
 {
@@ -817,8 +897,22 @@ fn answer(service: &mut Service, id: u32, count: u32, said: Octets)
     let Some(client) = service.clients.get_mut(&id) else {
         return;
     };
-    client.unsent = Pending::from_octets(said);
-    client.until = service.moment.wrapping_add(MAX_UNSENT);
+    gather(client, service.moment, said);
+}
+
+/// What is said to it is to be sent, behind what waits.
+fn gather(client: &mut Client, now: u64, said: Octets)
+    requires { is_nothing client.old.behind ≡ true }
+    ensures { Gathers now said client.old client.new }
+{
+    if client.unsent.is_empty() {
+        client.unsent = Pending::from_octets(said);
+        client.until = now.wrapping_add(MAX_UNSENT);
+        return;
+    }
+    if client.unsent.extend_from_slice(said.as_slice()).is_err() {
+        client.behind = said;
+    }
 }
 
 /// Has the machine go on.

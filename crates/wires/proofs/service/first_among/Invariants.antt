@@ -5,8 +5,8 @@ use Rattle.wires.proofs.service.first_among.Given as goal
 
 abbrev pub invariant-loop-id : goal.invariant-loop-id
 invariant-loop-id g l =
-    find (λ id. goes_on (task g.M.Machine.rules l.machine l.service.moment id (client_of l.service id))) l.rest
-    ≡ find (λ id. goes_on (task g.M.Machine.rules l.machine l.service.moment id (client_of l.service id))) l.ids
+    find (λ id. goes_on (task g.M.Machine.rules l.machine l.service.moment 0 id (client_of l.service id))) l.rest
+    ≡ find (λ id. goes_on (task g.M.Machine.rules l.machine l.service.moment 0 id (client_of l.service id))) l.ids
 
 abbrev pub decreases-loop-id : goal.decreases-loop-id
 decreases-loop-id g l = length l.rest

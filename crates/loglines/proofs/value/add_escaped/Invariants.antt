@@ -1,0 +1,9 @@
+use Rattle.std.proofs.Common.{◌≡◌, ◌++◌, length}
+use Rattle.loglines.specs.Values.{escaped}
+use Rattle.loglines.proofs.value.add_escaped.Given as goal
+
+abbrev pub invariant-loop-octet : goal.invariant-loop-octet
+invariant-loop-octet l = l.line ++ escaped l.rest ≡ l.fn.line ++ escaped l.value
+
+abbrev pub decreases-loop-octet : goal.decreases-loop-octet
+decreases-loop-octet l = length l.rest

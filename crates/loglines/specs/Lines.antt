@@ -1,0 +1,43 @@
+-- A line: `sieved: WORD NAME=VALUE NAME=VALUE ..`, and LF.
+use Rattle.std.specs.Prelude.{◌≡◌, ℕ, Bool, true, ◌&&◌, List, [], ◌∷◌, ◌++◌, map, codes}
+use Rattle.std.specs.List.{list_all, AllPass}
+use Rattle.loglines.specs.Values.{is_between, is_octet, is_visible, spelled}
+
+-- a name, and its value
+pub record Pair : Type 0 where
+  pub name : List ℕ
+  pub value : List ℕ
+
+abbrev pub pair : List ℕ → List ℕ → Pair
+pair name value = record { name = name; value = value }
+
+abbrev pub pair_text : List ℕ → List ℕ → List ℕ
+pair_text name value = 32 ∷ (name ++ 61 ∷ spelled value)
+
+abbrev pub head_of : List ℕ → List ℕ
+head_of word = codes "sieved: " ++ word
+
+-- pairs that join one by one
+abbrev pub joined : List ℕ → List Pair → List ℕ
+joined front [] = front
+joined front (p ∷ pairs) = joined (front ++ pair_text p.name p.value) pairs
+
+abbrev pub line_of : List ℕ → List Pair → List ℕ
+line_of word pairs = joined (head_of word) pairs ++ 10 ∷ []
+
+abbrev pub names_of : List Pair → List (List ℕ)
+names_of [] = []
+names_of (p ∷ pairs) = p.name ∷ names_of pairs
+
+-- names are visible, and values of octets
+abbrev pub are_right : List Pair → Bool
+are_right [] = true
+are_right (p ∷ pairs) = list_all is_visible p.name && (list_all is_octet p.value && are_right pairs)
+
+-- seen, or a blank
+abbrev pub is_printed : ℕ → Bool
+is_printed octet = is_between 32 126 octet
+
+-- a text without LF or any other control octet, and LF
+abbrev pub IsOneLine : List ℕ → Type 0
+IsOneLine line = (text : List ℕ) × (line ≡ text ++ 10 ∷ []) × (list_all is_printed text ≡ true)

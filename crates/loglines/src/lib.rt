@@ -1,0 +1,8 @@
+//! Lines of a log that no value forges, and a tally of what happened.
+#![tactic(auto)]
+
+pub mod laws;
+pub mod line;
+pub mod tally;
+pub mod times;
+pub mod value;

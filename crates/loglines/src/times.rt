@@ -1,0 +1,70 @@
+//! How long events took.
+ghost use Rattle.std.specs.Prelude.{◌<◌};
+
+/// The longest time of each slot, in microseconds; the last has all that took longer, too.
+const BOUNDS: [u64; 32] = [
+    10, 20, 30, 50, 70, 100, 150, 200, 300, 500, 700, 1000, 1500, 2000, 3000, 5000, 7000, 10000,
+    15000, 20000, 30000, 50000, 70000, 100000, 150000, 200000, 300000, 500000, 1000000, 2000000,
+    5000000, 60000000,
+];
+
+/// How many events took how long: 32 counts, whatever comes.
+#[derive(Drop)]
+pub struct Times {
+    counts: [u32; 32],
+    /// How many events there were.
+    total: u32,
+}
+
+impl Times {
+    /// No event.
+    pub fn none() -> Times {
+        Times {
+            counts: [0; 32],
+            total: 0,
+        }
+    }
+
+    /// One event took so many microseconds.
+    pub fn note(&mut self, micros: u64) {
+        let slot = slot_of(micros);
+        self.counts[slot] = self.counts[slot].saturating_add(1);
+        self.total = self.total.saturating_add(1);
+    }
+
+    /// So many microseconds at most took so many of a hundred events: a bound of a slot, 0 where there were none.
+    pub fn within(&self, percent: u32) -> u64 {
+        if self.total == 0 {
+            return 0;
+        }
+        let wanted = (self.total as u64 * percent as u64).div_ceil(100);
+        BOUNDS[slot_at(&self.counts, wanted)]
+    }
+}
+
+/// The first slot whose bound isn't below; else the last.
+fn slot_of(micros: u64) -> usize
+    ensures { result < 32 }
+{
+    for slot in 0..31 {
+        if micros <= BOUNDS[slot] {
+            return slot;
+        }
+    }
+    31
+}
+
+/// The first slot up to which so many were counted; else the last.
+fn slot_at(counts: &[u32; 32], wanted: u64) -> usize
+    ensures { result < 32 }
+{
+    let mut left = wanted;
+    for slot in 0..31 {
+        let count = counts[slot] as u64;
+        if left <= count {
+            return slot;
+        }
+        left -= count;
+    }
+    31
+}
