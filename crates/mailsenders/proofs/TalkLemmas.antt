@@ -10,14 +10,7 @@ use Rattle.smtpclient.specs.declared.dialogue.Ending.{Ending}
 use Rattle.smtpclient.specs.declared.dialogue.Ending.TheVariants as ending
 use Rattle.smtpclient.specs.declared.dialogue.Turn.{Turn}
 use Rattle.smtpclient.specs.declared.dialogue.Turn.TheVariants.{Goes, Ends}
-use Rattle.mailsenders.specs.Talks.{Talk, Says, GoesOn, Steps, Treats, WritesFront, talk, wrote, stages_behind, IsLater}
-
--- a front of octets is written, and these are left
-pub record Writing (all : List ℕ) (before now : Talk) (rest : List ℕ) : Type 0 where
-  pub done : List ℕ
-  pub written : now.written ≡ before.written ++ done
-  pub answered : now.answered ≡ before.answered
-  pub whole : all ≡ done ++ rest
+use Rattle.mailsenders.specs.Talks.{Talk, Says, GoesOn, Steps, Treats, WritesFront, Writing, talk, wrote, stages_behind, IsLater}
 
 pub broken : (all : List ℕ) (before now after : Talk) (part sent rest : List ℕ) → Writing all before now sent → sent ≡ part ++ rest → WritesFront part now after → WritesFront all before after
 broken all before now after part sent rest writing same breaks = record {
@@ -40,6 +33,19 @@ part_more all before now part sent rest writing same = record {
   written = ap (λ t. t ++ part) writing.written ∙ append_assoc before.written writing.done part;
   answered = writing.answered;
   whole = writing.whole ∙ (ap (λ t. writing.done ++ t) same ∙ sym (append_assoc writing.done part rest));
+}
+
+-- a part was gathered, and a front of what was gathered was written
+pub part_gathered : (all : List ℕ) (before now after : Talk) (piece part gathered left rest : List ℕ) → Writing all before now (piece ++ left) → left ≡ part ++ rest → Writing (piece ++ part) now after gathered
+    → Writing all before after (gathered ++ rest)
+part_gathered all before now after piece part gathered left rest one same two = record {
+  done = one.done ++ two.done;
+  written = two.written ∙ (ap (λ t. t ++ two.done) one.written ∙ append_assoc before.written one.done two.done);
+  answered = two.answered ∙ one.answered;
+  whole =
+      one.whole
+      ∙ (ap (λ t. one.done ++ t) (ap (λ t. piece ++ t) same ∙ (sym (append_assoc piece part rest) ∙ (ap (λ t. t ++ rest) two.whole ∙ append_assoc two.done gathered rest)))
+      ∙ sym (append_assoc one.done two.done (gathered ++ rest)));
 }
 
 pub all_written : (all : List ℕ) (before now : Talk) (rest : List ℕ) → Writing all before now rest → rest ≡ [] → now ≡ wrote before all
@@ -167,6 +173,10 @@ treats offered may mail before after end addressed needs says =
 pub err_of : {A E P : Type 0} (r : Result A E) → is_err r ≡ true → OnErr r P → P
 err_of (Ok x) is on = absurd (cc is)
 err_of (Err e) is on = on
+
+pub err_map : {A E P Q : Type 0} (r : Result A E) → (P → Q) → OnErr r P → OnErr r Q
+err_map (Ok x) wider on = tt
+err_map (Err e) wider on = wider on
 
 pub ok_of : {A E P : Type 0} (r : Result A E) → is_err r ≡ false → OnOk r P → P
 ok_of (Ok x) is on = on

@@ -1,5 +1,6 @@
 -- What passes over a connection.
-use Rattle.std.proofs.Common.{◌≡◌, ℕ, List, [], ◌++◌, take, drop, refl, sym, ap, ◌∙◌, subst, append-nil, append_assoc}
+use Rattle.std.proofs.Common.{◌≡◌, ℕ, List, [], ◌++◌, Option, Some, take, drop, refl, sym, ap, ◌∙◌, subst, append-nil, append_assoc}
+use Rattle.std.specs.Prelude.{IfSome}
 use Rattle.std.proofs.lemmas.List.{take-append-drop}
 use Rattle.smtpclient.specs.Replies.{IsReply}
 use Rattle.mailsenders.specs.Talks.{Talk, wrote, heard, WritesFront}
@@ -62,6 +63,9 @@ came_more P Q unread now octets t comes joined passes = record {
   carries = passes.carries;
   answers = passes.answers;
 }
+
+pub count_at : (P : ℕ → Type 0) (found : Option ℕ) (count : ℕ) → found ≡ Some count → IfSome found P → P count
+count_at P found count is some = let Q : Option ℕ → Type 0 = λ o. IfSome o P in subst Q is some
 
 -- what isn't read is forgotten
 pub forgets : (P : List ℕ → List ℕ → Type 0) (unread : List ℕ) (t : Talk) → Passes P unread t → Passes P [] t

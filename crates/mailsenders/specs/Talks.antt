@@ -34,6 +34,13 @@ pub record WritesFront (octets : List ℕ) (before after : Talk) : Type 0 where
   pub written : after.written ≡ before.written ++ front
   pub answered : after.answered ≡ before.answered
 
+-- a front of octets is written, and these are left
+pub record Writing (all : List ℕ) (before now : Talk) (rest : List ℕ) : Type 0 where
+  pub done : List ℕ
+  pub written : now.written ≡ before.written ++ done
+  pub answered : now.answered ≡ before.answered
+  pub whole : all ≡ done ++ rest
+
 -- a letter's lines are its own
 pub record IsSpelled (letter : Spelled) : Type 0 where
   pub mail : letter.mail.now ≡ mail_line letter.offered (mail_of letter.letter)

@@ -13,6 +13,9 @@ use std::alloc::Global;
 /// The most octets of a reply.
 const MAX_REPLY: usize = 65_536;
 
+/// A reply that comes at once comes in so many pieces at most.
+const MAX_PIECES: u32 = 4;
+
 /// A client of SMTP (RFC 5321) over a connection.
 #[derive(Drop)]
 pub struct Client<P: Peer + Drop> {
@@ -80,6 +83,25 @@ impl<P: Peer + Drop> Client<P> {
             return Err(Lost);
         }
         Ok(())
+    }
+
+    // More octets come at once. Answers whether some did.
+    fn listen_at_once(&mut self) -> bool
+        ensures { (t : Talk) → s.Passes (P.passed self.old.peer) self.old.unread t → s.Passes (P.passed self.new.peer) self.new.unread t }
+    {
+        let mut piece = [0; 4096];
+        match self.peer.receive_at_once(&mut piece) {
+            Ok(Some(count)) => {
+                let (octets, _) = piece.split_at(count);
+                if self.unread.extend_from_slice(octets).is_err() {
+                    self.unread = Pending::new(self.alloc);
+                    return false;
+                }
+                count > 0
+            }
+            Ok(None) => false,
+            Err(_) => false,
+        }
     }
 
     // Waits until a reply stands first in what isn't read.
@@ -192,6 +214,30 @@ impl<P: Peer + Drop> Server for Client<P> {
         }
     }
 
+    fn offer(&mut self, octets: &[u8]) -> Result<usize, Lost> {
+        match self.peer.offer(octets) {
+            Ok(count) => Ok(count),
+            Err(lost) => {
+                self.leave();
+                Err(lost)
+            }
+        }
+    }
+
+    fn has_reply(&mut self) -> bool {
+        for _ in 0..MAX_PIECES {
+            match first_reply(self.unread.as_slice()) {
+                Heard::Need => {
+                    if !self.listen_at_once() {
+                        return false;
+                    }
+                }
+                _ => return true,
+            }
+        }
+        false
+    }
+
     fn hear(&mut self, stage: Stage) -> Result<u16, Lost> {
         match self.next_reply(patience_at(stage)) {
             Ok(reply) => {
@@ -206,16 +252,21 @@ impl<P: Peer + Drop> Server for Client<P> {
     }
 
     fn reset(&mut self) -> Result<(), Lost> {
-        if self.say(RSET).is_err() {
-            self.leave();
-            return Err(Lost);
-        }
-        match self.agrees(Patience::Command) {
-            Ok(true) => Ok(()),
-            Ok(false) => Err(Lost),
+        match self.say(RSET) {
+            Ok(()) => Ok(()),
             Err(lost) => {
                 self.leave();
                 Err(lost)
+            }
+        }
+    }
+
+    fn is_reset(&mut self) -> bool {
+        match self.agrees(Patience::Command) {
+            Ok(agrees) => agrees,
+            Err(_) => {
+                self.leave();
+                false
             }
         }
     }

@@ -13,9 +13,9 @@ pub trait Journal {
     /// Tells what became of the user's row with the number, and notes when it is tried again.
     fn note(&mut self, user: &[u8], id: u64, ending: Ending) -> Result<(), Unwritten>;
 
-    /// The seconds of a clock that never goes back.
+    /// The milliseconds of a clock that never goes back.
     fn uptime(&mut self) -> u64;
 
-    /// Waits a second.
-    fn pause(&mut self);
+    /// Waits for so many milliseconds.
+    fn pause(&mut self, milliseconds: u64);
 }

@@ -9,11 +9,13 @@ pub mod queue;
 pub mod row;
 pub mod run;
 pub mod server;
+mod text;
+mod way;
 
 pub use client::Client;
 pub use dialogue::send_letter;
 pub use journal::{Journal, Unwritten};
-pub use peer::{Patience, Peer};
+pub use peer::{MOMENT, Patience, Peer};
 pub use queue::{Queue, Row, Unavailable};
 pub use row::{Stop, send_row};
 pub use run::{Tally, send_queue};

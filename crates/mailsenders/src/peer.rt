@@ -1,5 +1,5 @@
 //! What passes over a connection.
-ghost use Rattle.std.specs.Prelude.{◌≡◌, ◌≤◌, ◌++◌, ℕ, List, length, take, OnOk, OnErr, IfOk};
+ghost use Rattle.std.specs.Prelude.{◌≡◌, ◌≤◌, ◌++◌, ℕ, List, length, take, OnOk, OnErr, IfOk, IfSome, IfNone};
 
 use crate::server::Lost;
 
@@ -31,6 +31,9 @@ impl Patience {
     }
 }
 
+/// So many milliseconds are a moment: what comes or goes later doesn't do so at once.
+pub const MOMENT: u64 = 20;
+
 /// Connections with one server, one after another.
 pub trait Peer {
     /// Whether these octets were sent over all connections so far, and those came. One over sockets doesn't tell, and says it of nothing.
@@ -46,10 +49,24 @@ pub trait Peer {
         ensures err { OnErr result ((sent came : List ℕ) → passed self.old sent came
             → (front rest : List ℕ) × (octets.now ≡ front ++ rest) × passed self.new (sent ++ front) came) };
 
+    /// Sends as many of these octets as the connection takes at once. Answers how many.
+    fn offer(&mut self, octets: &[u8]) -> Result<usize, Lost>
+        ensures within { IfOk result (λ count. count ≤ length octets.now) }
+        ensures ok { IfOk result (λ count. (sent came : List ℕ) → passed self.old sent came → passed self.new (sent ++ take count octets.now) came) }
+        ensures err { OnErr result ((sent came : List ℕ) → passed self.old sent came
+            → (front rest : List ℕ) × (octets.now ≡ front ++ rest) × passed self.new (sent ++ front) came) };
+
     /// Waits for octets, and takes as many as there are and the piece has room for; none at the end of the connection.
     fn receive(&mut self, piece: &mut [u8], patience: Patience) -> Result<usize, Lost>
         ensures within { IfOk result (λ count. count ≤ length piece.new) }
         ensures ok { IfOk result (λ count. (sent came : List ℕ) → passed self.old sent came → passed self.new sent (came ++ take count piece.new)) }
+        ensures err { OnErr result ((sent came : List ℕ) → passed self.old sent came → passed self.new sent came) };
+
+    /// Takes octets as [`receive`](Peer::receive) does, where some come at once; none where none do.
+    fn receive_at_once(&mut self, piece: &mut [u8]) -> Result<Option<usize>, Lost>
+        ensures within { IfOk result (λ found. IfSome found (λ count. count ≤ length piece.new)) }
+        ensures some { IfOk result (λ found. IfSome found (λ count. (sent came : List ℕ) → passed self.old sent came → passed self.new sent (came ++ take count piece.new))) }
+        ensures none { IfOk result (λ found. IfNone found ((sent came : List ℕ) → passed self.old sent came → passed self.new sent came)) }
         ensures err { OnErr result ((sent came : List ℕ) → passed self.old sent came → passed self.new sent came) };
 
     /// Ends the connection, where there is one.

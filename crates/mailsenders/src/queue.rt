@@ -32,14 +32,14 @@ pub trait Queue {
     /// Whether these are its rows, with those that are due. One over a store that doesn't tell its tables says it of none.
     ghost shows: { Self → Rows → Type 0 };
 
-    /// The first row after this place that is due, in the order of the octets of the users and of the numbers. The store is taken for it, and
-    /// given back.
+    /// The first row after this place that is due, in the order of the octets of the users and of the numbers. The store is taken for it,
+    /// where it isn't had, and had then.
     fn next(&mut self, user: &[u8], id: u64) -> Result<Option<Row>, Unavailable>
         ensures there { IfOk result (λ found. IfSome found (λ row. (rows : Rows) → shows self.old rows → IsThere row rows)) }
         ensures same { (rows : Rows) → shows self.old rows → shows self.new rows };
 
-    /// Takes the user's row with the number out. The store is waited for without an end. One that isn't there any more counts as taken
-    /// out.
+    /// Takes the user's row with the number out, and what is taken out stays so whatever stops later. The store is taken for it, where it
+    /// isn't had, waited for without an end, and had then. A row that isn't there any more counts as taken out.
     ///
     /// # Errors
     ///
@@ -47,4 +47,13 @@ pub trait Queue {
     fn take_out(&mut self, user: &[u8], id: u64) -> Result<(), Unavailable>
         ensures taken { OnOk result ((rows : Rows) → shows self.old rows → (after : Rows) × TakesOut user.now id rows after × shows self.new after) }
         ensures kept { OnErr result ((rows : Rows) → shows self.old rows → shows self.new rows) };
+
+    /// Gives the store back where it is had and somebody waits for it, or it was had for long, at a moment in milliseconds. Answers
+    /// whether it was had for long.
+    fn give_way(&mut self, moment: u64) -> bool
+        ensures same { (rows : Rows) → shows self.old rows → shows self.new rows };
+
+    /// Gives the store back, where it is had.
+    fn give_back(&mut self)
+        ensures same { (rows : Rows) → shows self.old rows → shows self.new rows };
 }

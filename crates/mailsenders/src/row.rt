@@ -11,8 +11,11 @@ use crate::server::Server;
 use smtpclient::{Ending, Extensions, Letter, without_path};
 use std::alloc::Global;
 
-/// How many seconds a row that was sent is tried to be taken out, from the first refusal on.
-const PATIENCE: u64 = 600;
+/// How many milliseconds a row that was sent is tried to be taken out, from the first refusal on.
+const PATIENCE: u64 = 600_000;
+
+/// So many milliseconds later it is tried again.
+const PAUSE: u64 = 1_000;
 
 /// Why a run ends early.
 #[derive(Clone, Copy, Debug, PartialEq, Eq)]
@@ -46,7 +49,15 @@ pub fn send_row<Q: Queue, S: Server, J: Journal>(
         × Q.shows queue.new after.rows × S.said server.new after.talk × s.EndsRow offered may_eight_bit row.now before after result }
 {
     let letter = letter_of(row);
-    let Ok(ending) = send_letter(alloc, server, offered, may_eight_bit, letter) else {
+    let Ok(ending) = send_letter(
+        alloc,
+        queue,
+        server,
+        journal,
+        offered,
+        may_eight_bit,
+        letter,
+    ) else {
         return Err(Stop::Memory);
     };
     match ending {
@@ -88,7 +99,7 @@ fn take_out<Q: Queue, J: Journal>(
         if now.saturating_sub(first) >= PATIENCE {
             break;
         }
-        journal.pause();
+        journal.pause(PAUSE);
     }
     Err(Unavailable::Store)
 }

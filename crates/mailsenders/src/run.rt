@@ -8,6 +8,7 @@ use crate::journal::Journal;
 use crate::queue::{Queue, Row, Unavailable};
 use crate::row::{Stop, letter_of, send_row};
 use crate::server::Server;
+use crate::way::{await_reply, make_way};
 use octets::Octets;
 use smtpclient::{Ending, Extensions};
 use std::alloc::Global;
@@ -53,6 +54,9 @@ struct Link {
 /// Hands the rows of all queues that are due to a server, in the order of the octets of the users and of the numbers, at most so many of
 /// them. It connects once there is one, and again where the connection was lost.
 ///
+/// The store of the queues is had from one row to the next while the server answers at once and nobody waits for it: it is given back
+/// before each wait for the connection that isn't over at once, where somebody waits for it, and where it was had for long.
+///
 /// Time is linear in the rows and in their messages' octets; one row is in memory.
 ///
 /// # Errors
@@ -86,6 +90,7 @@ pub fn send_queue<Q: Queue, S: Server, J: Journal>(
         let Some(row) = read_next(queue, &user, id)? else {
             break;
         };
+        make_way(queue, journal);
         match visit(alloc, queue, server, journal, &mut link, &row) {
             Ok(ending) => tally = tally.with(ending),
             Err(stop) => return Err(stop),
@@ -93,6 +98,7 @@ pub fn send_queue<Q: Queue, S: Server, J: Journal>(
         id = row.id;
         user = row.user;
     }
+    queue.give_back();
     server.close();
     Ok(tally)
 }
@@ -140,13 +146,13 @@ fn hand_over<Q: Queue, S: Server, J: Journal>(
     ensures reaches { (before : s.State) → Q.shows queue.old before.rows → S.said server.old before.talk → IsThere row.now before.rows
         → s.Reaches link.old.may_eight_bit (Q.shows queue.new) (S.said server.new) before (is_ok result) }
 {
-    let Some(offered) = offered_for(server, link, row) else {
+    let Some(offered) = offered_for(queue, server, link, row) else {
         return Err(Stop::Unreachable);
     };
     let may_eight_bit = link.may_eight_bit;
     match send_row(alloc, queue, server, journal, offered, may_eight_bit, row) {
         Ok(ending) => {
-            settle(server, link, ending);
+            settle(queue, server, journal, link, ending);
             Ok(ending)
         }
         Err(stop) => Err(stop),
@@ -173,8 +179,14 @@ fn noted<J: Journal>(
 }
 
 // What the server offers, over the connection that there is or a new one; none where it can't be had. A row that is never sent needs none.
-fn offered_for<S: Server>(server: &mut S, link: &mut Link, row: &Row) -> Option<Extensions>
+fn offered_for<Q: Queue, S: Server>(
+    queue: &mut Q,
+    server: &mut S,
+    link: &mut Link,
+    row: &Row,
+) -> Option<Extensions>
     ensures may { link.new.may_eight_bit ≡ link.old.may_eight_bit }
+    ensures rows { (rows : Rows) → Q.shows queue.old rows → Q.shows queue.new rows }
     ensures kept { (t : Talk) → S.said server.old t → S.said server.new t }
 {
     if let Some(offered) = link.offered {
@@ -183,6 +195,7 @@ fn offered_for<S: Server>(server: &mut S, link: &mut Link, row: &Row) -> Option<
     if !letter_of(row).is_addressed() {
         return Some(Extensions::none());
     }
+    queue.give_back();
     let Ok(offered) = server.open() else {
         return None;
     };
@@ -191,17 +204,41 @@ fn offered_for<S: Server>(server: &mut S, link: &mut Link, row: &Row) -> Option<
 }
 
 // The connection behind a letter: a letter that was refused is forgotten by RSET, and a connection that was lost is ended.
-fn settle<S: Server>(server: &mut S, link: &mut Link, ending: Ending)
+fn settle<Q: Queue, S: Server, J: Journal>(
+    queue: &mut Q,
+    server: &mut S,
+    journal: &mut J,
+    link: &mut Link,
+    ending: Ending,
+)
     ensures may { link.new.may_eight_bit ≡ link.old.may_eight_bit }
+    ensures rows { (rows : Rows) → Q.shows queue.old rows → Q.shows queue.new rows }
     ensures kept { (t : Talk) → S.said server.old t → S.said server.new t }
 {
     let goes_on = match ending {
         Ending::Sent | Ending::Undeclared | Ending::Unaddressed => true,
-        Ending::Refused(_) | Ending::Delayed(_) => server.reset().is_ok(),
+        Ending::Refused(_) | Ending::Delayed(_) => begin_anew(queue, server, journal),
         Ending::OutOfPlace(_) | Ending::Lost => false,
     };
     if !goes_on {
+        queue.give_back();
         server.close();
         link.offered = None;
     }
+}
+
+// The letter that was refused is forgotten. Answers whether the server says yes to that.
+fn begin_anew<Q: Queue, S: Server, J: Journal>(
+    queue: &mut Q,
+    server: &mut S,
+    journal: &mut J,
+) -> bool
+    ensures rows { (rows : Rows) → Q.shows queue.old rows → Q.shows queue.new rows }
+    ensures kept { (t : Talk) → S.said server.old t → S.said server.new t }
+{
+    if server.reset().is_err() {
+        return false;
+    }
+    await_reply(queue, server, journal);
+    server.is_reset()
 }

@@ -1,5 +1,5 @@
 //! What a connection with a server promises.
-ghost use Rattle.std.specs.Prelude.{OnOk, OnErr, IfOk};
+ghost use Rattle.std.specs.Prelude.{◌≤◌, length, take, OnOk, OnErr, IfOk};
 ghost use Rattle.mailsenders.specs.Talks.{Talk};
 
 use smtpclient::{Extensions, Stage};
@@ -29,6 +29,21 @@ pub trait Server {
         ensures ok { OnOk result ((t : Talk) → said self.old t → said self.new (wrote t octets.now)) }
         ensures err { OnErr result ((t : Talk) → said self.old t → (u : Talk) × said self.new u × WritesFront octets.now t u) };
 
+    /// Writes as many octets of a letter as go at once. Answers how many.
+    ///
+    /// # Errors
+    ///
+    /// The connection is lost, and a front of them was written.
+    fn offer(&mut self, octets: &[u8]) -> Result<usize, Lost>
+        ensures within { IfOk result (λ count. count ≤ length octets.now) }
+        ensures ok { IfOk result (λ count. (t : Talk) → said self.old t → said self.new (wrote t (take count octets.now))) }
+        ensures err { OnErr result ((t : Talk) → said self.old t → (u : Talk) × said self.new u × WritesFront octets.now t u) };
+
+    /// Whether the reply that comes next is there as a whole, or comes at once: then [`hear`](Server::hear) and
+    /// [`is_reset`](Server::is_reset) don't wait.
+    fn has_reply(&mut self) -> bool
+        ensures kept { (t : Talk) → said self.old t → said self.new t };
+
     /// Waits for the reply to what was written at this stage. Answers its code.
     ///
     /// # Errors
@@ -42,8 +57,12 @@ pub trait Server {
     ///
     /// # Errors
     ///
-    /// The connection is lost, or the server says no.
+    /// The connection is lost.
     fn reset(&mut self) -> Result<(), Lost>
+        ensures kept { (t : Talk) → said self.old t → said self.new t };
+
+    /// Waits for the reply to RSET. Answers whether the server says yes; not where the connection is lost.
+    fn is_reset(&mut self) -> bool
         ensures kept { (t : Talk) → said self.old t → said self.new t };
 
     /// Says QUIT where the connection stands, and ends it.

@@ -1,4 +1,4 @@
 mod Examples
 mod QueueLemmas
 mod StoreLemmas
-mod TableLemmas
+mod ShownLemmas

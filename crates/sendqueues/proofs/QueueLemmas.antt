@@ -1,30 +1,26 @@
 -- The rows of accounts, and one that leaves.
 use Rattle.std.proofs.Common.{◌≡◌, ◌==◌, ℕ, not, Bool, true, false, cond, List, [], ◌∷◌, filter, Option, Some, None, option_map, Result, Ok, Err, IfOk, IfSome, IsTrue, refl, sym, ◌∙◌, ap, subst, eqb-true}
 use Rattle.std.specs.FinMap.{get}
+use Rattle.sqlite_trees.specs.declared.store.Store.{Ghosts}
 use Rattle.sqlite.specs.Effect.{Database}
+use Rattle.sqlite.specs.Held.{Held}
 use Rattle.sqlite_typed.proofs.TestLemmas.{bytes_eq_refl}
 use Rattle.mailstore.specs.Account.{Account, Accounts, is_closed, open_one, open_of, row_with, with_user, takes_out}
-use Rattle.mailstore.specs.Shows.{Offers}
 use Rattle.mailstore.specs.declared.next.Queued.{Queued}
 use Rattle.mailstore.specs.declared.queue.Outgoing.{Outgoing}
-use Rattle.mailstore.specs.declared.refusal.Refusal.{Refusal}
 use Rattle.mailengine.specs.AccountEvents.{TakesRow, TakesIn}
 use Rattle.mailengine.specs.OwnActs.{is_user}
 use Rattle.mailengine.proofs.AloneLemmas.{same_name, changed_own, changed_other}
 use Rattle.mailengine.proofs.TakingLemmas.{row_numbered}
-use Rattle.keepers.specs.declared.keeper.Unavailable.{Unavailable}
 use Rattle.mailsenders.specs.Rows.{Rows, IsThere, TakesOut}
 use Rattle.mailsenders.specs.declared.queue.Row.{Row}
-use Rattle.sendqueues.specs.Holdings as holding
-use Rattle.sendqueues.specs.Holdings.{TurnsTables, Finds}
+use Rattle.keepers.specs.declared.keeper.Unavailable.{Unavailable}
 use Rattle.sendqueues.specs.Posts.{IsGone, IsFound}
-use Rattle.sendqueues.specs.Queues.{content, row_in, rows_in, IsFoundIn, IsAhead, ShowsRows, IsToldOf}
+use Rattle.sendqueues.specs.Queues.{content, row_in, rows_in, IsFoundIn, ShowsBy, ShowsRows, Finds, Removes, TurnsShown, StillShown, IsToldOf}
 use Rattle.sendqueues.specs.declared.post.Post.{Post}
-use Rattle.sendqueues.specs.declared.queue.Ahead.{Ahead}
 use Rattle.sendwaits.specs.Waits as wait
 use Rattle.sendwaits.specs.Waits.{place}
 use Rattle.sendwaits.specs.declared.waits.Waits.{Waits}
-use Rattle.sendqueues.proofs.TableLemmas.{offered_then}
 
 -- ---- a list without a row
 
@@ -133,82 +129,45 @@ found_in : (waits : Waits) (now : ℕ) (at : Queued) (accounts : Accounts) (foun
 found_in waits now at accounts None none = tt
 found_in waits now at accounts (Some post) next = (next.row, next.due)
 
-module _ (waits : Waits) (now : ℕ) (tells : Bool) (held : Database) (ahead : Option Ahead) where
-  abbrev Shows : Database → Option Ahead → Rows → Type 0
-  Shows db next rows = ShowsRows waits now tells db next rows
+module _ {S : Type 0} (g : Ghosts S) (tells : Bool) (waits : Waits) (now : ℕ) {K : Type 0} (holds : K → Database) (store : Option (Held S)) (keeper : K) (later : Option (Held S)) (after : K) where
+  abbrev Had : Rows → Type 0
+  Had rows = ShowsRows g tells waits now (holds keeper) store rows
 
-  -- a row that was found ahead
-  pub ahead_there : (found : Option Post) → ((accounts : Accounts) → IsAhead waits now accounts ahead → IsFoundIn waits now accounts found) → (told : Option Row) → IsToldOf found told
-      → IfSome told (λ row. (rows : Rows) → Shows held ahead rows → IsThere row rows)
-  ahead_there found was None say = tt
-  ahead_there found was (Some row) say = λ rows shows. shows.are row.user row.id ∙ say waits now shows.accounts (was shows.accounts shows.found)
+  abbrev Has : Rows → Type 0
+  Has rows = ShowsRows g tells waits now (holds after) later rows
 
-  -- the tables are the same, and nothing is ahead
-  pub shows_plain : (new : Database) → new ≡ held → (next : Option Ahead) → next ≡ None → (rows : Rows) → Shows held ahead rows → Shows new next rows
-  shows_plain new same next is rows shows = record {
-    told = shows.told;
-    accounts = shows.accounts;
-    offers = subst (λ db. Offers db shows.accounts) (sym same) shows.offers;
-    are = shows.are;
-    found = subst (IsAhead waits now shows.accounts) (sym is) tt;
-  }
+  -- no account changed
+  pub rows_still : StillShown g tells holds store keeper later after → (rows : Rows) → Had rows → Has rows
+  rows_still still rows shows = record { told = shows.told; accounts = shows.accounts; shown = still shows.told shows.accounts shows.shown; are = shows.are }
 
-  module _ (at : Queued) (new : Database) where
-    -- a row was looked for
-    module _ (r : Result (Option Post) Unavailable) (finds : IsTrue tells → TurnsTables (Finds waits now at r) held new) where
-      pub found_there : (found : Option Post) → r ≡ Ok found → (told : Option Row) → IsToldOf found told → IfSome told (λ row. (rows : Rows) → Shows held ahead rows → IsThere row rows)
-      found_there found is None say = tt
-      found_there found is (Some row) say = λ rows shows.
-          let turned = (finds shows.told).accounts shows.accounts shows.offers in
-          let there : IsFound waits now at shows.accounts found = subst (λ o. IfOk o (IsFound waits now at shows.accounts)) is turned.1.1 in
-          shows.are row.user row.id ∙ say waits now shows.accounts (found_in waits now at shows.accounts found there)
+  -- a row was looked for
+  module _ (at : Queued) (r : Result (Option Post) Unavailable) (finds : TurnsShown g tells holds (Finds waits now at r) store keeper later after) where
+    pub rows_found : StillShown g tells holds store keeper later after
+    rows_found told accounts shown = let h = finds told accounts shown in subst (ShowsBy g (holds after) later) h.1.0 h.2
 
-      pub shows_found : (next : Option Ahead) → next ≡ None → (rows : Rows) → Shows held ahead rows → Shows new next rows
-      shows_found next is rows shows =
-          let turned = (finds shows.told).accounts shows.accounts shows.offers in
-          record {
-            told = shows.told;
-            accounts = shows.accounts;
-            offers = subst (Offers new) turned.1.0 (offered_then held new shows.accounts turned.0 shows.offers turned.2);
-            are = shows.are;
-            found = subst (IsAhead waits now shows.accounts) (sym is) tt;
-          }
+    pub found_there : (found : Option Post) → r ≡ Ok found → (row : Option Row) → IsToldOf found row → IfSome row (λ row. (rows : Rows) → Had rows → IsThere row rows)
+    found_there found is None say = tt
+    found_there found is (Some row) say = λ rows shows.
+        let h = finds shows.told shows.accounts shows.shown in
+        let there : IsFound waits now at shows.accounts found = subst (λ o. IfOk o (IsFound waits now at shows.accounts)) is h.1.1 in
+        shows.are row.user row.id ∙ say waits now shows.accounts (found_in waits now at shows.accounts found there)
 
-    -- a row was taken out, or not
-    module _ (r : Result (Result (Option Post) Refusal) Unavailable) (takes : IsTrue tells → TurnsTables (holding.TakesOut waits now at r) held new) where
-      pub shows_taken : (user : List ℕ) (id : ℕ) → at.user ≡ user → at.id ≡ id → (found : Result (Option Post) Refusal) → r ≡ Ok found → (next : Option Ahead)
-          → ((accounts : Accounts) → IfOk found (IsFoundIn waits now accounts) → IsAhead waits now accounts next) → (rows : Rows) → Shows held ahead rows
-          → (after : Rows) × TakesOut user id rows after × Shows new next after
-      shows_taken user id user_is id_is found is next then rows shows =
-          let turned = (takes shows.told).accounts shows.accounts shows.offers in
-          let took = subst (λ o. holding.TakesOut waits now at o shows.accounts turned.0) is turned.1 in
-          let gone = gone_rows waits now shows.accounts at turned.0 took.0 in (
-            rows_in waits now turned.0,
-            subst (λ u. TakesOut u id rows (rows_in waits now turned.0)) user_is (subst (λ n. TakesOut at.user n rows (rows_in waits now turned.0)) id_is (record {
-              gone = gone.gone;
-              others = λ other number differs. gone.others other number differs ∙ sym (shows.are other number);
-            })),
-            record {
-              told = shows.told;
-              accounts = turned.0;
-              offers = offered_then held new shows.accounts turned.0 shows.offers turned.2;
-              are = λ u n. refl;
-              found = then turned.0 (found_ok found turned.0 took.1);
-            },
-          )
-        where
-          found_ok : (q : Result (Option Post) Refusal) (all : Accounts) → IfOk q (IsFound waits now at all) → IfOk q (IsFoundIn waits now all)
-          found_ok (Ok o) all there = found_in waits now at all o there
-          found_ok (Err e) all there = tt
+  -- a row was taken out, or not
+  module _ (at : Queued) (r : Result (Unit {0}) Unavailable) (takes : TurnsShown g tells holds (Removes at r) store keeper later after) where
+    pub rows_kept : (denial : Unavailable) → r ≡ Err denial → StillShown g tells holds store keeper later after
+    rows_kept denial is told accounts shown =
+        let h = takes told accounts shown in
+        let same : h.0 ≡ accounts = subst (λ o. Removes at o accounts h.0) is h.1 in
+        subst (ShowsBy g (holds after) later) same h.2
 
-      pub shows_kept : (denial : Unavailable) → r ≡ Err denial → (next : Option Ahead) → next ≡ None → (rows : Rows) → Shows held ahead rows → Shows new next rows
-      shows_kept denial is next next_is rows shows =
-          let turned = (takes shows.told).accounts shows.accounts shows.offers in
-          let same : turned.0 ≡ shows.accounts = subst (λ o. holding.TakesOut waits now at o shows.accounts turned.0) is turned.1 in
-          record {
-            told = shows.told;
-            accounts = shows.accounts;
-            offers = subst (Offers new) same (offered_then held new shows.accounts turned.0 shows.offers turned.2);
-            are = shows.are;
-            found = subst (IsAhead waits now shows.accounts) (sym next_is) tt;
-          }
+    pub rows_taken : (user : List ℕ) (id : ℕ) → at.user ≡ user → at.id ≡ id → (done : Unit {0}) → r ≡ Ok done → (rows : Rows) → Had rows → (next : Rows) × TakesOut user id rows next × Has next
+    rows_taken user id user_is id_is done is rows shows =
+        let h = takes shows.told shows.accounts shows.shown in
+        let gone = gone_rows waits now shows.accounts at h.0 (subst (λ o. Removes at o shows.accounts h.0) is h.1) in (
+          rows_in waits now h.0,
+          subst (λ u. TakesOut u id rows (rows_in waits now h.0)) user_is (subst (λ n. TakesOut at.user n rows (rows_in waits now h.0)) id_is (record {
+            gone = gone.gone;
+            others = λ other number differs. gone.others other number differs ∙ sym (shows.are other number);
+          })),
+          record { told = shows.told; accounts = h.0; shown = h.2; are = λ u n. refl },
+        )

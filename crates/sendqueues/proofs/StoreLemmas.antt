@@ -38,7 +38,7 @@ use Rattle.mailengine.specs.declared.answer.Answer.TheVariants.{Taken, Refused}
 use Rattle.mailengine.specs.AccountEvents.{TakesIn, Taking}
 use Rattle.mailengine.specs.AccountEvents as engine
 use Rattle.mailengine.specs.Hosts.{TurnsBy, ActsTaking, answer_by}
-use Rattle.sendqueues.specs.Posts.{IsAfter, HasRow, IsRowAt, IsNoneDue, IsNext, IsFound, IsPast, IsStep, IsGone, Works, Reads, Takes, TakesRow, is_due}
+use Rattle.sendqueues.specs.Posts.{IsAfter, HasRow, IsRowAt, IsNoneDue, IsNext, IsFound, IsPast, IsStep, IsGone, Works, Reads, TakesRow, is_due}
 use Rattle.sendqueues.specs.declared.post.Post.{Post}
 use Rattle.sendqueues.specs.declared.post.Step.{Step}
 use Rattle.sendqueues.specs.declared.post.Step.TheVariants.{End, Past, Due}
@@ -313,7 +313,7 @@ module _ (waits : Waits) (now : ℕ) (start place : Queued) where
 pub steps_past : (waits : Waits) (now : ℕ) (start place : Queued) (e : Refusal) (a b : State) → Works (StepsTo waits now start place) a b → Works (Reads (IsFound waits now start) (Err e)) a b
 steps_past waits now start place e a b steps = works_as a b (StepsTo waits now start place) (Reads (IsFound waits now start) (Err e)) (λ accounts later h. (h.0, tt)) steps
 
--- ---- a row is taken out, and the next one looked for
+-- ---- a row is taken out
 
 refused_row : (accounts later : Accounts) (user : List ℕ) (o : Option Outgoing) (e : Refusal) → engine.TakesRow accounts user o (Refused e) later → later ≡ accounts
 refused_row accounts later user None e takes = takes.stays
@@ -368,20 +368,3 @@ no_row_known (inr never) = let h = never in cc
 pub no_user_known : IsTransient NoUser → ⊥
 no_user_known (inl never) = let h = never in cc
 no_user_known (inr never) = let h = never in cc
-
--- and then the next one was looked for
-module _ (waits : Waits) (now : ℕ) (place : Queued) where
-  -- no memory for it
-  pub take_not : (a : State) (e : Refusal) (q : Result (Result (Option Post) Refusal) Refusal) → q ≡ Err e → Works (Takes waits now place q) a a
-  take_not a e q is = works_not a (Takes waits now place q) (λ accounts. subst (λ o. Takes waits now place o accounts accounts) (sym is) refl)
-
-  module _ (a b : State) (r : Result (Unit {0}) Refusal) (taken : Works (TakesRow place r) a b) where
-    pub take_unmade : (e : Refusal) (q : Result (Result (Option Post) Refusal) Refusal) → r ≡ Err e → q ≡ Err e → Works (Takes waits now place q) a b
-    take_unmade e q is told = works_as a b (TakesRow place r) (Takes waits now place q)
-        (λ accounts later h. subst (λ o. Takes waits now place o accounts later) (sym told) (subst (λ o. TakesRow place o accounts later) is h)) taken
-
-    pub take_made : (done : Unit {0}) → r ≡ Ok done → (c : State) (start : Queued) → start ≡ place → (q : Result (Option Post) Refusal) → Works (Reads (IsFound waits now start) q) b c → Works (Takes waits now place (Ok q)) a c
-    take_made done is c start from q found = works_then a b c (TakesRow place r) (Reads (IsFound waits now place) q) (Takes waits now place (Ok q))
-        (λ accounts mid later one two.
-        (subst (IsGone place accounts) (sym two.0) (subst (λ o. TakesRow place o accounts mid) is one), subst (λ all. IfOk q (IsFound waits now place all)) (sym two.0) two.1))
-        taken (subst (λ p. Works (Reads (IsFound waits now p) q) b c) from found)

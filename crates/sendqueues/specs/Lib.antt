@@ -1,3 +1,2 @@
-pub mod Holdings
 pub mod Posts
 pub mod Queues

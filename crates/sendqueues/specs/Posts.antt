@@ -83,8 +83,3 @@ IsGone place accounts later = (answer : Answer) × Taking accounts place.user pl
 abbrev pub TakesRow : Queued → Result (Unit {0}) Refusal → Accounts → Accounts → Type 0
 TakesRow place (Ok done) accounts later = IsGone place accounts later
 TakesRow place (Err refusal) accounts later = later ≡ accounts
-
--- it was, and then the next row was looked for; or nothing changed
-abbrev pub Takes : Waits → ℕ → Queued → Result (Result (Option Post) Refusal) Refusal → Accounts → Accounts → Type 0
-Takes waits now place (Ok found) accounts later = IsGone place accounts later × IfOk found (IsFound waits now place later)
-Takes waits now place (Err refusal) accounts later = later ≡ accounts

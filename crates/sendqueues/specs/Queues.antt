@@ -1,17 +1,21 @@
 -- The rows of the queues of accounts.
-use Rattle.std.specs.Prelude.{◌≡◌, ℕ, Bool, true, List, Option, Some, None, option_map, IsTrue, IfSome}
+use Rattle.std.specs.Prelude.{◌≡◌, ℕ, Bool, true, List, Option, Some, None, Result, Ok, Err, option_map, IsTrue, IfOk, IfSome}
+use Rattle.sqlite_trees.specs.declared.store.Store.{Ghosts}
 use Rattle.sqlite.specs.Effect.{Database}
+use Rattle.sqlite.specs.Held.{Held, state}
 use Rattle.mailstore.specs.Account.{Account, Accounts, open_of, row_with}
 use Rattle.mailstore.specs.Shows.{Offers}
 use Rattle.mailstore.specs.declared.queue.Outgoing.{Outgoing}
+use Rattle.sessions.specs.Acts.{HasAccounts}
 use Rattle.mailsenders.specs.Rows.{Rows, Content, content_of}
 use Rattle.mailsenders.specs.declared.queue.Row.{Row}
 use Rattle.sendwaits.specs.Waits as wait
 use Rattle.sendwaits.specs.Waits.{place}
 use Rattle.sendwaits.specs.declared.waits.Waits.{Waits}
-use Rattle.sendqueues.specs.Posts.{HasRow, is_due}
+use Rattle.mailstore.specs.declared.next.Queued.{Queued}
+use Rattle.keepers.specs.declared.keeper.Unavailable.{Unavailable}
+use Rattle.sendqueues.specs.Posts.{HasRow, IsFound, IsGone, is_due}
 use Rattle.sendqueues.specs.declared.post.Post.{Post}
-use Rattle.sendqueues.specs.declared.queue.Ahead.{Ahead}
 
 -- what a row has
 abbrev pub content : Bool → Outgoing → Content
@@ -36,22 +40,44 @@ module _ (waits : Waits) (now : ℕ) where
   abbrev pub IsFoundIn : Accounts → Option Post → Type 0
   IsFoundIn accounts found = IfSome found (λ post. HasRow accounts post.place post.row × (is_due waits now post.place ≡ true))
 
-  -- so does one that was found ahead
-  abbrev pub IsAhead : Accounts → Option Ahead → Type 0
-  IsAhead accounts None = Unit {0}
-  IsAhead accounts (Some ahead) = IsFoundIn accounts ahead.found
+-- ---- a keeper, and its store while that is had
 
-  -- a keeper that tells its tables holds some that offer accounts with these rows
-  pub record ShowsRows (tells : Bool) (db : Database) (ahead : Option Ahead) (rows : Rows) : Type 0 where
-    pub told : IsTrue tells
-    pub accounts : Accounts
-    pub offers : Offers db accounts
-    pub are : AreRows accounts rows
-    pub found : IsAhead accounts ahead
+-- no account changes, and where a row was found it is the first one that is due after a place; none is found where none is
+abbrev pub Finds : Waits → ℕ → Queued → Result (Option Post) Unavailable → Accounts → Accounts → Type 0
+Finds waits now start result accounts later = (later ≡ accounts) × IfOk result (IsFound waits now start accounts)
 
--- they are those of the keeper's tables, with those that some waits let be due at some moment, whatever was found ahead
-abbrev pub ShowsSome : Bool → Database → Rows → Type 0
-ShowsSome tells db rows = (waits : Waits) × (now : ℕ) × (ahead : Option Ahead) × ShowsRows waits now tells db ahead rows
+-- the row at a place was taken out, or no account changes
+abbrev pub Removes : Queued → Result (Unit {0}) Unavailable → Accounts → Accounts → Type 0
+Removes place (Ok done) accounts later = IsGone place accounts later
+Removes place (Err denial) accounts later = later ≡ accounts
+
+module _ {S : Type 0} (g : Ghosts S) where
+  -- while it is had the store shows the accounts; else the keeper's tables offer them
+  abbrev pub ShowsBy : Database → Option (Held S) → Accounts → Type 0
+  ShowsBy db (Some store) accounts = HasAccounts (state g store) accounts
+  ShowsBy db None accounts = Offers db accounts
+
+  module _ (tells : Bool) where
+    -- they have these rows, with those that are due; of a keeper that tells its tables
+    pub record ShowsRows (waits : Waits) (now : ℕ) (db : Database) (store : Option (Held S)) (rows : Rows) : Type 0 where
+      pub told : IsTrue tells
+      pub accounts : Accounts
+      pub shown : ShowsBy db store accounts
+      pub are : AreRows waits now accounts rows
+
+    -- the tables of a keeper that has its store have these rows, with those that some waits let be due at some moment
+    abbrev pub ShowsSome : Database → Rows → Type 0
+    ShowsSome db rows = (waits : Waits) × (now : ℕ) × ShowsRows waits now db None rows
+
+    module _ {K : Type 0} (holds : K → Database) where
+      -- whatever accounts were shown, some that these turn into are shown then
+      abbrev pub TurnsShown : (Accounts → Accounts → Type 0) → Option (Held S) → K → Option (Held S) → K → Type 0
+      TurnsShown Turn store keeper later after =
+          IsTrue tells → (accounts : Accounts) → ShowsBy (holds keeper) store accounts → (next : Accounts) × Turn accounts next × ShowsBy (holds after) later next
+
+      -- they are shown still
+      abbrev pub StillShown : Option (Held S) → K → Option (Held S) → K → Type 0
+      StillShown store keeper later after = IsTrue tells → (accounts : Accounts) → ShowsBy (holds keeper) store accounts → ShowsBy (holds after) later accounts
 
 -- the row that was found is told as one of these accounts
 abbrev pub IsToldOf : Option Post → Option Row → Type 0

@@ -2,7 +2,7 @@
 ghost use Rattle.std.specs.Prelude.{◌≡◌, IfOk};
 ghost use Rattle.sqlite.specs.Held.{state};
 ghost use Rattle.sendqueues.specs.Posts as s;
-ghost use Rattle.sendqueues.specs.Posts.{IsFound, IsRowAt, IsStep, Reads, Takes, TakesRow, Works};
+ghost use Rattle.sendqueues.specs.Posts.{IsFound, IsRowAt, IsStep, Reads, TakesRow, Works};
 
 use mailengine::take_out;
 use mailstore::{Outgoing, Queued, Refusal, Store};
@@ -26,16 +26,6 @@ enum Step {
     Past(Queued),
     /// A row that is.
     Due(Post),
-}
-
-/// A copy of a place. Lack of memory is the only error.
-fn copy_of(alloc: Global, place: &Queued) -> Result<Queued, AllocError>
-    ensures { IfOk result (λ copy. copy ≡ place.now) }
-{
-    Ok(Queued {
-        user: place.user.try_clone(alloc)?,
-        id: place.id,
-    })
 }
 
 /// Whether the row at a place is due at a moment. Lack of memory is the only error.
@@ -108,7 +98,7 @@ pub(crate) fn find_post<S: Alter>(
 /// # Errors
 ///
 /// The row is there still.
-fn take_row<S: Alter>(store: &mut Store<S>, place: &Queued) -> Result<(), Refusal>
+pub(crate) fn take_row<S: Alter>(store: &mut Store<S>, place: &Queued) -> Result<(), Refusal>
     ensures { Works (TakesRow place.now result) (state S.Store store.old) (state S.Store store.new) }
 {
     match take_out(store, place.user.as_slice(), place.id) {
@@ -117,23 +107,4 @@ fn take_row<S: Alter>(store: &mut Store<S>, place: &Queued) -> Result<(), Refusa
         Err(Refusal::NoUser) => Ok(()),
         Err(refusal) => Err(refusal),
     }
-}
-
-/// The row at a place is taken out, and the first one after it that is due is looked for.
-///
-/// # Errors
-///
-/// The row is there still. Where it is out and the next one can't be read, that is told inside.
-pub(crate) fn take_then_find<S: Alter>(
-    alloc: Global,
-    store: &mut Store<S>,
-    place: &Queued,
-    waits: &Waits,
-    now: u64,
-) -> Result<Result<Option<Post>, Refusal>, Refusal>
-    ensures { Works (Takes waits.now now place.now result) (state S.Store store.old) (state S.Store store.new) }
-{
-    let start = copy_of(alloc, place)?;
-    take_row(store, place)?;
-    Ok(find_post(alloc, store, start, waits, now))
 }

@@ -1,11 +1,8 @@
 //! The queues of the store that a keeper has.
-ghost use Rattle.std.specs.Prelude.{◌≡◌, ℕ, false, None, IfOk, IfSome, IsTrue};
-ghost use Rattle.mailstore.specs.Account.{Accounts};
-ghost use Rattle.mailstore.specs.declared.next.Queued.{Queued};
-ghost use Rattle.sendqueues.specs.Queues.{IsAhead, IsFoundIn, IsToldOf};
-ghost use Rattle.sendwaits.specs.declared.waits.Waits.{Waits};
+ghost use Rattle.std.specs.Prelude.{◌≡◌, None, IfOk};
+ghost use Rattle.sendqueues.specs.Queues.{IsToldOf, StillShown};
 
-use crate::holding::{Search, next_post, take_once};
+use crate::held::{HeldStore, Search};
 use crate::post::Post;
 use keepers::{Keeper, Unavailable};
 use mailsenders::{Queue, Row, Unavailable as Denial};
@@ -13,51 +10,48 @@ use mailstore::{Outgoing, Queued, Refusal};
 use octets::Octets;
 use std::alloc::{AllocError, Global};
 
-/// What was found behind a row that was taken out.
-#[derive(Drop)]
-pub struct Ahead {
-    /// Where that row was.
-    pub place: Queued,
-    pub found: Option<Post>,
-}
+/// The store is had for so many milliseconds in a row at most, while others may ask for it who don't say that they wait.
+const MAX_HAD: u64 = 1_000;
 
 /// The queues of all users in a store at a path. A row that isn't due is passed over, without a look at its message.
 ///
-/// The store is taken for one call and handed back before it returns. Where a row is taken out the next one is found in the same holding, and
-/// answered when it is asked for.
-pub struct StoreQueue<'a, K: Keeper> {
+/// The store is taken for a call that needs it, and had until it is given back: by `give_back`, by `give_way` where somebody waits for it
+/// or it was had for a second, and where a call failed. Nobody else changes it while it is had.
+#[derive(Drop)]
+pub struct StoreQueue<'a, K: Keeper + Drop> {
     alloc: Global,
     search: Search<'a>,
-    keeper: K,
-    ahead: Option<Ahead>,
+    held: HeldStore<K>,
+    /// When it was first looked at the clock since the store was taken, in milliseconds.
+    since: Option<u64>,
 }
 
-impl<'a, K: Keeper> StoreQueue<'a, K> {
+impl<'a, K: Keeper + Drop> StoreQueue<'a, K> {
     /// The queues of the store that a keeper has at the path of a search.
     pub fn new(alloc: Global, search: Search<'a>, keeper: K) -> StoreQueue<'a, K>
         ensures search { result.search ≡ search.entry }
-        ensures keeper { result.keeper ≡ keeper }
-        ensures ahead { result.ahead ≡ None }
+        ensures keeper { result.held.keeper ≡ keeper }
+        ensures store { result.held.store ≡ None }
     {
         StoreQueue {
             alloc,
             search,
-            keeper,
-            ahead: None,
+            held: HeldStore::new(keeper),
+            since: None,
         }
     }
 
-    /// The keeper.
+    /// The keeper, which has the store back.
     pub fn into_keeper(self) -> K
-        ensures { result ≡ self.entry.keeper }
+        ensures { StillShown K.S.Store K.tells K.holds self.entry.held.store self.entry.held.keeper None result }
     {
         let StoreQueue {
             alloc: _,
             search: _,
-            keeper,
-            ahead: _,
+            held,
+            since: _,
         } = self;
-        keeper
+        held.into_keeper()
     }
 }
 
@@ -70,21 +64,6 @@ fn place_of(alloc: Global, user: &[u8], id: u64) -> Result<Queued, AllocError>
         user: Octets::from_slice(alloc, user)?,
         id,
     })
-}
-
-/// What was found behind this place, where it is the one that was taken out last.
-fn found_behind(ahead: Option<Ahead>, place: &Queued) -> Option<Option<Post>>
-    ensures { (waits : Waits) (now : ℕ) (accounts : Accounts) → IsAhead waits now accounts ahead → IfSome result (IsFoundIn waits now accounts) }
-{
-    let Some(ahead) = ahead else {
-        return None;
-    };
-    let Ahead { place: last, found } = ahead;
-    if last.id == place.id && last.user.as_slice() == place.user.as_slice() {
-        Some(found)
-    } else {
-        None
-    }
 }
 
 /// A row as it is told.
@@ -111,16 +90,6 @@ fn told_of(found: Option<Post>) -> Option<Row>
     })
 }
 
-/// What was found ahead of a row that was taken out; none where it can't be read.
-fn ahead_of(place: Queued, found: Result<Option<Post>, Refusal>) -> Option<Ahead>
-    ensures { (waits : Waits) (now : ℕ) (accounts : Accounts) → IfOk found (IsFoundIn waits now accounts) → IsAhead waits now accounts result }
-{
-    match found {
-        Ok(found) => Some(Ahead { place, found }),
-        Err(_) => None,
-    }
-}
-
 /// Why a row can't be read or taken out, by what the keeper says.
 fn denial_of(denial: Unavailable) -> Denial {
     match denial {
@@ -129,36 +98,57 @@ fn denial_of(denial: Unavailable) -> Denial {
     }
 }
 
-impl<K: Keeper> Queue for StoreQueue<'_, K> {
+impl<K: Keeper + Drop> Queue for StoreQueue<'_, K> {
     ghost use Rattle.sendqueues.specs.Queues.{ShowsRows};
 
-    ghost shows = { λ queue rows. ShowsRows queue.search.waits.now queue.search.now K.tells (K.holds queue.keeper) queue.ahead rows };
+    ghost shows = { λ queue rows. ShowsRows K.S.Store K.tells queue.search.waits.now queue.search.now (K.holds queue.held.keeper) queue.held.store rows };
 
     fn next(&mut self, user: &[u8], id: u64) -> Result<Option<Row>, Denial> {
         let Ok(start) = place_of(self.alloc, user, id) else {
             return Err(Denial::Memory);
         };
-        let ahead = self.ahead.take();
-        if let Some(found) = found_behind(ahead, &start) {
-            return Ok(told_of(found));
-        }
-        match next_post(self.alloc, self.search, start, &mut self.keeper) {
+        match self.held.find(self.alloc, self.search, start) {
             Ok(found) => Ok(told_of(found)),
-            Err(denial) => Err(denial_of(denial)),
+            Err(denial) => {
+                self.since = None;
+                self.held.give_back();
+                Err(denial_of(denial))
+            }
         }
     }
 
     fn take_out(&mut self, user: &[u8], id: u64) -> Result<(), Denial> {
-        self.ahead = None;
         let Ok(place) = place_of(self.alloc, user, id) else {
             return Err(Denial::Memory);
         };
-        match take_once(self.alloc, self.search, &place, &mut self.keeper) {
-            Ok(found) => {
-                self.ahead = ahead_of(place, found);
-                Ok(())
+        match self.held.remove(self.search.path, &place) {
+            Ok(()) => Ok(()),
+            Err(denial) => {
+                self.since = None;
+                self.held.give_back();
+                Err(denial_of(denial))
             }
-            Err(denial) => Err(denial_of(denial)),
         }
+    }
+
+    fn give_way(&mut self, moment: u64) -> bool {
+        if !self.held.is_had() {
+            return false;
+        }
+        if self.held.is_awaited(self.search.path) {
+            self.give_back();
+            return false;
+        }
+        let since = *self.since.get_or_insert(moment);
+        if moment.saturating_sub(since) < MAX_HAD {
+            return false;
+        }
+        self.give_back();
+        true
+    }
+
+    fn give_back(&mut self) {
+        self.since = None;
+        self.held.give_back();
     }
 }

@@ -3,7 +3,7 @@ ghost use Rattle.std.specs.Prelude.{is_ok, None};
 ghost use Rattle.mailsenders.specs.Deeds.{Reaches, State};
 ghost use Rattle.sendqueues.specs.Queues.{ShowsRows, ShowsSome};
 
-use crate::holding::Search;
+use crate::held::Search;
 use crate::queue::StoreQueue;
 use keepers::Keeper;
 use mailsenders::{Journal, Server, Stop, Tally, send_queue};
@@ -19,6 +19,8 @@ pub struct Ended<K: Keeper + Drop> {
 /// Hands the rows of a store's queues that are due to a server, in the order of the octets of the users and of the numbers, at most so many
 /// of them; each leaves its queue once the server has taken it.
 ///
+/// The store is had from one row to the next, as [`send_queue`] and [`StoreQueue`] say, and back with the keeper at the end.
+///
 /// Time is linear in the rows, but for the logarithm of those that wait, and in the messages' octets; one row is in memory.
 ///
 /// # Errors
@@ -33,8 +35,8 @@ pub fn send_due<K: Keeper + Drop, S: Server, J: Journal>(
     may_eight_bit: bool,
     most: u64,
 ) -> Ended<K>
-    ensures { (before : State) → ShowsRows search.entry.waits.now search.entry.now K.tells (K.holds keeper) None before.rows → S.said server.old before.talk
-        → Reaches may_eight_bit (ShowsSome K.tells (K.holds result.keeper)) (S.said server.new) before (is_ok result.tally) }
+    ensures { (before : State) → ShowsRows K.S.Store K.tells search.entry.waits.now search.entry.now (K.holds keeper) None before.rows → S.said server.old before.talk
+        → Reaches may_eight_bit (ShowsSome K.S.Store K.tells (K.holds result.keeper)) (S.said server.new) before (is_ok result.tally) }
 {
     let mut queue = StoreQueue::new(alloc, search, keeper);
     let tally = send_queue(alloc, &mut queue, server, journal, may_eight_bit, most);

@@ -109,8 +109,8 @@ impl<W: Write, E: Write, T: Clock> Journal for Book<'_, W, E, T> {
         self.clock.uptime()
     }
 
-    fn pause(&mut self) {
-        self.clock.pause();
+    fn pause(&mut self, milliseconds: u64) {
+        self.clock.pause(milliseconds);
     }
 }
 

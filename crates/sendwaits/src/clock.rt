@@ -5,9 +5,9 @@ pub trait Clock {
     /// The moment, in seconds since 1970-01-01 UTC.
     fn moment(&mut self) -> u64;
 
-    /// The seconds of a clock that never goes back, from some moment on.
+    /// The milliseconds of a clock that never goes back, from some moment on.
     fn uptime(&mut self) -> u64;
 
-    /// Waits a second.
-    fn pause(&mut self);
+    /// Waits for so many milliseconds.
+    fn pause(&mut self, milliseconds: u64);
 }

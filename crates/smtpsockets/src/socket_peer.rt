@@ -1,8 +1,8 @@
 //! A connection over the system's sockets.
-ghost use Rattle.std.specs.Prelude.{◌≤◌, length, IfOk};
+ghost use Rattle.std.specs.Prelude.{◌≤◌, length, IfOk, IfSome};
 
 use crate::target::Target;
-use mailsenders::{Lost, Patience, Peer};
+use mailsenders::{Lost, MOMENT, Patience, Peer};
 use std::io::{ErrorKind, Read, Write};
 use std::net::{Net, TcpStream};
 use std::os::unix::net::UnixStream;
@@ -11,7 +11,7 @@ use std::time::Duration;
 /// How long a connection is waited for, in seconds.
 const CONNECTING: u64 = 120;
 
-/// How often a read that a signal interrupts is made again.
+/// How often a read or a write that a signal interrupts is made again.
 const TRIES: u32 = 1_000;
 
 /// A connection, or none.
@@ -77,6 +77,25 @@ impl<'a, N: Net<Stream = TcpStream>> Peer for SocketPeer<'a, N> {
         if sent { Ok(()) } else { Err(Lost) }
     }
 
+    fn offer(&mut self, octets: &[u8]) -> Result<usize, Lost> {
+        let wait = Some(Duration::from_millis(MOMENT));
+        match &mut self.link {
+            Link::None => Err(Lost),
+            Link::Tcp(stream) => {
+                if stream.set_write_timeout(wait).is_err() {
+                    return Err(Lost);
+                }
+                write_some(stream, octets)
+            }
+            Link::Unix(stream) => {
+                if stream.set_write_timeout(wait).is_err() {
+                    return Err(Lost);
+                }
+                write_some(stream, octets)
+            }
+        }
+    }
+
     fn receive(&mut self, piece: &mut [u8], patience: Patience) -> Result<usize, Lost> {
         let wait = Some(Duration::from_secs(patience.seconds()));
         match &mut self.link {
@@ -96,6 +115,25 @@ impl<'a, N: Net<Stream = TcpStream>> Peer for SocketPeer<'a, N> {
         }
     }
 
+    fn receive_at_once(&mut self, piece: &mut [u8]) -> Result<Option<usize>, Lost> {
+        let wait = Some(Duration::from_millis(MOMENT));
+        match &mut self.link {
+            Link::None => Err(Lost),
+            Link::Tcp(stream) => {
+                if stream.set_read_timeout(wait).is_err() {
+                    return Err(Lost);
+                }
+                read_at_once(stream, piece)
+            }
+            Link::Unix(stream) => {
+                if stream.set_read_timeout(wait).is_err() {
+                    return Err(Lost);
+                }
+                read_at_once(stream, piece)
+            }
+        }
+    }
+
     fn disconnect(&mut self) {
         self.link = Link::None;
     }
@@ -104,6 +142,41 @@ impl<'a, N: Net<Stream = TcpStream>> Peer for SocketPeer<'a, N> {
 // Writes all octets. Answers whether it could.
 fn write_all<W: Write>(stream: &mut W, octets: &[u8]) -> bool {
     stream.write_all(octets).is_ok() && stream.flush().is_ok()
+}
+
+// Writes as many octets as are taken before the stream's wait is over.
+fn write_some<W: Write>(stream: &mut W, octets: &[u8]) -> Result<usize, Lost>
+    ensures { IfOk result (λ count. count ≤ length octets.now) }
+{
+    for _ in 0..TRIES {
+        match stream.write(octets) {
+            Ok(count) => return Ok(count),
+            Err(error) if error.kind() == ErrorKind::Interrupted => {}
+            Err(error) if is_late(error.kind()) => return Ok(0),
+            Err(_) => return Err(Lost),
+        }
+    }
+    Ok(0)
+}
+
+// Whether the stream's wait was over.
+fn is_late(kind: ErrorKind) -> bool {
+    matches!(kind, ErrorKind::WouldBlock | ErrorKind::TimedOut)
+}
+
+// Reads as many octets as there are before the stream's wait is over; none where there are none.
+fn read_at_once<R: Read>(stream: &mut R, piece: &mut [u8]) -> Result<Option<usize>, Lost>
+    ensures { IfOk result (λ found. IfSome found (λ count. count ≤ length piece.new)) }
+{
+    for _ in 0..TRIES {
+        match stream.read(piece) {
+            Ok(count) => return Ok(Some(count)),
+            Err(error) if error.kind() == ErrorKind::Interrupted => {}
+            Err(error) if is_late(error.kind()) => return Ok(None),
+            Err(_) => return Err(Lost),
+        }
+    }
+    Ok(None)
 }
 
 // Reads as many octets as there are.

@@ -4,7 +4,7 @@ use Rattle.mailsenders.proofs.dialogue.send_letter.Goals as goal
 
 pub returns-clause-treats : goal.returns-clause-treats
 returns-clause-treats g c = λ t said.
-    let it = c.speak.ensures t said in (
+    let it = c.speak.ensures.says t said in (
       it.0,
       it.1,
       treats c.args.offered c.args.may_eight_bit (mail_of c.args.letter) t it.0 c.speak.result (c.is_addressed.ensures.0 c.if-not-is_addressed.false)

@@ -2,7 +2,7 @@ use Rattle.std.proofs.Common.{sym, ◌∙◌, refl}
 use Rattle.smtpclient.specs.Letters.{mail_of}
 use Rattle.smtpclient.specs.Dialogues.{spelled}
 use Rattle.mailsenders.specs.Talks.{wrote, heard}
-use Rattle.mailsenders.proofs.TalkLemmas.{lost, whole_front, ok_of, step_by, later}
+use Rattle.mailsenders.proofs.TalkLemmas.{lost, whole_front, err_of, ok_of, step_by, later}
 use Rattle.mailsenders.proofs.dialogue.step.Goals as goal
 
 pub returns-in-Ok-clause-later : goal.returns-in-Ok-clause-later
@@ -13,7 +13,7 @@ returns-in-Ok-clause-steps g c = λ t said.
     let line = spelled c.args.letter.offered (mail_of c.args.letter.letter) c.args.stage in
     let written = ok_of c.write_stage.result (sym c.is_err.ensures.value ∙ c.if-is_err.false) c.write_stage.ensures.ok t said in (
       heard (wrote t line) c.in-Ok.code,
-      c.in-Ok.ensures.ok (wrote t line) written,
+      c.in-Ok.ensures.ok (wrote t line) (c.await_reply.ensures.said (wrote t line) written),
       step_by c.args.letter.offered (mail_of c.args.letter.letter) c.args.stage t (heard (wrote t line) c.in-Ok.code) c.in-Ok.code c.next_turn.result refl refl c.next_turn.ensures,
     )
 
@@ -21,4 +21,9 @@ pub returns-in-Err-clause-steps : goal.returns-in-Err-clause-steps
 returns-in-Err-clause-steps g c = λ t said.
     let line = spelled c.args.letter.offered (mail_of c.args.letter.letter) c.args.stage in
     let written = ok_of c.write_stage.result (sym c.is_err.ensures.value ∙ c.if-is_err.false) c.write_stage.ensures.ok t said in
-    (wrote t line, c.in-Err.ensures.err (wrote t line) written, lost c.args.letter.offered (mail_of c.args.letter.letter) c.args.stage t (wrote t line) (whole_front line t))
+    (wrote t line, c.in-Err.ensures.err (wrote t line) (c.await_reply.ensures.said (wrote t line) written), lost c.args.letter.offered (mail_of c.args.letter.letter) c.args.stage t (wrote t line) (whole_front line t))
+
+pub returns-then-is_err-clause-steps : goal.returns-then-is_err-clause-steps
+returns-then-is_err-clause-steps g c = λ t said.
+    let it = err_of c.write_stage.result (sym c.is_err.ensures.value ∙ c.if-is_err.true) c.write_stage.ensures.err t said in
+    (it.0, it.1, lost c.args.letter.offered (mail_of c.args.letter.letter) c.args.stage t it.0 it.2)

@@ -8,8 +8,8 @@ loop-init g c = (refl, λ before shows said. nothing c.args.may_eight_bit (g.Q.Q
 
 pub returns-in-Err : goal.returns-in-Err
 returns-in-Err g c = λ before shows said.
-    then_row c.args.may_eight_bit c.loop.link.may_eight_bit (g.Q.Queue.shows c.loop.queue) (g.Q.Queue.shows c.read_next.new.queue) (g.Q.Queue.shows c.visit.new.queue)
-    (g.S.Server.said c.loop.server) (g.S.Server.said c.visit.new.server) before false c.in-Some.row c.loop.invariant.0 (c.loop.invariant.1 before shows said) c.read_next.ensures.same
+    then_row c.args.may_eight_bit c.loop.link.may_eight_bit (g.Q.Queue.shows c.loop.queue) (g.Q.Queue.shows c.make_way.new.queue) (g.Q.Queue.shows c.visit.new.queue)
+    (g.S.Server.said c.loop.server) (g.S.Server.said c.visit.new.server) before false c.in-Some.row c.loop.invariant.0 (c.loop.invariant.1 before shows said) (λ rows had. c.make_way.ensures rows (c.read_next.ensures.same rows had))
     (row_there (λ row. (rows : Rows) → g.Q.Queue.shows c.loop.queue rows → IsThere row rows) c.in_ok-row.field-0 c.in-Some.row c.in-Some.is c.in_ok-row.ensures.there)
     c.in-Err.ensures.reaches
 
@@ -17,8 +17,8 @@ pub loop-preserved : goal.loop-preserved
 loop-preserved g c = (
   c.visit.ensures.may ∙ c.loop.invariant.0,
   λ before shows said.
-      then_row c.args.may_eight_bit c.loop.link.may_eight_bit (g.Q.Queue.shows c.loop.queue) (g.Q.Queue.shows c.read_next.new.queue) (g.Q.Queue.shows c.visit.new.queue)
-      (g.S.Server.said c.loop.server) (g.S.Server.said c.visit.new.server) before true c.in-Some.row c.loop.invariant.0 (c.loop.invariant.1 before shows said) c.read_next.ensures.same
+      then_row c.args.may_eight_bit c.loop.link.may_eight_bit (g.Q.Queue.shows c.loop.queue) (g.Q.Queue.shows c.make_way.new.queue) (g.Q.Queue.shows c.visit.new.queue)
+      (g.S.Server.said c.loop.server) (g.S.Server.said c.visit.new.server) before true c.in-Some.row c.loop.invariant.0 (c.loop.invariant.1 before shows said) (λ rows had. c.make_way.ensures rows (c.read_next.ensures.same rows had))
       (row_there (λ row. (rows : Rows) → g.Q.Queue.shows c.loop.queue rows → IsThere row rows) c.in_ok-row.field-0 c.in-Some.row c.in-Some.is c.in_ok-row.ensures.there)
       c.in-Ok.ensures.reaches,
 )

@@ -1,0 +1,62 @@
+//! The store while a connection is spoken to: it is kept where replies come at once, and nobody else waits for it.
+ghost use Rattle.std.specs.Prelude.{OnOk, OnErr};
+ghost use Rattle.mailsenders.specs.Rows.{Rows};
+ghost use Rattle.mailsenders.specs.Talks as s;
+ghost use Rattle.mailsenders.specs.Talks.{Talk};
+
+use crate::journal::Journal;
+use crate::queue::Queue;
+use crate::server::{Lost, Server};
+
+/// So many milliseconds the store is left alone where it was had for long: others may ask for it without saying that they wait.
+const REST: u64 = 20;
+
+/// The store is given back where somebody waits for it, or where it was had for long; then it rests.
+pub(crate) fn make_way<Q: Queue, J: Journal>(queue: &mut Q, journal: &mut J)
+    ensures { (rows : Rows) → Q.shows queue.old rows → Q.shows queue.new rows }
+{
+    let now = journal.uptime();
+    if queue.give_way(now) {
+        journal.pause(REST);
+    }
+}
+
+/// Before a reply is waited for: the store is kept where the reply comes at once, and nobody waits for the store.
+pub(crate) fn await_reply<Q: Queue, S: Server, J: Journal>(
+    queue: &mut Q,
+    server: &mut S,
+    journal: &mut J,
+)
+    ensures rows { (rows : Rows) → Q.shows queue.old rows → Q.shows queue.new rows }
+    ensures said { (t : Talk) → S.said server.old t → S.said server.new t }
+{
+    make_way(queue, journal);
+    if !server.has_reply() {
+        queue.give_back();
+    }
+}
+
+/// Writes octets of a letter. The store is kept where they go at once, and nobody waits for the store.
+///
+/// # Errors
+///
+/// The connection is lost, and a front of them was written.
+pub(crate) fn write_octets<Q: Queue, S: Server, J: Journal>(
+    queue: &mut Q,
+    server: &mut S,
+    journal: &mut J,
+    octets: &[u8],
+) -> Result<(), Lost>
+    ensures rows { (rows : Rows) → Q.shows queue.old rows → Q.shows queue.new rows }
+    ensures ok { OnOk result ((t : Talk) → S.said server.old t → S.said server.new (s.wrote t octets.now)) }
+    ensures err { OnErr result ((t : Talk) → S.said server.old t → (u : Talk) × S.said server.new u × s.WritesFront octets.now t u) }
+{
+    make_way(queue, journal);
+    let count = server.offer(octets)?;
+    let (_, rest) = octets.split_at(count);
+    if rest.is_empty() {
+        return Ok(());
+    }
+    queue.give_back();
+    server.write(rest)
+}

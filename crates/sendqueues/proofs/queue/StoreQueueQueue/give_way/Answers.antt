@@ -1,0 +1,16 @@
+-- Nobody changed a row, and the store was given back where that is to be.
+use Rattle.sendqueues.proofs.QueueLemmas.{rows_still}
+use Rattle.sendqueues.proofs.queue.StoreQueueQueue.give_way.Goals as goal
+
+pub returns-then-is_awaited : goal.returns-then-is_awaited
+returns-then-is_awaited g c = record {
+  same = λ rows shows. c.give_back.ensures.same rows (rows_still g.K.S.Store g.K.Keeper.tells c.args.self.now.search.waits.now c.args.self.now.search.now g.K.Keeper.holds c.args.self.now.held.store c.args.self.now.held.keeper c.is_awaited.new.self.store c.is_awaited.new.self.keeper c.is_awaited.ensures rows shows);
+}
+
+pub returns-then-saturating_sub-lt-MAX_HAD : goal.returns-then-saturating_sub-lt-MAX_HAD
+returns-then-saturating_sub-lt-MAX_HAD g c = record { same = rows_still g.K.S.Store g.K.Keeper.tells c.args.self.now.search.waits.now c.args.self.now.search.now g.K.Keeper.holds c.args.self.now.held.store c.args.self.now.held.keeper c.is_awaited.new.self.store c.is_awaited.new.self.keeper c.is_awaited.ensures }
+
+pub returns : goal.returns
+returns g c = record {
+  same = λ rows shows. c.give_back-2.ensures.same rows (rows_still g.K.S.Store g.K.Keeper.tells c.args.self.now.search.waits.now c.args.self.now.search.now g.K.Keeper.holds c.args.self.now.held.store c.args.self.now.held.keeper c.is_awaited.new.self.store c.is_awaited.new.self.keeper c.is_awaited.ensures rows shows);
+}
