@@ -6,12 +6,13 @@ store beside it, and killed.
 
 Prints a line for each trial, a last one that counts them, and ends with 1 where one failed. `tests/run` runs it, with --quick, which
 does a tenth of what is done many times. It needs python3 alone.
-The trials: says, examples, octets, rubbish, silent, fifty, crowd, deaf, guesses, waits, away, fails, rests, killed, growth; without a
-word, all.
+The trials: says, examples, octets, rubbish, silent, fifty, crowd, deaf, guesses, hostile, waits, away, fails, rests, tells, killed,
+growth; without a word, all.
 """
 import fcntl, os, random, re, select, shutil, socket, subprocess, threading, time
 import trials
 from hostile import RULES, SESSION, Ledger, memory, said, until_ok
+from lmtp import Peer, greet
 from managesieve import HERE, SIEVED, Gone, Store, connect, end
 
 CASES = f"{HERE}/../crates/cases/data"
@@ -264,6 +265,17 @@ def guesses():
     return f"three guesses: NO, NO, BYE, after {', '.join(f'{took:.2f}' for _, took in results[:3])} s; beside them {count} scripts, each within {worst * 1000:.0f} ms"
 
 
+def hostile():
+    """Beside a client that floods, one that is silent in DATA, one that reads nothing and one that guesses passwords another is served."""
+    rounds = trials.some(500)
+    done = subprocess.run([f"{HERE}/../bench/beside_load.py", "--rounds", str(rounds), "--hostile", PROGRAM[0]], capture_output=True)
+    assert done.returncode == 0, done
+    rows = [line.strip("| ").split(" | ") for line in done.stdout.decode().splitlines() if " beside " in line]
+    figures = {row[0].split()[0]: [float(word) for word in row[1:]] for row in rows}
+    assert set(figures) == {"NOOP", "GETSCRIPT"} and all(row[0] < 20 and row[1] < 1_000 for row in figures.values()), figures
+    return f"{rounds} round trips each: " + "; ".join(f"{word} median {row[0]} ms, 99th {row[1]}, greatest {row[2]}" for word, row in figures.items())
+
+
 def waits():
     """Words with `--wait` come to the store beside a daemon under load, and its clients do too, each in its turn."""
     store = new_store(*[f"u{number}" for number in range(20)])
@@ -408,6 +420,33 @@ def rests():
     return f"given back {after:.1f} s after the last event; at rest {used} hundredths of a second of a processor in 5 s"
 
 
+def tells():
+    """Behind a minute in which something happened a line has its counts."""
+    store = new_store("alice", "bob")
+    words = store.words("daemon", "--managesieve", "0", "--lmtp", "0", "--quiet")
+    server = subprocess.Popen(words, stdout=subprocess.PIPE, stderr=subprocess.PIPE)
+    port, mail = (int(server.stdout.readline().rsplit(b":", 1)[1]) for _ in range(2))
+    began = time.time()
+    client = logged_in(port)
+    for _ in range(3):
+        assert client.put(b"a", b"keep;\r\n").startswith(b"OK")
+    guesser = connect(port)
+    guesser.ask(b'AUTHENTICATE "PLAIN" "AGFsaWNlAHdyb25n"')
+    peer = Peer(mail)
+    greet(peer)
+    replies = peer.deliver(b"Subject: x\r\n\r\nx\r\n", b"alice@x", b"bob@x", b"nobody@x")
+    assert [reply[:3] for reply in replies] == [b"250", b"250"], replies
+    status = server.stderr.readline().decode()
+    after = time.time() - began
+    end(server)
+    pairs = dict(word.split("=") for word in status.split()[2:])
+    half, most = int(pairs.pop("p50_us")), int(pairs.pop("p99_us"))
+    # commands: a login, three scripts, a login that failed
+    assert pairs == {"delivered": "2", "refused": "0", "moved": "0", "logins_failed": "1", "commands": "5"}, status
+    assert status.startswith("sieved: status ") and 0 < half <= most and 50 < after < 90, (status, after)
+    return f"after {after:.0f} s {status.strip()!r}"
+
+
 def is_free(store):
     with open(f"{store.file}.lock", "a") as file:
         try:
@@ -468,7 +507,7 @@ def growth():
     return f"resident {figures[first][0]} kB after {first} connections, {figures[last][0]} kB after {last}; descriptors {figures[first][1]} and {figures[last][1]}"
 
 
-TRIALS = [says, examples, octets, rubbish, silent, fifty, crowd, deaf, guesses, waits, away, fails, rests, killed, growth]
+TRIALS = [says, examples, octets, rubbish, silent, fifty, crowd, deaf, guesses, hostile, waits, away, fails, rests, tells, killed, growth]
 
 
 if __name__ == "__main__":

@@ -24,7 +24,7 @@ use std::collections::VecDeque;
 use std::io::Write;
 use std::net::Net;
 use std::time;
-use std::time::SystemTime;
+use std::time::{Instant, SystemTime};
 use systemsockets::SystemSockets;
 use wires::act::Act;
 use wires::outcome::{self, Accepted, Input, Output, Wake};
@@ -86,6 +86,11 @@ impl<'a, N: Net + time::Clock, E: Write + Drop, K: Keeper + Drop, T: MailSink + 
         }
     }
 
+    /// The first line on the errors: the program's version, and the number of its process.
+    pub fn begin(&mut self, version: &[u8], pid: u32) {
+        self.news.begin(version, pid);
+    }
+
     /// Tells of trouble that ends the daemon, and gives its exit status.
     pub fn refuse(&mut self, trouble: Trouble) -> u8 {
         self.news.refuse(trouble)
@@ -120,9 +125,11 @@ impl<'a, N: Net + time::Clock, E: Write + Drop, K: Keeper + Drop, T: MailSink + 
         if !self.may_ask(id) {
             return None;
         }
+        let begun = start(self.system);
         self.reach();
         let answer = self.held.change(clients, event)?;
         self.news.note_answer(&answer, self.held.code());
+        note_time(&mut self.news, self.system, begun);
         Some(answer)
     }
 
@@ -147,11 +154,13 @@ impl<'a, N: Net + time::Clock, E: Write + Drop, K: Keeper + Drop, T: MailSink + 
         if !self.may_ask(id) {
             return None;
         }
+        let begun = start(self.system);
         self.reach();
         let moment = seconds(self.system);
         match self.held.deliver(self.alloc, parcel, moment) {
             Some(answer) => {
                 self.news.note_delivery(parcel, &answer, self.held.code());
+                note_time(&mut self.news, self.system, begun);
                 Some(answer)
             }
             None => None,
@@ -221,6 +230,28 @@ impl<'a, N: Net + time::Clock, E: Write + Drop, K: Keeper + Drop, T: MailSink + 
     }
 }
 
+/// Now, where the clock can be read.
+fn start<C: time::Clock>(clock: &C) -> Option<Instant> {
+    Instant::now(clock).ok()
+}
+
+/// Notes how long an event took that began then.
+fn note_time<C: time::Clock, E: Write + Drop>(
+    news: &mut News<E>,
+    clock: &C,
+    begun: Option<Instant>,
+) {
+    if let Some(micros) = micros_since(clock, begun) {
+        news.note_time(micros);
+    }
+}
+
+/// How many microseconds have passed since then, where the clock can be read; an hour at most.
+fn micros_since<C: time::Clock>(clock: &C, begun: Option<Instant>) -> Option<u64> {
+    let passed = begun?.elapsed(clock).ok()?;
+    Some(passed.as_secs().min(3600) * 1000000 + passed.subsec_micros() as u64)
+}
+
 /// The seconds since 1970; where the clock can't be read, a moment at which nothing is delivered.
 fn seconds<C: time::Clock>(clock: &C) -> u64 {
     let Ok(now) = SystemTime::now(clock) else {
@@ -251,6 +282,8 @@ impl<N: Net + time::Clock, E: Write + Drop, K: Keeper + Drop, T: MailSink + Drop
 impl<N: Net + time::Clock, E: Write + Drop, K: Keeper + Drop, T: MailSink + Drop> Sockets
     for Host<'_, N, E, K, T> {
     fn wait(&mut self, within: u32, ready: &mut VecDeque<Wake>) -> Result<(), outcome::Fault> {
+        let now = self.sockets.now();
+        self.news.tell_status(now);
         match self.sockets.wait(within, ready) {
             Ok(()) => Ok(()),
             Err(fault) => {
@@ -322,6 +355,7 @@ impl<N: Net + time::Clock, E: Write + Drop, K: Keeper + Drop, T: MailSink + Drop
         match self.ask(id, clients, event) {
             Some(answer) => {
                 self.queue.leave(id);
+                self.news.note_command();
                 Some(answer)
             }
             None => {
@@ -333,6 +367,7 @@ impl<N: Net + time::Clock, E: Write + Drop, K: Keeper + Drop, T: MailSink + Drop
 
     fn tell_freed(&mut self, id: u32, _event: &Event, _answer: &Answer) {
         self.queue.leave(id);
+        self.news.note_command();
     }
 
     fn look_up(&mut self, id: u32, _clients: &mut Clients, user: &[u8]) -> Option<Lookup> {
@@ -374,10 +409,12 @@ impl<N: Net + time::Clock, E: Write + Drop, K: Keeper + Drop, T: MailSink + Drop
         self.queue.leave(id);
     }
 
-    fn tell_spoke(&mut self, _id: u32) {}
+    fn tell_spoke(&mut self, _id: u32) {
+        self.news.note_failed_login();
+    }
 
     fn look(&mut self, rests: bool) -> bool {
-        let wanted = self.news.has_failed() || self.held.is_awaited(self.path);
+        let wanted = self.news.has_failed() || self.is_awaited();
         let gives = rests || wanted;
         if gives {
             self.give_back();

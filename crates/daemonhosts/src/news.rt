@@ -1,8 +1,9 @@
 //! What is told on the errors, and how long the store is left alone.
-use crate::log::{has_failed, is_delivered, of_delivery, of_moving};
+use crate::log::{has_failed, is_delivered, is_moved, of_beginning, of_delivery, of_moving};
 use crate::pause::Pause;
 use keepers::cause::of_sqlite;
 use lmtp::Lookup;
+use loglines::tally::{Tally, status_line};
 use mailengine::{Answer, Refusal};
 use mailmoves::Moving;
 use mailposts::Parcel;
@@ -13,7 +14,11 @@ use sqlite::ErrorCode;
 use std::alloc::{AllocError, Global};
 use std::io::{ErrorKind, Write};
 
-/// The errors, what was told on them of the store, and whether it failed. Moments are in milliseconds.
+/// So many milliseconds are behind each line `status`.
+const STATUS_SPAN: u64 = 60000;
+
+/// The errors, what was told on them of the store, and whether it failed; what happened since the last line `status`. Moments are
+/// in milliseconds.
 #[derive(Drop)]
 pub struct News<E: Write + Drop> {
     alloc: Global,
@@ -25,6 +30,9 @@ pub struct News<E: Write + Drop> {
     pause: Pause,
     /// The first trouble with the store since it was taken.
     trouble: FirstTrouble,
+    tally: Tally,
+    /// The moment of the last line `status`, or of a minute in which nothing happened.
+    told: u64,
 }
 
 impl<E: Write + Drop> News<E> {
@@ -37,7 +45,49 @@ impl<E: Write + Drop> News<E> {
             failed: false,
             pause: Pause::none(),
             trouble: FirstTrouble::none(),
+            tally: Tally::none(),
+            told: 0,
         }
+    }
+
+    /// The first line: the program's version, and the number of its process.
+    pub fn begin(&mut self, version: &[u8], pid: u32) {
+        self.tell_line(of_beginning(self.alloc, version, pid));
+    }
+
+    /// Each minute in which something happened, the line `status`.
+    pub fn tell_status(&mut self, now: u64) {
+        if now.saturating_sub(self.told) < STATUS_SPAN {
+            return;
+        }
+        self.told = now;
+        if self.tally.counts.is_none() {
+            return;
+        }
+        let times = &self.tally.times;
+        let line = status_line(
+            self.alloc,
+            &self.tally.counts,
+            times.within(50),
+            times.within(99),
+        );
+        self.tell_line(line);
+        self.tally = Tally::none();
+    }
+
+    /// An event that asked the store took so many microseconds.
+    pub fn note_time(&mut self, micros: u64) {
+        self.tally.times.note(micros);
+    }
+
+    /// A command of ManageSieve was answered.
+    pub fn note_command(&mut self) {
+        count(&mut self.tally.counts.commands);
+    }
+
+    /// The answer to a login that failed was told.
+    pub fn note_failed_login(&mut self) {
+        count(&mut self.tally.counts.logins_failed);
     }
 
     /// Whether the store failed since it was taken.
@@ -91,10 +141,19 @@ impl<E: Write + Drop> News<E> {
     /// The same of a delivery, of which is told.
     pub fn note_delivery(&mut self, parcel: &Parcel, answer: &Answer, code: Option<ErrorCode>) {
         self.note_answer(answer, code);
+        self.count_delivery(answer);
         if self.quiet && is_delivered(answer) {
             return;
         }
         self.tell_line(of_delivery(self.alloc, parcel, answer));
+    }
+
+    fn count_delivery(&mut self, answer: &Answer) {
+        if is_delivered(answer) {
+            count(&mut self.tally.counts.delivered);
+        } else {
+            count(&mut self.tally.counts.refused);
+        }
     }
 
     /// The same of a look for an account.
@@ -115,6 +174,9 @@ impl<E: Write + Drop> News<E> {
     ) {
         if has_failed(moving) {
             self.note_failure(code);
+        }
+        if is_moved(moving) {
+            count(&mut self.tally.counts.moved);
         }
         self.tell_line(of_moving(self.alloc, moving, cause, self.quiet));
     }
@@ -140,6 +202,11 @@ impl<E: Write + Drop> News<E> {
             self.failed = true;
         }
     }
+}
+
+/// It happened once more.
+fn count(times: &mut u64) {
+    *times = times.saturating_add(1);
 }
 
 /// Tells of trouble with the store, and of its cause, where that is known.

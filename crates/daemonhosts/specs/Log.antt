@@ -1,0 +1,62 @@
+-- What the daemon writes of what happened, a line each.
+use Rattle.std.specs.Prelude.{◌≡◌, ℕ, Bool, true, false, if◌then◌else◌, List, [], ◌∷◌, ◌++◌, Option, Some, None, codes, decimal}
+use Rattle.loglines.specs.Lines.{Pair, pair, line_of}
+use Rattle.mailengine.specs.declared.answer.Answer.{Answer}
+use Rattle.mailengine.specs.declared.answer.Answer.TheVariants.{Delivered, MailTaken, Refused}
+use Rattle.mailmoves.specs.declared.moving.Moving.{Moving}
+use Rattle.mailmoves.specs.declared.moving.Moving.TheVariants.{Stays, Kept}
+use Rattle.mailmoves.specs.declared.moving.Stay.{Stay}
+use Rattle.mailposts.specs.declared.demand.Parcel.{Parcel}
+use Rattle.mailsinks.specs.declared.kept.KeptMail.{KeptMail}
+use Rattle.mailstore.specs.declared.refusal.Refusal.{Refusal}
+use Rattle.mailstore.specs.declared.refusal.Refusal.TheVariants.{Memory, NoUser, TooLarge, BadEnvelope}
+
+-- ---- a message that was brought
+
+abbrev pub word_of : Answer → List ℕ
+word_of (Delivered report) = codes "delivered"
+word_of _ = codes "refused"
+
+abbrev pub why_by : Refusal → List ℕ
+why_by NoUser = codes "user"
+why_by TooLarge = codes "size"
+why_by BadEnvelope = codes "address"
+why_by Memory = codes "memory"
+why_by _ = codes "store"
+
+abbrev pub why_pairs : Answer → List Pair
+why_pairs (Refused refusal) = pair (codes "why") (why_by refusal) ∷ []
+why_pairs _ = []
+
+abbrev pub delivery_line : Parcel → Answer → List ℕ
+delivery_line parcel answer =
+    line_of (word_of answer) (pair (codes "user") parcel.user ∷ pair (codes "from") parcel.sender ∷ pair (codes "to") parcel.recipient ∷ why_pairs answer)
+
+-- ---- a message that moves on
+
+abbrev pub moved_line : KeptMail → List ℕ
+moved_line mail = line_of (codes "moved") (pair (codes "user") mail.user ∷ pair (codes "folder") mail.folder ∷ pair (codes "number") (decimal mail.number) ∷ [])
+
+abbrev pub stay_line : List ℕ → List ℕ → List ℕ → List ℕ
+stay_line user folder why = line_of (codes "stays") (pair (codes "user") user ∷ pair (codes "folder") folder ∷ pair (codes "why") why ∷ [])
+
+-- that one stays, and why
+abbrev pub IsStayLine : Stay → List ℕ → Type 0
+IsStayLine stay line = (why : List ℕ) × (line ≡ stay_line stay.user stay.folder why)
+
+-- that is told once, where its folder hadn't failed before
+abbrev pub IsStayBy : Bool → Stay → List ℕ → Type 0
+IsStayBy true stay line = IsStayLine stay line
+IsStayBy false stay line = line ≡ []
+
+-- one that moved is told of unless it is quiet, one that stays at its folder's first failure, each other not
+abbrev pub IsMovingLine : Moving → Bool → List ℕ → Type 0
+IsMovingLine (Kept mail MailTaken) quiet line = line ≡ (if quiet then [] else moved_line mail)
+IsMovingLine (Kept mail _) quiet line = line ≡ stay_line mail.user mail.folder (codes "store")
+IsMovingLine (Stays stay) quiet line = IsStayBy stay.is_first stay line
+IsMovingLine _ quiet line = line ≡ []
+
+-- ---- the first line
+
+abbrev pub first_line : List ℕ → ℕ → List ℕ
+first_line version pid = line_of (codes "begins") (pair (codes "version") version ∷ pair (codes "pid") (decimal pid) ∷ [])
