@@ -8,7 +8,7 @@ Prints a line for each trial, a last one that counts them, and ends with 1 where
 does a tenth of what is done many times. It needs python3; `postfix` needs root and Debian's postfix, `dovecot` root and Debian's
 dovecot-submissiond, else these trials are left out.
 """
-import fcntl, os, random, re, shutil, socket, sqlite3, subprocess, tempfile, threading, time
+import fcntl, os, random, re, resource, shutil, signal, socket, sqlite3, subprocess, tempfile, threading, time
 import smtpservers, trials
 from managesieve import HERE, SIEVED, Store
 
@@ -267,6 +267,92 @@ def refusing():
     return f"the row left {took:.1f} s later, and went once"
 
 
+def is_free(house):
+    """Whether nobody has the store."""
+    with open(f"{house.store.file}.lock", "a") as file:
+        try:
+            fcntl.flock(file, fcntl.LOCK_EX | fcntl.LOCK_NB)
+        except BlockingIOError:
+            return False
+    return True
+
+
+def held():
+    """The store is had from row to row while replies come at once, and given back where one is late."""
+    house, count = House(), 12
+    for number in range(count):
+        house.put("alice", b"a@x", b"b@y", b"Subject: %d\r\n\r\nHi\r\n" % number)
+    seen = []
+
+    def look():
+        seen.append(is_free(house))
+        if len(seen) == 6:
+            time.sleep(0.2)
+            seen.append(is_free(house))
+
+    server = Server(before_dot=look)
+    status, lines, errors = house.send(server.place)
+    assert (status, lines[-1]) == (0, f"sent {count}, wait 0") and len(server.taken) == count, (status, lines, errors)
+    # The first row's store is given back before the connection is made; the sixth reply to a text is late.
+    # A busy machine may be late at others too.
+    assert seen[0] and seen[6] and seen.count(False) >= count // 2, seen
+    server.stop()
+    return f"{count} rows: had at {seen.count(False)} of {len(seen)} looks"
+
+
+def shared():
+    """Who waits for the store has it soon, and what is put in meanwhile goes in the same run."""
+    house, count, spans = House(), 40, []
+    for number in range(count):
+        house.put("alice", b"a@x", b"b@y", b"Subject: %d\r\n\r\nHi\r\n" % number)
+
+    def deliver():
+        began = time.monotonic()
+        house.deliver("bob", sender="dora%d@example.com" % len(spans))
+        spans.append(time.monotonic() - began)
+
+    threads = []
+
+    def begin():
+        if len(server.taken) in (5, 15, 25):
+            threads.append(threading.Thread(target=deliver))
+            threads[-1].start()
+        time.sleep(0.005)
+
+    server = Server(before_dot=begin)
+    status, lines, errors = house.send(server.place)
+    for thread in threads:
+        thread.join()
+    assert (status, lines[-1]) == (0, f"sent {count + 3}, wait 0") and len(server.taken) == count + 3, (status, lines[-1], errors)
+    assert not house.queue("alice") and not house.queue("bob") and max(spans) < 5, spans
+    server.stop()
+    return f"three words of other processes, {max(spans):.2f} s at most; their rows went too"
+
+
+def full():
+    """The store refuses a row right behind its 250 while it is had, since its files may not grow: it leaves once they may, and goes once."""
+    house = House()
+    for number in range(3):
+        house.put("alice", b"a@x", b"b@y", b"Subject: %d\r\n\r\nHi\r\n" % number)
+    running = []
+
+    def limit():
+        if len(server.taken) == 1:
+            none = resource.prlimit(running[0].pid, resource.RLIMIT_FSIZE, (1, resource.RLIM_INFINITY))
+            threading.Timer(2.5, lambda: resource.prlimit(running[0].pid, resource.RLIMIT_FSIZE, none)).start()
+
+    server = Server(before_dot=limit)
+    words = house.store.words("send", "--smtp", server.place)
+    began = time.monotonic()
+    running.append(subprocess.Popen(words, stdout=subprocess.PIPE, stderr=subprocess.PIPE, preexec_fn=lambda: signal.signal(signal.SIGXFSZ, signal.SIG_IGN)))
+    lines, errors = running[0].communicate(timeout=60)
+    took = time.monotonic() - began
+    assert running[0].returncode == 0 and lines.splitlines()[-1] == b"sent 3, wait 0", (lines, errors)
+    assert len(server.taken) == 3 and not house.queue("alice") and took > 2, (len(server.taken), took)
+    server.stop()
+    return f"the second of three rows left {took:.1f} s later, and each went once"
+
+
 def mended(message):
     """What arrives of a message: by lines that end at LF, a CR before it apart; a CR elsewhere a space, or `?` at a line's front."""
     if not message:
@@ -379,7 +465,7 @@ def killed():
     server = Server()
     kills, rows = trials.some(200), 0
     for at in range(kills):
-        for _ in range(3):
+        for _ in range(4):
             rows += 1
             house.put("alice", b"a@x", b"b@y", b"Subject: %d\r\n\r\nHi\r\n" % rows)
         house.forget()
@@ -449,7 +535,7 @@ def dovecot():
     return f"{count} rows, each once and as it stands; without a login 530"
 
 
-TRIALS = {"sends": sends, "replies": replies, "pieces": pieces, "lost": lost, "busy": busy, "refusing": refusing, "octets": octets, "addresses": addresses, "waits": waits, "most": most, "killed": killed, "postfix": postfix, "dovecot": dovecot}
+TRIALS = {"sends": sends, "replies": replies, "pieces": pieces, "lost": lost, "busy": busy, "refusing": refusing, "held": held, "shared": shared, "full": full, "octets": octets, "addresses": addresses, "waits": waits, "most": most, "killed": killed, "postfix": postfix, "dovecot": dovecot}
 
 
 def program(path):

@@ -22,6 +22,13 @@ pub struct Letters;
 #[derive(Drop)]
 pub struct Refusals;
 
+/// Answers when the store was taken and given back: what the queue noted (`trace` of `MemoryQueue`), what was noted of each row, and how many
+/// seconds were waited. The columns: what the server sends, where a `~` stands before what comes late; behind how many looks for who waits for
+/// the store somebody does, or nothing; how many milliseconds pass from one look at the clock to the next; how many times a row isn't given
+/// up; and three of each row, as in `Letters`.
+#[derive(Drop)]
+pub struct Holdings;
+
 impl Answers for Letters {
     fn answer(
         &mut self,
@@ -39,6 +46,8 @@ impl Answers for Letters {
                 rows,
                 most,
                 refusals: 0,
+                looks: None,
+                span: 0,
             };
             let answer = run.answer(alloc)?;
             match &first {
@@ -72,10 +81,38 @@ impl Answers for Refusals {
             rows,
             most: 4_096,
             refusals: parse_decimal(count.as_slice()).unwrap_or(0),
+            looks: None,
+            span: 0,
         };
         let answer = run.answer(alloc)?;
         out.extend_from_slice(answer.told.as_slice())?;
         out.extend_from_slice(b"; ")?;
+        write_decimal(out, answer.seconds)
+    }
+}
+
+impl Answers for Holdings {
+    fn answer(
+        &mut self,
+        alloc: Global,
+        out: &mut Octets,
+        given: &[Octets],
+    ) -> Result<(), AllocError> {
+        let [server, looks, span, refusals, rows @ ..] = given else {
+            return Ok(());
+        };
+        let run = Run {
+            server: server.as_slice(),
+            rows,
+            most: 4_096,
+            refusals: parse_decimal(refusals.as_slice()).unwrap_or(0),
+            looks: parse_decimal(looks.as_slice()),
+            span: parse_decimal(span.as_slice()).unwrap_or(0),
+        };
+        let answer = run.answer(alloc)?;
+        out.extend_from_slice(answer.trace.as_slice())?;
+        out.extend_from_slice(b"; ")?;
+        out.extend_from_slice(answer.noted.as_slice())?;
         write_decimal(out, answer.seconds)
     }
 }
@@ -91,20 +128,28 @@ struct Run<'a> {
     most: usize,
     /// How many times a row isn't given up.
     refusals: u64,
+    /// Behind how many looks somebody waits for the store.
+    looks: Option<u64>,
+    /// How many milliseconds pass from one look at the clock to the next.
+    span: u64,
 }
 
 /// What came of it.
 #[derive(Drop)]
 struct Answer {
     told: Octets,
+    /// What the queue noted.
+    trace: Octets,
+    /// What was noted of rows.
+    noted: Octets,
     /// How many seconds were waited.
     seconds: u64,
 }
 
 impl Run<'_> {
     fn answer(self, alloc: Global) -> Result<Answer, AllocError> {
-        let mut queue = queue_of(alloc, self.rows, self.refusals)?;
-        let mut journal = MemoryJournal::new(alloc);
+        let mut queue = queue_of(alloc, self.rows, self.refusals, self.looks)?;
+        let mut journal = MemoryJournal::new(alloc, self.span);
         let host = Octets::from_slice(alloc, b"h")?;
         let peer = MemoryPeer::new(alloc, self.server, self.most);
         let mut client = Client::new(alloc, peer, host);
@@ -127,13 +172,20 @@ impl Run<'_> {
         told.extend_from_slice(client.peer().sent())?;
         Ok(Answer {
             told,
+            trace: Octets::from_slice(alloc, queue.trace())?,
+            noted: Octets::from_slice(alloc, journal.told())?,
             seconds: journal.seconds(),
         })
     }
 }
 
-fn queue_of(alloc: Global, rows: &[Octets], refusals: u64) -> Result<MemoryQueue, AllocError> {
-    let mut queue = MemoryQueue::new(alloc, refusals);
+fn queue_of(
+    alloc: Global,
+    rows: &[Octets],
+    refusals: u64,
+    looks: Option<u64>,
+) -> Result<MemoryQueue, AllocError> {
+    let mut queue = MemoryQueue::new(alloc, refusals, looks);
     let mut id = 0;
     for row in rows.chunks(3) {
         if let [sender, target, message] = row {

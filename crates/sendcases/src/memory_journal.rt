@@ -4,18 +4,21 @@ use octets::{Octets, write_decimal};
 use smtpclient::Ending;
 use std::alloc::{AllocError, Global};
 
-/// What became of rows, one after another: ` ID ENDING;` for each. Its clock goes on where it pauses, and nowhere else.
+/// What became of rows, one after another: ` ID ENDING;` for each. Its clock goes on where it pauses, and by a span at each look at it.
 #[derive(Drop)]
 pub struct MemoryJournal {
     told: Octets,
-    seconds: u64,
+    /// In milliseconds.
+    clock: u64,
+    span: u64,
 }
 
 impl MemoryJournal {
-    pub fn new(alloc: Global) -> MemoryJournal {
+    pub fn new(alloc: Global, span: u64) -> MemoryJournal {
         MemoryJournal {
             told: Octets::new(alloc),
-            seconds: 0,
+            clock: 0,
+            span,
         }
     }
 
@@ -24,9 +27,9 @@ impl MemoryJournal {
         self.told.as_slice()
     }
 
-    /// How many seconds it paused.
+    /// What its clock shows, in whole seconds.
     pub fn seconds(&self) -> u64 {
-        self.seconds
+        self.clock / 1_000
     }
 
     fn tell(&mut self, id: u64, ending: Ending) -> Result<(), AllocError> {
@@ -60,10 +63,11 @@ impl Journal for MemoryJournal {
     }
 
     fn uptime(&mut self) -> u64 {
-        self.seconds
+        self.clock = self.clock.saturating_add(self.span);
+        self.clock
     }
 
-    fn pause(&mut self) {
-        self.seconds = self.seconds.saturating_add(1);
+    fn pause(&mut self, milliseconds: u64) {
+        self.clock = self.clock.saturating_add(milliseconds);
     }
 }

@@ -1,12 +1,18 @@
 //! A connection in memory.
-ghost use Rattle.std.specs.Prelude.{◌≡◌};
+ghost use Rattle.std.specs.Prelude.{◌≡◌, ◌≤◌, length};
 
 use mailsenders::{Lost, Patience, Peer};
 use octets::Octets;
 use std::alloc::Global;
 
-/// A server that sends given octets, so many of them at once at most, whatever it hears. Behind them the connection ends, and there is no
-/// second one.
+/// Of what is written at once it takes so many octets.
+const MOST_TAKEN: usize = 1_000;
+
+/// Stands before octets that don't come at once, and isn't sent.
+const LATE: u8 = b'~';
+
+/// A server that sends given octets, so many of them at once at most, whatever it hears. What stands behind a `~` doesn't come at once.
+/// Behind them the connection ends, and there is no second one.
 #[derive(Drop)]
 pub struct MemoryPeer<'a> {
     left: &'a [u8],
@@ -23,6 +29,18 @@ impl<'a> MemoryPeer<'a> {
             is_used: false,
             sent: Octets::new(alloc),
         }
+    }
+
+    // So many octets come into the piece, up to some that are late.
+    fn hand_out(&mut self, piece: &mut [u8]) -> usize
+        ensures { result ≤ length piece.new }
+    {
+        let at_once = self.left.iter().take_while(|octet| **octet != LATE).count();
+        let count = self.most.min(at_once).min(piece.len());
+        let (front, rest) = self.left.split_at(count);
+        piece[..count].copy_from_slice(front);
+        self.left = rest;
+        count
     }
 
     /// What was sent to it.
@@ -49,12 +67,29 @@ impl<'a> Peer for MemoryPeer<'a> {
         }
     }
 
+    fn offer(&mut self, octets: &[u8]) -> Result<usize, Lost> {
+        let count = octets.len().min(MOST_TAKEN);
+        let (front, _) = octets.split_at(count);
+        match self.sent.extend_from_slice(front) {
+            Ok(()) => Ok(count),
+            Err(_) => Err(Lost),
+        }
+    }
+
     fn receive(&mut self, piece: &mut [u8], _patience: Patience) -> Result<usize, Lost> {
-        let count = self.most.min(self.left.len()).min(piece.len());
-        let (front, rest) = self.left.split_at(count);
-        piece[..count].copy_from_slice(front);
-        self.left = rest;
-        Ok(count)
+        if let Some((first, rest)) = self.left.split_first() {
+            if *first == LATE {
+                self.left = rest;
+            }
+        }
+        Ok(self.hand_out(piece))
+    }
+
+    fn receive_at_once(&mut self, piece: &mut [u8]) -> Result<Option<usize>, Lost> {
+        if self.left.first() == Some(&LATE) {
+            return Ok(None);
+        }
+        Ok(Some(self.hand_out(piece)))
     }
 
     fn disconnect(&mut self) {}

@@ -3,6 +3,9 @@ use mailsenders::{Queue, Row, Unavailable};
 use octets::{List, Octets};
 use std::alloc::{AllocError, Global};
 
+/// The store is had for so many milliseconds in a row at most.
+const MAX_HAD: u64 = 1_000;
+
 /// Rows of queues, in their order.
 #[derive(Drop)]
 pub struct MemoryQueue {
@@ -12,16 +15,28 @@ pub struct MemoryQueue {
     gone: Vec<bool>,
     /// How many more times a row that is to be taken out is refused.
     refusals: u64,
+    /// Whether the store is had.
+    is_had: bool,
+    /// When it was first looked at the clock since then.
+    since: Option<u64>,
+    /// How many looks come before the one at which somebody waits; none where nobody does.
+    looks: Option<u64>,
+    trace: Octets,
 }
 
 impl MemoryQueue {
-    /// Without rows. So many times a row that is to be taken out is refused.
-    pub fn new(alloc: Global, refusals: u64) -> MemoryQueue {
+    /// Without rows. So many times a row that is to be taken out is refused. Of the looks for who waits for the store, while it is had, the
+    /// one behind so many others finds somebody, who adds a row.
+    pub fn new(alloc: Global, refusals: u64, looks: Option<u64>) -> MemoryQueue {
         MemoryQueue {
             alloc,
             rows: List::new(alloc),
             gone: Vec::new(alloc),
             refusals,
+            is_had: false,
+            since: None,
+            looks,
+            trace: Octets::new(alloc),
         }
     }
 
@@ -30,6 +45,56 @@ impl MemoryQueue {
         self.rows.push(row)?;
         self.gone.push(false)?;
         Ok(())
+    }
+
+    /// What was done, one after the other: `+` where the store was taken, `-` where it was given back, `?N` where the row with the number was
+    /// found, `.` where none was, `xN` where it was taken out, `!` where that was refused.
+    pub fn trace(&self) -> &[u8] {
+        self.trace.as_slice()
+    }
+
+    fn take(&mut self) {
+        if !self.is_had {
+            self.note(b"+", None);
+        }
+        self.is_had = true;
+    }
+
+    fn hand_back(&mut self) {
+        if self.is_had {
+            self.note(b"-", None);
+        }
+        self.is_had = false;
+        self.since = None;
+    }
+
+    fn note(&mut self, mark: &[u8], id: Option<u64>) {
+        let _ = self.trace.extend_from_slice(mark);
+        if let Some(id) = id {
+            let _ = octets::write_decimal(&mut self.trace, id);
+        }
+    }
+
+    // Somebody who waited adds a row.
+    fn add(&mut self) {
+        if let Ok(row) = row_of_other(self.alloc, self.rows.len()) {
+            let _ = self.push(row);
+        }
+    }
+
+    fn is_awaited(&mut self) -> bool {
+        let looks = self.looks;
+        self.looks = looks.and_then(|left| left.checked_sub(1));
+        looks == Some(0)
+    }
+
+    fn find(&self, user: &[u8], id: u64) -> Result<Option<Row>, AllocError> {
+        for (row, gone) in self.rows.as_slice().iter().zip(self.gone.as_slice()) {
+            if !*gone && comes_after(row, user, id) {
+                return Ok(Some(copy_of(self.alloc, row)?));
+            }
+        }
+        Ok(None)
     }
 
     /// The numbers of the rows that are left, a blank before each.
@@ -48,20 +113,26 @@ impl Queue for MemoryQueue {
     ghost shows = { λ queue rows. ⊥ };
 
     fn next(&mut self, user: &[u8], id: u64) -> Result<Option<Row>, Unavailable> {
-        for (row, gone) in self.rows.as_slice().iter().zip(self.gone.as_slice()) {
-            if !*gone && comes_after(row, user, id) {
-                return match copy_of(self.alloc, row) {
-                    Ok(copy) => Ok(Some(copy)),
-                    Err(_) => Err(Unavailable::Memory),
-                };
+        self.take();
+        match self.find(user, id) {
+            Ok(Some(row)) => {
+                self.note(b"?", Some(row.id));
+                Ok(Some(row))
             }
+            Ok(None) => {
+                self.note(b".", None);
+                Ok(None)
+            }
+            Err(_) => Err(Unavailable::Memory),
         }
-        Ok(None)
     }
 
     fn take_out(&mut self, user: &[u8], id: u64) -> Result<(), Unavailable> {
+        self.take();
         if let Some(left) = self.refusals.checked_sub(1) {
             self.refusals = left;
+            self.note(b"!", None);
+            self.hand_back();
             return Err(Unavailable::Store);
         }
         for (row, gone) in self.rows.as_slice().iter().zip(self.gone.iter_mut()) {
@@ -69,7 +140,29 @@ impl Queue for MemoryQueue {
                 *gone = true;
             }
         }
+        self.note(b"x", Some(id));
         Ok(())
+    }
+
+    fn give_way(&mut self, moment: u64) -> bool {
+        if !self.is_had {
+            return false;
+        }
+        if self.is_awaited() {
+            self.hand_back();
+            self.add();
+            return false;
+        }
+        let since = *self.since.get_or_insert(moment);
+        let is_long = moment.saturating_sub(since) >= MAX_HAD;
+        if is_long {
+            self.hand_back();
+        }
+        is_long
+    }
+
+    fn give_back(&mut self) {
+        self.hand_back();
     }
 }
 
@@ -85,5 +178,16 @@ fn copy_of(alloc: Global, row: &Row) -> Result<Row, AllocError> {
         sender: row.sender.try_clone(alloc)?,
         target: row.target.try_clone(alloc)?,
         message: row.message.try_clone(alloc)?,
+    })
+}
+
+// The row that somebody else adds behind so many others.
+fn row_of_other(alloc: Global, count: usize) -> Result<Row, AllocError> {
+    Ok(Row {
+        user: Octets::from_slice(alloc, b"u")?,
+        id: u64::try_from(count).unwrap_or(0).saturating_add(1),
+        sender: Octets::new(alloc),
+        target: Octets::from_slice(alloc, b"w@x")?,
+        message: Octets::from_slice(alloc, b"w\n")?,
     })
 }

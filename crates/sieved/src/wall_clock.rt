@@ -9,8 +9,8 @@ pub struct WallClock<'a> {
     rt: &'a HostRuntime,
     /// When it was made; none where there is no clock that never goes back.
     start: Option<Instant>,
-    /// How often it paused: what is told in place of such a clock.
-    pauses: u64,
+    /// How many milliseconds it paused: what is told in place of such a clock.
+    paused: u64,
 }
 
 impl<'a> WallClock<'a> {
@@ -18,7 +18,7 @@ impl<'a> WallClock<'a> {
         WallClock {
             rt,
             start: Instant::now(rt).ok(),
-            pauses: 0,
+            paused: 0,
         }
     }
 
@@ -42,21 +42,26 @@ impl Clock for WallClock<'_> {
     fn uptime(&mut self) -> u64 {
         match self.start {
             Some(start) => match start.elapsed(self.rt) {
-                Ok(span) => span.as_secs(),
-                Err(_) => self.pauses,
+                Ok(span) => milliseconds_of(span),
+                Err(_) => self.paused,
             },
-            None => self.pauses,
+            None => self.paused,
         }
     }
 
-    fn pause(&mut self) {
-        self.pauses = self.pauses.saturating_add(1);
+    fn pause(&mut self, milliseconds: u64) {
+        self.paused = self.paused.saturating_add(milliseconds);
         let Ok(mut poll) = Poll::new(self.rt) else {
             return;
         };
         let Ok(mut events) = Events::with_capacity(self.rt.alloc(), 1) else {
             return;
         };
-        let _ = poll.poll(&mut events, Some(Duration::from_secs(1)));
+        let _ = poll.poll(&mut events, Some(Duration::from_millis(milliseconds)));
     }
+}
+
+fn milliseconds_of(span: Duration) -> u64 {
+    let seconds = span.as_secs().saturating_mul(1_000);
+    seconds.saturating_add(u64::from(span.subsec_millis()))
 }
