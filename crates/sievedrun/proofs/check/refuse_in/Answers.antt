@@ -10,7 +10,7 @@ use Rattle.sievedrun.proofs.check.refuse_in.Goals as goal
 
 pub returns-in_default-clause-line : goal.returns-in_default-clause-line
 returns-in_default-clause-line g c =
-    subst (λ f. IsWritten (g.E.Write.contents c.args.errors.now) (g.E.Write.contents c.refuse-in_default.new.errors) (told_in (option_copied f) c.args.fault)) (sym c.in_default.is) c.refuse-in_default.ensures.line
+    subst (λ f. IsWritten (g.E.Write.contents c.args.errors.now) (g.E.Write.contents c.refuse.new.errors) (told_in (option_copied f) c.args.fault)) (sym c.in_default.is) c.refuse.ensures.line
 
 pub returns-then-is_too_large-clause-line : goal.returns-then-is_too_large-clause-line
 returns-then-is_too_large-clause-line g c =
@@ -20,5 +20,8 @@ returns-then-is_too_large-clause-line g c =
     (subst (λ f. IsWritten old new (told_in (Some c.in-Some.file.now) f)) (sym (c.is_too_large.ensures.yes c.if-is_too_large.true))
     (subst (λ t. IsWritten old new (with_end (t ++ codes ": script too large"))) c.as_bytes.ensures.value (written old new _ c.write_line.result c.write_line.ensures)))
 
-pub returns-else-is_too_large-clause-line : goal.returns-else-is_too_large-clause-line
-returns-else-is_too_large-clause-line g c = ?
+pub returns-clause-line : goal.returns-clause-line
+returns-clause-line g c =
+    let old = g.E.Write.contents c.args.errors.now in
+    let new = g.E.Write.contents c.refuse.new.errors in
+    subst (IsWritten old new) (sym (told_otherwise (option_copied c.args.file) c.args.fault (c.is_too_large.ensures.other c.if-is_too_large.false))) c.refuse.ensures.line
