@@ -6,7 +6,7 @@
 The words are run with --wait beside `sieved daemon`, which has the store. Prints a line for each trial, a last one that counts them, and
 ends with 1 where one failed. `tests/run` runs it. It needs python3 alone.
 """
-import base64, sqlite3, subprocess, sys
+import base64, os, sqlite3, subprocess, sys, tempfile
 import trials
 from managesieve import SIEVED, Store, connect, end
 
@@ -37,6 +37,12 @@ class Host:
         """Closes all accounts in the tables, as a move to another machine does, while the daemon serves."""
         waits = [part for name in ("wait", "lock") for part in ("flock", f"{self.store.file}.{name}")]
         subprocess.run([*waits, sys.executable, "-c", CLOSE, self.store.file], check=True)
+
+    def word_on_a_full_disk(self, word, *more, data=b""):
+        """The same where nothing of the output is taken."""
+        with open("/dev/full", "wb") as full:
+            done = subprocess.run([*self.store.words(word, "--wait"), *more], input=data, stdout=full, stderr=subprocess.PIPE)
+        return done.returncode, done.stderr.decode()
 
     def client(self, user, password=b"secret"):
         client = connect(self.port)
@@ -133,7 +139,88 @@ def closed():
     return "mail waits while it is closed; nothing is gone once it is open"
 
 
-TRIALS = {trial.__name__: trial for trial in (password, salts, address, closed, removal)}
+def scripts():
+    """A script that a word stores is there for a session, and one that a session stores for a word."""
+    with Host("alice", "bob") as host:
+        client = host.client("alice")
+        assert host.word("put", "alice", "m", data=b"discard;") == (0, "stored m\n")
+        assert client.ask(b"LISTSCRIPTS") == LISTED
+        assert client.put(b"a", b"keep;").startswith(b"OK")
+        assert host.word("scripts", "alice") == (0, '"a"\r\n"m"\r\n')
+        assert host.word("scripts", "alice", "a") == (0, "keep;")
+        assert host.word("scripts", "alice", "x") == (65, "sieved: no such script\n")
+        assert host.word("scripts", "bob") == (0, "") and host.word("scripts", "carol") == (67, "sieved: no such user\n")
+        assert host.word("put", "--activate", "alice", "m", data=b"discard;") == (0, "stored m\n")
+        assert client.ask(b"LISTSCRIPTS") == [b'"a"\r\n', b'"m" ACTIVE\r\n', b"OK\r\n"]
+        assert host.deliver("alice", "bob@example.net", "alice@example.org") == (0, "discard\n")
+        assert host.word("put", "alice", 'q"x', data=b"") == (0, 'stored q"x\n')
+        assert host.word("scripts", "alice") == (0, '"a"\r\n"m" ACTIVE\r\n"q\\"x"\r\n')
+    return "each sees what the other stored, and which script is active"
+
+
+def put_refused():
+    """What is refused, in PUTSCRIPT's order, leaves the scripts as they are."""
+    with Host("alice") as host:
+        assert host.word("put", "alice", "m", data=b"keep;\nfrob;") == (65, "line 2: unknown command\n")
+        assert host.word("put", "alice", "x" * 129, data=b"#" + b"x" * 262_144) == (65, "sieved: bad script name\n")
+        assert host.word("put", "alice", "m", data=b"#" + b"x" * 262_144) == (65, "sieved: script too large\n")
+        assert host.word("put", "alice", "m", data=b"#" + b"x" * 262_142 + b"\n") == (0, "stored m\n")
+        for number in range(31):
+            assert host.word("put", "alice", f"s{number}", data=b"keep;") == (0, f"stored s{number}\n")
+        assert host.word("put", "alice", "more", data=b"frob;") == (65, "sieved: too many scripts\n")
+        assert host.word("put", "carol", "m", data=b"keep;") == (67, "sieved: no such user\n")
+        assert host.word_on_a_full_disk("put", "alice", "m", data=b"stop;") == (75, "sieved: input or output failed\n")
+        assert host.word("scripts", "alice", "m") == (0, "stop;"), "it was stored, and its answer not written"
+    return "bad name, too large, too many, not valid"
+
+
+def notices():
+    """Notices are gone only once they are written."""
+    with Host("alice") as host:
+        assert host.word("put", "--activate", "alice", "m", data=b'require "vacation"; vacation "a"; vacation "b";') == (0, "stored m\n")
+        for moment in 5, 9, 7:
+            told = subprocess.run([*host.store.words("deliver", "--wait"), "--to", "alice@example.org", "--at", str(moment), "alice"],
+                                  input=b"To: alice@example.org\r\n\r\nx\r\n", capture_output=True).stdout
+            assert told == b"file INBOX\nnotice vacation executed twice\n", told
+        line = "{} vacation executed twice\n".format
+        assert host.word_on_a_full_disk("notices", "--until", "9", "alice") == (75, "sieved: input or output failed\n")
+        assert host.word("notices", "alice") == (0, line(5) + line(9) + line(7))
+        assert host.word("notices", "--until", "7", "alice") == (0, line(5) + line(7))
+        assert host.word("notices", "alice") == (0, line(9))
+        assert host.word("notices", "--until", "8", "alice") == (0, "")
+        assert host.word("notices", "--until", "x", "alice") == (64, "sieved: bad argument\n")
+        assert host.word("notices", "--until", str(2 ** 63 - 1), "alice") == (0, line(9))
+        assert host.word("notices", "alice") == (0, "")
+    return "a full disk takes none; those up to a moment go, and the others stay"
+
+
+def check():
+    """Scripts are checked in files and on standard input, without a store."""
+    with tempfile.TemporaryDirectory() as folder:
+        def checked(*files, data=b"", out=subprocess.PIPE):
+            done = subprocess.run([PROGRAM[0], "check", *files], input=data, stdout=out, stderr=subprocess.PIPE, cwd=folder)
+            return done.returncode, (done.stdout or b"").decode(), done.stderr.decode()
+
+        for name, text in {"good": b"keep;", "bad": b"keep;\nfrob;", "none": b"", "fits": b"#" + b"x" * 262_142 + b"\n", "large": b"#" + b"x" * 262_143 + b"\n"}.items():
+            with open(f"{folder}/{name}", "wb") as file:
+                file.write(text)
+        os.mkdir(f"{folder}/folder")
+        assert checked(data=b"keep;") == (0, "", "") and checked() == (0, "", "")
+        assert checked(data=b"keep;\nfrob;") == (65, "line 2: unknown command\n", "")
+        assert checked(data=b"#" + b"x" * 262_144) == (65, "", "sieved: script too large\n")
+        assert checked("good", "none", "fits", data=b"frob;") == (0, "", "")
+        assert checked("bad") == (65, "bad:2: unknown command\n", "")
+        assert checked("good", "bad", "large", "bad") == (65, "bad:2: unknown command\n" * 2, "large: script too large\n")
+        assert checked("absent", "bad", "good") == (75, "bad:2: unknown command\n", "absent: no such file\n")
+        assert checked("folder") == (75, "", "folder: is a directory\n")
+        assert checked(*["bad"] * 300, "good") == (65, "bad:2: unknown command\n" * 300, "")
+        with open("/dev/full", "wb") as full:
+            assert checked("bad", out=full) == (75, "", "sieved: input or output failed\n")
+        assert checked("--frob")[0] == 64
+    return "lines for those that are wrong, and the worst status"
+
+
+TRIALS = {trial.__name__: trial for trial in (password, salts, address, closed, removal, scripts, put_refused, notices, check)}
 
 if __name__ == "__main__":
     trials.main(TRIALS, lambda program: PROGRAM.__setitem__(0, program))

@@ -2,7 +2,9 @@
 use casefiles::words_of;
 use clap::Error;
 use octets::Octets;
-use sievedwords::{CommandLine, Drain, Folders, ReadError, StoreLocation, Subcommand, read};
+use sievedwords::{
+    CommandLine, Drain, Folders, Notices, ReadError, StoreLocation, Subcommand, read, read_files,
+};
 use std::alloc::{AllocError, Global};
 use std::format;
 
@@ -10,10 +12,21 @@ use std::format;
 pub fn add_asked(alloc: Global, out: &mut Octets, words: &[u8]) -> Result<(), AllocError> {
     let words = CommandLine::new(alloc, words_of(alloc, words, "F")?)?;
     match read(alloc, &words) {
+        Ok(Subcommand::Check(_)) => add_files(alloc, out, &words),
         Ok(asked) => add(out, asked),
         Err(ReadError::Said(error)) => add_error(alloc, out, &error),
         Err(ReadError::Unknown) => out.extend_from_slice(b"no such word"),
         Err(ReadError::NotText) => out.extend_from_slice(b"a word that is no text"),
+    }
+}
+
+/// Appends the files that are to be checked.
+fn add_files(alloc: Global, out: &mut Octets, words: &CommandLine) -> Result<(), AllocError> {
+    add_text(out, b"check")?;
+    match read_files(alloc, words) {
+        Ok(files) => add_texts(out, &files),
+        Err(ReadError::Said(error)) => add_error(alloc, out, &error),
+        Err(_) => out.extend_from_slice(b"no files"),
     }
 }
 
@@ -52,6 +65,21 @@ fn add(out: &mut Octets, asked: Subcommand<'_>) -> Result<(), AllocError> {
             asked.location,
             &[asked.user, asked.address],
         ),
+        Subcommand::Scripts(asked) => add_at(
+            out,
+            "scripts",
+            asked.location,
+            &[asked.user, asked.script.unwrap_or("no script")],
+        ),
+        Subcommand::Put(asked) => {
+            let activate = if asked.activate { "activate" } else { "" };
+            add_at(
+                out,
+                "put",
+                asked.location,
+                &[activate, asked.user, asked.script],
+            )
+        }
         Subcommand::Remove(asked) => {
             let mail = if asked.mail { "mail" } else { "" };
             add_at(out, "remove", asked.location, &[mail, asked.user])
@@ -76,7 +104,7 @@ fn add(out: &mut Octets, asked: Subcommand<'_>) -> Result<(), AllocError> {
             &[asked.user, asked.id.unwrap_or("no number")],
         ),
         Subcommand::Done(asked) => add_at(out, "done", asked.location, &[asked.user, asked.id]),
-        Subcommand::Notices(asked) => add_at(out, "notices", asked.location, &[asked.user]),
+        Subcommand::Notices(asked) => add_notices(out, asked),
         Subcommand::Drain(asked) => add_drain(out, asked),
         Subcommand::Send(asked) => {
             let host = asked.host.unwrap_or("no host");
@@ -119,6 +147,14 @@ fn add(out: &mut Octets, asked: Subcommand<'_>) -> Result<(), AllocError> {
                 ],
             )
         }
+        Subcommand::Check(asked) => add_texts(out, &["check", asked.file.unwrap_or("no file")]),
+    }
+}
+
+fn add_notices(out: &mut Octets, asked: Notices<'_>) -> Result<(), AllocError> {
+    match asked.until {
+        None => add_at(out, "notices", asked.location, &[asked.user]),
+        Some(until) => add_at(out, "notices", asked.location, &[until, asked.user]),
     }
 }
 

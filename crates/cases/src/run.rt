@@ -21,7 +21,7 @@ pub const CLOCK: Option<u64> = Some(1_700_000_000);
 const RANDOM: Option<[u8; 16]> = Some(*b"0123456789abcdef");
 
 /// What a run may tell, those too that no case can bring about.
-const FAULTS: [Fault; 22] = [
+const FAULTS: [Fault; 24] = [
     Fault::Refused(Refusal::Memory),
     Fault::Refused(Refusal::Store),
     Fault::Busy,
@@ -42,6 +42,8 @@ const FAULTS: [Fault; 22] = [
     Fault::Refused(Refusal::TooManyScripts),
     Fault::NoMessage,
     Fault::NoMaildir,
+    Fault::NoScript,
+    Fault::Invalid,
     Fault::BadInput,
     Fault::BadArgument,
 ];
@@ -153,7 +155,7 @@ fn add_messages(out: &mut Octets, messages: &[KeptMail]) -> Result<(), AllocErro
     Ok(())
 }
 
-/// Appends what comes of a row that any keeper can have: `run`, `full`, `timeless` and `said` are runs of the program, `send` is a
+/// Appends what comes of a row that any keeper can have: `run`, `full`, `write N`, `timeless` and `said` are runs of the program, `send` is a
 /// command, and `greet`, `talk`, `gone` and `deaf` are sessions.
 pub fn answer<K: Keeper, T: MailSink>(
     alloc: Global,
@@ -180,9 +182,29 @@ pub fn answer<K: Keeper, T: MailSink>(
             };
             add_run(alloc, out, keeper, sink, run)
         }
+        call if call.starts_with("write ") => {
+            let run = Run {
+                path,
+                words,
+                input,
+                writes: writes_in(call),
+                clock: CLOCK,
+                random: RANDOM,
+                shows_words: false,
+            };
+            add_run(alloc, out, keeper, sink, run)
+        }
         "told" => add_told(alloc, out, text_in(words)),
         "send" => talk::add_sent(alloc, out, keeper, path, input),
         call => talk::answer(alloc, out, keeper, path, call, words, input),
+    }
+}
+
+/// From which call of the output on a row `write N` has it fail.
+fn writes_in(call: &str) -> u64 {
+    match call.strip_prefix("write ") {
+        Some(number) => parse_decimal(number.as_bytes()).unwrap_or(0),
+        None => 0,
     }
 }
 

@@ -2,6 +2,7 @@
 //! sessions from the command line.
 #![tactic(auto)]
 
+mod check;
 mod daemon;
 mod listener;
 mod listening;
@@ -9,6 +10,7 @@ mod run_file;
 mod send;
 mod wall_clock;
 
+use check::check;
 use clap::error::ErrorKind;
 use daemon::serve_many;
 use keepers::{FileKeeper, Keeper};
@@ -93,6 +95,9 @@ where
         Ok(Some(Subcommand::Daemon(asked))) => serve_many(
             net, alloc, asked, &*input, output, errors, keeper, sink,
         ),
+        Ok(Some(Subcommand::Check(_))) => {
+            check(net, alloc, words, input, output, &mut errors)
+        }
         _ => drive(
             alloc,
             words,
@@ -119,12 +124,12 @@ fn sending<'a>(alloc: Global, words: &'a CommandLine) -> Result<Option<Send<'a>>
     }
 }
 
-/// What the words ask for, where the first is `serve`, `session` or `daemon` and the others are right.
+/// What the words ask for, where the first is `serve`, `session`, `daemon` or `check` and the others are right.
 fn server_subcommand<'a>(
     alloc: Global,
     words: &'a CommandLine,
 ) -> Result<Option<Subcommand<'a>>, AllocError> {
-    if !matches!(words.first(), Some("serve" | "session" | "daemon")) {
+    if !matches!(words.first(), Some("serve" | "session" | "daemon" | "check")) {
         return Ok(None);
     }
     match read(alloc, words) {

@@ -1,14 +1,17 @@
+mod CheckLemmas
 mod DrainExamples
 mod DrainLemmas
 pub mod FramingLemmas
 mod LeaveLemmas
 mod MoveLemmas
+mod PutLemmas
 mod ReportLemmas
 mod WordExamples
 mod WordLemmas
 mod ServingLemmas
 mod StatusLemmas
 mod StreamExamples
+mod TakeLemmas
 mod RunLemmas
 pub mod StreamLemmas
 pub mod Examples

@@ -9,7 +9,7 @@ use Rattle.sievedwords.specs.declared.location.StoreLocation.{StoreLocation}
 use Rattle.sievedwords.specs.declared.subcommand.Subcommand.{Subcommand}
 use Rattle.sievedwords.specs.declared.subcommand.Subcommand.TheVariants as word
 use Rattle.sievedrun.specs.declared.fault.Fault.{Fault}
-use Rattle.sievedrun.specs.declared.fault.Fault.TheVariants.{Refused}
+use Rattle.sievedrun.specs.declared.fault.Fault.TheVariants.{Refused, Invalid}
 use Rattle.sievedrun.specs.Faults.{store_failed, told_of, troubles, AreTold}
 use Rattle.sievedrun.specs.Streams.{IsWritten}
 use Rattle.sievedrun.specs.Words.{Does, Reaches, Works, RunsAs}
@@ -29,15 +29,22 @@ module _ (cause : Fault → Option (List ℕ)) (old mid new : Option (List ℕ))
   told_done None some none = none refl
   told_done (Some why) some none = (new, some, refl)
 
+  -- and no more of a script that isn't valid
+  pub told_invalid : (unclosed : Option Refusal) → IfSome unclosed (λ why. IsWritten old new (told_of cause (Refused why))) → (unclosed ≡ None → new ≡ old) → AreTold old new cause (troubles unclosed (Err Invalid))
+  told_invalid None some none = none refl
+  told_invalid (Some why) some none = (new, some, refl)
+
   -- the store failed, and that is all
   pub told_failed : (unclosed : Option Refusal) → IsWritten old new (told_of cause store_failed) → AreTold old new cause (troubles unclosed (Err store_failed))
   told_failed None told = (new, told, refl)
   told_failed (Some why) told = (new, told, refl)
 
   -- after another fault that too
-  pub told_fault : (unclosed : Option Refusal) (fault : Fault) → (fault ≡ store_failed → ⊥) → IfSome unclosed (λ why. IsWritten old mid (told_of cause (Refused why))) → (unclosed ≡ None → mid ≡ old) → IsWritten mid new (told_of cause fault)
+  pub told_fault : (unclosed : Option Refusal) (fault : Fault) → (fault ≡ store_failed → ⊥) → (fault ≡ Invalid → ⊥) → IfSome unclosed (λ why. IsWritten old mid (told_of cause (Refused why))) → (unclosed ≡ None → mid ≡ old) → IsWritten mid new (told_of cause fault)
       → AreTold old new cause (troubles unclosed (Err fault))
-  told_fault None (Refused refusal.Store) other some none told = absurd (other refl)
-  told_fault (Some why) (Refused refusal.Store) other some none told = absurd (other refl)
-  told_fault None fault other some none told = (new, subst (λ o. IsWritten o new (told_of cause fault)) (none refl) told, refl)
-  told_fault (Some why) fault other some none told = (mid, some, (new, told, refl))
+  told_fault None (Refused refusal.Store) other valid some none told = absurd (other refl)
+  told_fault (Some why) (Refused refusal.Store) other valid some none told = absurd (other refl)
+  told_fault None Invalid other valid some none told = absurd (valid refl)
+  told_fault (Some why) Invalid other valid some none told = absurd (valid refl)
+  told_fault None fault other valid some none told = (new, subst (λ o. IsWritten o new (told_of cause fault)) (none refl) told, refl)
+  told_fault (Some why) fault other valid some none told = (mid, some, (new, told, refl))

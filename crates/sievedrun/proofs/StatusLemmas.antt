@@ -2,7 +2,7 @@
 use Rattle.std.proofs.Common.{◌≡◌, ◌<◌, lit<, Result, Ok, Err, OnOk, arith}
 use Rattle.mailstore.specs.declared.refusal.Refusal.TheVariants as refusal
 use Rattle.sievedrun.specs.declared.fault.Fault.{Fault}
-use Rattle.sievedrun.specs.declared.fault.Fault.TheVariants.{Refused, Busy, Stream, NoMessage, NoMaildir, BadInput, BadArgument}
+use Rattle.sievedrun.specs.declared.fault.Fault.TheVariants.{Refused, Busy, Stream, NoMessage, NoMaildir, NoScript, Invalid, BadInput, BadArgument}
 use Rattle.sievedrun.specs.Faults.{status_of}
 use Rattle.sievedrun.specs.Promise.{status_after}
 
@@ -28,6 +28,8 @@ status_some Busy = lit< tt
 status_some Stream = lit< tt
 status_some NoMessage = lit< tt
 status_some NoMaildir = lit< tt
+status_some NoScript = lit< tt
+status_some Invalid = lit< tt
 status_some BadInput = lit< tt
 status_some BadArgument = lit< tt
 

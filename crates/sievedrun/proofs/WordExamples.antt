@@ -1,5 +1,5 @@
 -- What words do, by example: right ones, and near misses.
-use Rattle.std.proofs.Common.{◌≡◌, ◌==◌, ◌<◌, ℕ, suc, cond, true, List, [], ◌∷◌, Option, Some, None, Ok, Err, refl, sym, ◌∙◌, ap, subst, inl, inr, codes, get_or, arith}
+use Rattle.std.proofs.Common.{◌≡◌, ◌==◌, ◌<◌, ℕ, suc, cond, true, false, List, [], ◌∷◌, Option, Some, None, Ok, Err, refl, sym, ◌∙◌, ap, subst, inl, inr, codes, get_or, arith}
 use Prim.Native.Nat.{zero}
 use Rattle.hex.specs.Hex.{decode_pairs}
 use Rattle.octets.specs.Ascii.{is_digit}
@@ -13,14 +13,16 @@ use Rattle.mailstore.specs.declared.refusal.Refusal.{Refusal}
 use Rattle.mailstore.specs.declared.refusal.Refusal.TheVariants.{Memory}
 use Rattle.mailengine.specs.declared.answer.Answer.TheVariants as answer
 use Rattle.mailengine.specs.declared.event.Event.TheVariants.{Deliver, AddUser, TakeOut, Keep}
-use Rattle.mailengine.specs.declared.upkeep.Upkeep.TheVariants.{SetPassword, SetAddress}
-use Rattle.sievedrun.specs.declared.fault.Fault.TheVariants.{Refused, Stream, NoMessage, NoMaildir, Busy}
+use Rattle.mailengine.specs.declared.upkeep.Upkeep.TheVariants.{SetPassword, SetAddress, StoreScript}
+use Rattle.mailstore.specs.declared.notice.Notice.{Notice}
+use Rattle.sievelex.specs.declared.fault.ScriptFault.{ScriptFault}
+use Rattle.sievedrun.specs.declared.fault.Fault.TheVariants.{Refused, Stream, NoMessage, NoMaildir, Invalid, Busy}
 use Rattle.sievedrun.specs.Draining.{IsUnkept, StopsDraining}
 use Rattle.sievedrun.specs.Faults.{memory, no_user, store_failed, cause_of, told_of, troubles, IsHindered}
 use Rattle.sievedrun.specs.Streams.{IsWritten, WriteFailed}
 use Rattle.sievedrun.specs.declared.fault.Fault.{Fault}
 use Rattle.sievedrun.specs.Values.{WritesSalt, IsSalt, IsMoment, IsSeparator, envelope_with}
-use Rattle.sievedrun.specs.Words.{Adds, Guards, IsDoneBy, said_of, DeniedAtEnd, Posts, Dequeues, Tells, HasMessage, ShowsOutgoing}
+use Rattle.sievedrun.specs.Words.{Adds, Guards, IsDoneBy, IsStoredBy, Offered, said_of, DeniedAtEnd, Posts, Dequeues, Tells, TellsInvalid, HasMessage, ShowsOutgoing, notices_until}
 
 -- ---- values
 
@@ -107,6 +109,38 @@ changed-told = refl
 -- near miss: a refusal of the machine
 refused-done : IsDoneBy (answer.Refused Memory) (Ok tt) → ⊥
 refused-done h = cc
+
+-- all that was read is the script's text, and near misses: another name; the active script, where that isn't asked for
+offered : Offered alice (codes "m") false (Some (codes "keep;")) (Keep alice (StoreScript (codes "m") (codes "keep;") false))
+offered = record { text = codes "keep;"; read = refl; same = refl }
+
+offered-other : (text : List ℕ) → Offered alice (codes "m") false (Some text) (Keep alice (StoreScript alice text false)) → ⊥
+offered-other text h = let e = h.same in cc
+
+offered-active : (text : List ℕ) → Offered alice (codes "m") false (Some text) (Keep alice (StoreScript (codes "m") text true)) → ⊥
+offered-active text h = let e = h.same in cc
+
+stored-told : Tells (Keep alice (StoreScript (codes "m") [] false)) answer.Stored (codes "stored m\n")
+stored-told = refl
+
+-- near misses: no script, told as stored; and without a fault
+stored-invalid : (fault : ScriptFault) → IsStoredBy (answer.Invalid fault) (Ok None) → ⊥
+stored-invalid fault h = cc
+
+invalid-done : (fault : ScriptFault) (old new : Option (List ℕ)) → TellsInvalid fault old new (Ok tt) → ⊥
+invalid-done fault old new h = h
+
+-- notices up to a moment, at it too; near miss: those before it alone
+notice-at : ℕ → Notice
+notice-at moment = record { moment = moment; text = [] }
+
+notices-early : notices_until 5 (notice-at 6 ∷ notice-at 5 ∷ notice-at 4 ∷ []) ≡ notice-at 5 ∷ notice-at 4 ∷ []
+unfolding notice-at
+notices-early = refl
+
+notices-before : notices_until 5 (notice-at 5 ∷ []) ≡ [] → ⊥
+unfolding notice-at
+notices-before h = cc
 
 -- near miss: name and address swapped
 added-swapped : (password : List ℕ) → Adds (Some digits) None alice home (Some (codes "secret\nmore")) (AddUser home alice salt password) → ⊥
@@ -262,6 +296,13 @@ unknown-told = inl refl
 busy-untold : IsWritten (Some []) (Some []) (told_of causes Busy) → WriteFailed (Some [])
 busy-untold (inl more) = let no = more in cc
 busy-untold (inr cut) = cut.1
+
+-- a script that isn't valid is told on the output alone; near miss: so is a store that is busy
+invalid-untold : troubles None (Err Invalid) ≡ []
+invalid-untold = refl
+
+busy-silent : troubles None (Err Busy) ≡ [] → ⊥
+busy-silent h = cc
 
 -- why the store couldn't be closed comes before why there is no answer, and where the store failed that tells of both
 both-troubles : troubles (Some Memory) (Err Busy) ≡ Refused Memory ∷ Busy ∷ []

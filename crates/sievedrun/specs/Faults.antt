@@ -11,7 +11,7 @@ use Rattle.mailsinks.specs.declared.sink.SinkError.{SinkError}
 use Rattle.mailsinks.specs.declared.sink.SinkError.TheVariants as sink
 use Rattle.sievedrun.specs.Streams.{InputFailed, OutputFailed, IsCut, IsWritten, WasFlushed}
 use Rattle.sievedrun.specs.declared.fault.Fault.{Fault}
-use Rattle.sievedrun.specs.declared.fault.Fault.TheVariants.{Refused, Busy, Stream, NoMessage, NoMaildir, BadInput, BadArgument}
+use Rattle.sievedrun.specs.declared.fault.Fault.TheVariants.{Refused, Busy, Stream, NoMessage, NoMaildir, NoScript, Invalid, BadInput, BadArgument}
 
 -- the exit status of a fault (sysexits.h): wrong use, wrong data, no such user, try again
 abbrev pub status_of : Fault → ℕ
@@ -35,6 +35,8 @@ status_of Busy = 75
 status_of Stream = 75
 status_of NoMessage = 65
 status_of NoMaildir = 65
+status_of NoScript = 65
+status_of Invalid = 65
 status_of BadInput = 65
 status_of BadArgument = 64
 
@@ -60,6 +62,8 @@ text_of Busy = codes "busy"
 text_of Stream = codes "input or output failed"
 text_of NoMessage = codes "no such message"
 text_of NoMaildir = codes "no such Maildir"
+text_of NoScript = codes "no such script"
+text_of Invalid = codes "not valid"
 text_of BadInput = codes "bad input"
 text_of BadArgument = codes "bad argument"
 
@@ -124,11 +128,14 @@ abbrev pub IsPrinted : Result (Unit {0}) Fault → Option (List ℕ) → Option 
 IsPrinted (Ok done) old new text = Appends old new text × WasFlushed new
 IsPrinted (Err fault) old new text = (fault ≡ Stream) × IsCut old new text
 
--- what is told at the end: why the store couldn't be closed, and why there is no answer; that a call was refused since the store failed tells of both
+-- what is told at the end: why the store couldn't be closed, and why there is no answer; that a call was refused since the store failed tells of both; that a
+-- script isn't valid is told on the output alone
 abbrev pub troubles : Option Refusal → Result (Unit {0}) Fault → List Fault
 troubles None (Ok done) = []
 troubles (Some refusal) (Ok done) = Refused refusal ∷ []
 troubles unclosed (Err (Refused refusal.Store)) = store_failed ∷ []
+troubles None (Err Invalid) = []
+troubles (Some refusal) (Err Invalid) = Refused refusal ∷ []
 troubles None (Err fault) = fault ∷ []
 troubles (Some refusal) (Err fault) = Refused refusal ∷ fault ∷ []
 

@@ -1,3 +1,4 @@
+pub mod Checks
 pub mod Draining
 pub mod Faults
 pub mod Framing

@@ -24,6 +24,10 @@ WritesSalt digits salt = decode_sized digits 16 ≡ Ok salt
 abbrev pub IsNoPort : List ℕ → Type 0
 IsNoPort digits = (port : ℕ) → port < 65536 → Writes digits port → ⊥
 
+-- these digits write no moment that the database can have, in seconds since 1970
+abbrev pub IsNoUntil : List ℕ → Type 0
+IsNoUntil digits = (until : ℕ) → until < 2 ^ 63 → Writes digits until → ⊥
+
 -- no salt is written so
 abbrev pub IsNoSalt : List ℕ → Type 0
 IsNoSalt digits = (salt : List ℕ) → WritesSalt digits salt → ⊥

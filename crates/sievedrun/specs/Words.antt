@@ -1,13 +1,14 @@
 -- What a word of the command line does: what becomes of the accounts, what is printed, and why it is refused.
 use Prim.Native.Nat.{zero}
-use Rattle.std.specs.Prelude.{◌≡◌, ◌≢◌, ◌⊎◌, ℕ, suc, Bool, true, false, List, ◌++◌, codes, decimal, map, slice_get, Option, Some, None, option_copied, Result, Ok, Err, OnOk}
-use Rattle.std.specs.FinMap.{entries}
+use Rattle.std.specs.Prelude.{◌≡◌, ◌≢◌, ◌⊎◌, ℕ, suc, Bool, true, false, List, [], ◌++◌, codes, decimal, filter, map, nat_le, slice_get, IsTrue, Option, Some, None, option_copied, Result, Ok, Err, OnOk}
+use Rattle.std.specs.FinMap.{entries, get, keys}
 use Rattle.std.specs.Io.KnownBytes.{IsAtEnd, Keeps}
 use Rattle.std.specs.List.{flat_map}
 use Rattle.octets.specs.Decimal.{Writes}
 use Rattle.maildirs.specs.Directory.{directory}
 use Rattle.maildirs.specs.declared.separator.Separator.{Separator}
 use Rattle.sqlite.specs.Effect.{Database}
+use Rattle.sqlite.specs.State.{State, HasCleanDisk}
 use Rattle.mailsinks.specs.declared.kept.KeptMail.{KeptMail}
 use Rattle.mailsinks.specs.declared.sink.SinkError.{SinkError}
 use Rattle.mailstore.specs.Account.{Account, Accounts, no_accounts, messages_in, row_with}
@@ -25,6 +26,11 @@ use Rattle.mailengine.specs.declared.event.Event.{Event}
 use Rattle.mailengine.specs.declared.event.Event.TheVariants.{Deliver, AddUser, TakeOut, Keep}
 use Rattle.mailengine.specs.declared.upkeep.Upkeep.{Upkeep}
 use Rattle.mailengine.specs.declared.upkeep.Upkeep.TheVariants as upkeep
+use Rattle.mailstore.specs.declared.notice.Notice.{Notice}
+use Rattle.msproto.specs.Replies.{lines_spelled}
+use Rattle.sessions.specs.Scripts.{script_lines}
+use Rattle.sievelex.specs.Faults.{fault_line}
+use Rattle.sievelex.specs.declared.fault.ScriptFault.{ScriptFault}
 use Rattle.reportlines.specs.Listings.{queue_listing, notice_listing}
 use Rattle.reportlines.specs.Reports.{with_end, delivery_report}
 use Rattle.clap.specs.Words.{kind_of}
@@ -38,13 +44,13 @@ use Rattle.sievedwords.specs.declared.reading.ReadError.TheVariants.{Said, NotTe
 use Rattle.sievedwords.specs.declared.subcommand.Subcommand.{Subcommand}
 use Rattle.sievedwords.specs.declared.subcommand.Subcommand.TheVariants as word
 use Rattle.sievedrun.specs.Draining.{StaysAsItWas, TurnsTables, HasDrained}
-use Rattle.sievedrun.specs.Faults.{memory, no_user, status_of, line_of, troubles, AreTold, IsHindered, IsPrinted}
+use Rattle.sievedrun.specs.Faults.{memory, no_user, status_of, line_of, troubles, AreTold, IsSudden, IsHindered, IsPrinted}
 use Rattle.sievedrun.specs.Promise.{first_line, world_of, status_after}
 use Rattle.sievedrun.specs.Streams.{ReadsAll, AppendsSome, InputFailed, IsWritten}
 use Rattle.sievedrun.specs.TryScript.{Runs}
-use Rattle.sievedrun.specs.Values.{IsNoNumber, HasNoNumber, IsSalt, HasNoSalt, IsMoment, IsSeparator, HasNoSeparator, envelope_with}
+use Rattle.sievedrun.specs.Values.{IsNoNumber, HasNoNumber, IsNoUntil, IsSalt, HasNoSalt, IsMoment, IsSeparator, HasNoSeparator, envelope_with}
 use Rattle.sievedrun.specs.declared.fault.Fault.{Fault}
-use Rattle.sievedrun.specs.declared.fault.Fault.TheVariants.{Refused, NoMessage, BadArgument}
+use Rattle.sievedrun.specs.declared.fault.Fault.TheVariants.{Refused, NoMessage, NoScript, Invalid, BadArgument}
 
 -- ---- how a word ends, whatever it does
 
@@ -115,6 +121,23 @@ pub record Posts (from to : List ℕ) (at : Option (List ℕ)) (user : List ℕ)
   pub dated : IsMoment at clock moment
   pub same : event ≡ Deliver user (envelope_with from to) message moment
 
+-- `put`: all that was read is the text of the user's script with this name
+pub record Offered (user name : List ℕ) (activate : Bool) (given : Option (List ℕ)) (event : Event) : Type 0 where
+  pub text : List ℕ
+  pub read : ReadsAll given text
+  pub same : event ≡ Keep user (upkeep.StoreScript name text activate)
+
+-- it was stored, or is no script, or the machine's refusal is the fault
+abbrev pub IsStoredBy : Answer → Result (Option ScriptFault) Fault → Type 0
+IsStoredBy (answer.Refused refusal) result = result ≡ Err (Refused refusal)
+IsStoredBy (answer.Invalid fault) result = result ≡ Ok (Some fault)
+IsStoredBy other result = result ≡ Ok None
+
+-- the name of the script that is stored
+abbrev pub script_of : Upkeep → List ℕ
+script_of (upkeep.StoreScript name text activate) = name
+script_of other = []
+
 -- `done`: the message with the number that these digits write leaves the user's queue
 pub record Dequeues (user digits : List ℕ) (event : Event) : Type 0 where
   pub id : ℕ
@@ -127,6 +150,7 @@ Tells (AddUser name address salt password) answer.Added text = text ≡ with_end
 Tells (Deliver user envelope message moment) (answer.Delivered report) text = text ≡ delivery_report report
 Tells (TakeOut user id) (answer.Taken row) text = text ≡ with_end (codes "taken " ++ decimal id)
 Tells (Keep user upkeep) answer.Changed text = text ≡ with_end (codes "changed " ++ user)
+Tells (Keep user upkeep) answer.Stored text = text ≡ with_end (codes "stored " ++ script_of upkeep)
 Tells (Keep user upkeep) answer.Opened text = text ≡ with_end (codes "opened " ++ user)
 Tells (Keep user upkeep) answer.Removed text = text ≡ with_end (codes "removed " ++ user)
 Tells event answer text = ⊥
@@ -156,6 +180,42 @@ Puts Denied event told (Err fault) accounts later = (later ≡ accounts) × (IsH
 -- the word over tables: an event of its own
 abbrev pub DoesEvent : Type 0 → Type 0 → (Fault → Type 0) → (Event → Type 0) → Option (List ℕ) → Option (List ℕ) → Result (Unit {0}) Fault → Database → Database → Type 0
 DoesEvent Broken Wrong Denied Own old new result = TurnsTables (Finishes (Makes Own) (λ fault accounts. IsHindered Broken Wrong Denied fault ⊎ RefusesEvent Own fault accounts) old new result)
+
+-- ---- `put`, whose text may be no script
+
+-- a script was put to the machine: it was stored; or its text is none, and no account changed; or it is refused, or the word was kept from it
+abbrev pub PutsScript : (Fault → Type 0) → List ℕ → Upkeep → Result (Option ScriptFault) Fault → Accounts → Accounts → Type 0
+PutsScript Denied user upkeep (Ok None) accounts later = Next (world_of accounts) (Keep user upkeep) answer.Stored (world_of later)
+PutsScript Denied user upkeep (Ok (Some fault)) accounts later = (later ≡ accounts) × Next (world_of accounts) (Keep user upkeep) (answer.Invalid fault) (world_of accounts)
+PutsScript Denied user upkeep (Err fault) accounts later = (later ≡ accounts) × (IsHindered ⊥ ⊥ Denied fault ⊎ RefusesEvent (λ e. e ≡ Keep user upkeep) fault accounts)
+
+-- the line on a script's fault is printed whole, and the word's fault is that the script isn't valid; or there was no memory for the line, or a write of it failed
+abbrev pub TellsInvalid : ScriptFault → Option (List ℕ) → Option (List ℕ) → Result (Unit {0}) Fault → Type 0
+TellsInvalid fault old new (Ok done) = ⊥
+TellsInvalid fault old new (Err told) =
+    ((told ≡ Invalid) × IsPrinted (Ok tt) old new (with_end (fault_line fault.line fault.kind)))
+    ⊎ ((told ≡ memory) × Keeps old new)
+    ⊎ IsPrinted (Err told) old new (with_end (fault_line fault.line fault.kind))
+
+-- what is told of a script: that it was stored, or what is wrong with it
+abbrev pub TellsVerdict : List ℕ → Option ScriptFault → Option (List ℕ) → Option (List ℕ) → Result (Unit {0}) Fault → Type 0
+TellsVerdict name None old new result = IsPrinted result old new (with_end (codes "stored " ++ name))
+TellsVerdict name (Some fault) old new result = TellsInvalid fault old new result
+
+-- the machine answers such an event that the text is no script, no account changes, and that is told
+pub record RefusesScript (Own : Event → Type 0) (old new : Option (List ℕ)) (result : Result (Unit {0}) Fault) (accounts later : Accounts) : Type 0 where
+  pub event : Event
+  pub own : Own event
+  pub fault : ScriptFault
+  pub next : Next (world_of accounts) event (answer.Invalid fault) (world_of accounts)
+  pub stays : later ≡ accounts
+  pub told : TellsInvalid fault old new result
+
+-- the word over tables
+abbrev pub DoesPut : (Fault → Type 0) → (Event → Type 0) → Option (List ℕ) → Option (List ℕ) → Result (Unit {0}) Fault → Database → Database → Type 0
+DoesPut Denied Own old new result =
+    TurnsTables (λ accounts later.
+    Finishes (Makes Own) (λ fault all. IsHindered InputFailed ⊥ Denied fault ⊎ RefusesEvent Own fault all) old new result accounts later ⊎ RefusesScript Own old new result accounts later)
 
 -- ---- words that only read
 
@@ -227,9 +287,65 @@ ShowsOutgoing digits a text = (id : ℕ) × (row : _) × Writes digits id × (ro
 abbrev pub LacksOutgoing : List ℕ → Fault → Account → Type 0
 LacksOutgoing digits fault a = (fault ≡ Refused NoRow) × ((id : ℕ) × Writes digits id × (row_with id a.queue ≡ None))
 
+-- `scripts`: the lines that LISTSCRIPTS has before its OK (RFC 5804, 2.7)
+abbrev pub ListsScripts : Account → List ℕ → Type 0
+ListsScripts a text = text ≡ lines_spelled (script_lines a.active (keys a.scripts))
+
+-- `scripts` with a name: the octets of that script
+abbrev pub ShowsScript : List ℕ → Account → List ℕ → Type 0
+ShowsScript name a text = get a.scripts name ≡ Some text
+
+-- and there is none
+abbrev pub LacksScript : List ℕ → Fault → Account → Type 0
+LacksScript name fault a = (fault ≡ NoScript) × (get a.scripts name ≡ None)
+
 -- nothing that is asked for can be missing
 abbrev pub LacksNothing : Fault → Account → Type 0
 LacksNothing fault a = ⊥
+
+-- ---- `notices`, which may take what it prints
+
+-- over a store that is open at the end: whatever accounts it showed, it then shows what became of them
+abbrev pub TurnsStore : (Accounts → Accounts → Type 0) → State → State → Type 0
+TurnsStore Became old new = HasCleanDisk new → IsTrue new.is_open → (accounts : Accounts) → Presents old.now accounts → (later : Accounts) × Became accounts later × Presents new.now later
+
+-- the notices up to a moment, in their order
+abbrev pub notices_until : ℕ → List Notice → List Notice
+notices_until until notices = filter (λ notice. nat_le notice.moment until) notices
+
+-- what is listed of them
+abbrev pub ListsUntil : ℕ → Account → List ℕ → Type 0
+ListsUntil until a text = text ≡ notice_listing (notices_until until a.notices)
+
+-- the event that takes them
+abbrev pub taking : List ℕ → ℕ → Event
+taking user until = Keep user (upkeep.TakeNotices until)
+
+-- none could be listed, and nothing is printed: memory was refused, the store failed, or there is no open account of the name
+abbrev pub IsUnlisted : List ℕ → Option (List ℕ) → Option (List ℕ) → Fault → Accounts → Type 0
+IsUnlisted user old new fault accounts = Keeps old new × (IsSudden ⊥ fault ⊎ ((fault ≡ no_user) × HasNoOpen user accounts))
+
+-- they are listed, and a write of that failed; or it is printed whole, and memory was refused, the store failed, or the machine refuses to take them
+abbrev pub IsUntaken : List ℕ → ℕ → Option (List ℕ) → Option (List ℕ) → Fault → Accounts → Type 0
+IsUntaken user until old new fault accounts =
+    (text : List ℕ) × OfOpen accounts user (λ a. ListsUntil until a text)
+    × (IsPrinted (Err fault) old new text ⊎ (IsPrinted (Ok tt) old new text × (IsSudden ⊥ fault ⊎ RefusesEvent (λ e. e ≡ taking user until) fault accounts)))
+
+-- after Ok they are printed whole and flushed, and were taken; after a fault none was
+abbrev pub TakesListed : List ℕ → ℕ → Option (List ℕ) → Option (List ℕ) → Result (Unit {0}) Fault → Accounts → Accounts → Type 0
+TakesListed user until old new (Ok done) accounts later =
+    (text : List ℕ) × OfOpen accounts user (λ a. ListsUntil until a text) × IsPrinted (Ok tt) old new text × Next (world_of accounts) (taking user until) answer.NoticesTaken (world_of later)
+TakesListed user until old new (Err fault) accounts later = (later ≡ accounts) × (IsUnlisted user old new fault accounts ⊎ IsUntaken user until old new fault accounts)
+
+-- the word was kept from it: nothing is printed, and no account changed
+abbrev pub IsKeptFrom : Type 0 → (Fault → Type 0) → Option (List ℕ) → Option (List ℕ) → Result (Unit {0}) Fault → Accounts → Accounts → Type 0
+IsKeptFrom Wrong Denied old new (Ok done) accounts later = ⊥
+IsKeptFrom Wrong Denied old new (Err fault) accounts later = IsHindered ⊥ Wrong Denied fault × (later ≡ accounts) × Keeps old new
+
+-- `notices --until` over tables: those up to the moment that these digits write
+abbrev pub TakesNotices : (Fault → Type 0) → Option (List ℕ) → Option (List ℕ) → List ℕ → List ℕ → Result (Unit {0}) Fault → Database → Database → Type 0
+TakesNotices Denied old new user digits result =
+    TurnsTables (λ accounts later. IsKeptFrom (IsNoUntil digits) Denied old new result accounts later ⊎ ((until : ℕ) × Writes digits until × TakesListed user until old new result accounts later))
 
 -- ---- `init`
 
@@ -256,6 +372,16 @@ abbrev pub DoesQueue : (Fault → Type 0) → Option (List ℕ) → Option (List
 DoesQueue Denied out_old out_new user None result = DoesRead ⊥ Denied user ListsQueue LacksNothing out_old out_new result
 DoesQueue Denied out_old out_new user (Some digits) result = DoesRead (IsNoNumber digits) Denied user (ShowsOutgoing digits) (LacksOutgoing digits) out_old out_new result
 
+-- `scripts`: all, or one of them
+abbrev pub DoesScripts : (Fault → Type 0) → Option (List ℕ) → Option (List ℕ) → List ℕ → Option (List ℕ) → Result (Unit {0}) Fault → Database → Database → Type 0
+DoesScripts Denied out_old out_new user None result = DoesRead ⊥ Denied user ListsScripts LacksNothing out_old out_new result
+DoesScripts Denied out_old out_new user (Some name) result = DoesRead ⊥ Denied user (ShowsScript name) (LacksScript name) out_old out_new result
+
+-- `notices`: all are listed; or those up to a moment are, and taken
+abbrev pub DoesNotices : (Fault → Type 0) → Option (List ℕ) → Option (List ℕ) → List ℕ → Option (List ℕ) → Result (Unit {0}) Fault → Database → Database → Type 0
+DoesNotices Denied out_old out_new user None result = DoesRead ⊥ Denied user ListsNotices LacksNothing out_old out_new result
+DoesNotices Denied out_old out_new user (Some digits) result = TakesNotices Denied out_old out_new user digits result
+
 -- what `deliver` reads broke: its input, or the clock, whose moment it takes where the words have none
 abbrev pub PostFailed : Option (List ℕ) → Option ℕ → Type 0
 PostFailed at clock = InputFailed ⊎ ((at ≡ None) × (clock ≡ None))
@@ -275,7 +401,7 @@ module _ (Denied : StoreLocation → Fault → Type 0) (Sunk : SinkError → Typ
   abbrev pub Idle : Type 0
   Idle = StaysAsItWas tells had has × (left ≡ given)
 
-  -- each word does its own work; only `init` makes a store, only `drain` moves messages into the sink, and only `adduser`, `passwd` and `deliver` read
+  -- each word does its own work; only `init` makes a store, only `drain` moves messages into the sink, and only `adduser`, `passwd`, `put` and `deliver` read
   abbrev pub Does : Subcommand → Result (Unit {0}) Fault → Database → Database → Type 0
   Does (word.Init a) result old new = Idle × DoesInit (Denied a.location) out_old out_new result old new
   Does (word.AddUser a) result old new =
@@ -284,6 +410,8 @@ module _ (Denied : StoreLocation → Fault → Type 0) (Sunk : SinkError → Typ
       StaysAsItWas tells had has
       × DoesEvent (SaltFailed (option_copied a.salt) random) (HasNoSalt (option_copied a.salt)) (DeniedAtEnd (Denied a.location) left) (Guards (option_copied a.salt) random a.user.now given) out_old out_new result old new
   Does (word.Address a) result old new = Idle × DoesEvent ⊥ ⊥ (Denied a.location) (IsKeeping a.user.now (upkeep.SetAddress a.address.now)) out_old out_new result old new
+  Does (word.Scripts a) result old new = Idle × DoesScripts (Denied a.location) out_old out_new a.user.now (option_copied a.script) result old new
+  Does (word.Put a) result old new = StaysAsItWas tells had has × DoesPut (DeniedAtEnd (Denied a.location) left) (Offered a.user.now a.script.now a.activate given) out_old out_new result old new
   Does (word.Open a) result old new = Idle × DoesEvent ⊥ ⊥ (Denied a.location) (IsKeeping a.user.now upkeep.OpenAccount) out_old out_new result old new
   Does (word.Remove a) result old new = Idle × DoesEvent ⊥ ⊥ (Denied a.location) (IsKeeping a.user.now (upkeep.RemoveAccount a.mail)) out_old out_new result old new
   Does (word.Deliver a) result old new =
@@ -295,12 +423,13 @@ module _ (Denied : StoreLocation → Fault → Type 0) (Sunk : SinkError → Typ
   Does (word.Show a) result old new =
       Idle × DoesRead (IsNoNumber a.number.now) (Denied a.location) a.user.now (ShowsMessage a.folder.now a.number.now) (LacksMessage a.folder.now a.number.now) out_old out_new result old new
   Does (word.Queue a) result old new = Idle × DoesQueue (Denied a.location) out_old out_new a.user.now (option_copied a.id) result old new
-  Does (word.Notices a) result old new = Idle × DoesRead ⊥ (Denied a.location) a.user.now ListsNotices LacksNothing out_old out_new result old new
+  Does (word.Notices a) result old new = Idle × DoesNotices (Denied a.location) out_old out_new a.user.now (option_copied a.until) result old new
   Does (word.Try a) result old new = Idle × DoesNothing out_old out_new result old new
   Does (word.Send a) result old new = Idle × DoesNothing out_old out_new result old new
   Does (word.Serve a) result old new = Idle × DoesNothing out_old out_new result old new
   Does (word.Session a) result old new = Idle × DoesNothing out_old out_new result old new
   Does (word.Daemon a) result old new = Idle × DoesNothing out_old out_new result old new
+  Does (word.Check a) result old new = Idle × DoesNothing out_old out_new result old new
 
 -- the store that a word works on, and for `drain` the Maildir, are those that it names, and the store was waited for as it says
 abbrev pub Reaches : (StoreLocation → Type 0) → (List ℕ → Type 0) → Subcommand → Type 0
@@ -308,6 +437,8 @@ Reaches Given At (word.Init a) = Given a.location
 Reaches Given At (word.AddUser a) = Given a.location
 Reaches Given At (word.Passwd a) = Given a.location
 Reaches Given At (word.Address a) = Given a.location
+Reaches Given At (word.Scripts a) = Given a.location
+Reaches Given At (word.Put a) = Given a.location
 Reaches Given At (word.Open a) = Given a.location
 Reaches Given At (word.Remove a) = Given a.location
 Reaches Given At (word.Deliver a) = Given a.location
@@ -322,6 +453,7 @@ Reaches Given At (word.Send a) = Unit {0}
 Reaches Given At (word.Serve a) = Unit {0}
 Reaches Given At (word.Session a) = Unit {0}
 Reaches Given At (word.Daemon a) = Unit {0}
+Reaches Given At (word.Check a) = Unit {0}
 
 -- ---- a run of the program
 

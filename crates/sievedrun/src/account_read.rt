@@ -3,6 +3,7 @@ ghost use Rattle.std.specs.Prelude.{◌≡◌, ℕ, None, List, false, IsTrue, O
 ghost use Rattle.sqlite.specs.Held.{state};
 ghost use Rattle.mailstore.specs.Account.{Account};
 ghost use Rattle.mailstore.specs.Promises.{Reads};
+ghost use Rattle.sessions.specs.Decisions.{AreScripts};
 ghost use Rattle.sievedrun.specs.Draining.{TurnsTables};
 ghost use Rattle.sievedrun.specs.Serving.{HasDenied, HasGiven};
 ghost use Rattle.sievedrun.specs.Words.{FindsIn};
@@ -12,7 +13,7 @@ use crate::fault::Fault;
 use keepers::Keeper;
 use maildirs::Separator;
 use mailstore::{Folder, Head, Notice, Outgoing, Refusal, Store};
-use octets::{List, Octets};
+use octets::{List, Octets, Texts};
 use sievedwords::StoreLocation;
 use sqlite::Alter;
 
@@ -55,6 +56,21 @@ pub struct OutgoingOf<'a>(pub &'a str, pub u64);
 /// The notices of the user with this name.
 #[derive(Clone, Copy)]
 pub struct NoticesOf<'a>(pub &'a str);
+
+/// The names of the scripts of the user with this name, and which one is active.
+#[derive(Clone, Copy)]
+pub struct ScriptsOf<'a>(pub &'a str);
+
+/// The script with the second name, of the user with the first one.
+#[derive(Clone, Copy)]
+pub struct ScriptOf<'a>(pub &'a str, pub &'a str);
+
+/// The names of a user's scripts, in the order of their octets, and which one is active, if one is.
+#[derive(Drop)]
+pub struct ScriptNames {
+    pub names: Texts,
+    pub active: Option<Octets>,
+}
 
 impl AccountRead for FoldersOf<'_> {
     ghost use Rattle.mailstore.specs.Tally.{AreFolders};
@@ -144,6 +160,47 @@ impl AccountRead for NoticesOf<'_> {
     fn read<S: Alter>(&self, store: &mut Store<S>) -> Result<List<Notice>, Refusal> {
         store.notices(self.0.as_bytes())
     }
+}
+
+impl AccountRead for ScriptsOf<'_> {
+    ghost use Rattle.sessions.specs.Decisions.{AreScripts};
+
+    ghost user = { λ wanted. wanted.0.now };
+
+    ghost finds = { λ wanted found a. AreScripts found.names found.active a };
+
+    type Found = ScriptNames;
+
+    fn read<S: Alter>(&self, store: &mut Store<S>) -> Result<ScriptNames, Refusal> {
+        script_names(store, self.0.as_bytes())
+    }
+}
+
+impl AccountRead for ScriptOf<'_> {
+    ghost use Rattle.std.specs.Prelude.{◌≡◌};
+    ghost use Rattle.std.specs.FinMap.{get};
+
+    ghost user = { λ wanted. wanted.0.now };
+
+    ghost finds = { λ wanted text a. text ≡ get a.scripts wanted.1.now };
+
+    type Found = Option<Octets>;
+
+    fn read<S: Alter>(&self, store: &mut Store<S>) -> Result<Option<Octets>, Refusal> {
+        store.script(self.0.as_bytes(), self.1.as_bytes())
+    }
+}
+
+/// The names of a user's scripts, and the active one.
+fn script_names<S: Alter>(store: &mut Store<S>, user: &[u8]) -> Result<ScriptNames, Refusal>
+    ensures { Reads user.now (λ found a. AreScripts found.names found.active a) (state S.Store store.old) (state S.Store store.new) result }
+{
+    let profile = store.enter(user)?;
+    let names = store.scripts_of(user)?;
+    Ok(ScriptNames {
+        names,
+        active: profile.active,
+    })
 }
 
 /// No message, of a user who has an account.

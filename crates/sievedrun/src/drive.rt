@@ -12,8 +12,10 @@ ghost use Rattle.sievedrun.specs.Words.{Does, IsSaid, IsUnread, Reaches, RunsWor
 use crate::commands::{run_adduser, run_deliver, run_init, run_show};
 use crate::drain::run_drain;
 use crate::fault::{Fault, refuse};
-use crate::listing::{run_folders, run_notices};
+use crate::listing::run_folders;
+use crate::notices::run_notices;
 use crate::queue::{run_done, run_queue};
+use crate::scripts::{run_put, run_scripts};
 use crate::stream::write_all;
 use crate::trouble::Trouble;
 use crate::try_script::try_run;
@@ -38,8 +40,8 @@ const USAGE: u8 = 64;
 ///
 /// `clock` is the moment in seconds since 1970, where the clock could be read, and `random` are 16 octets that nobody can guess,
 /// where the system gave some. Where words or values are wrong nothing is
-/// read. The store is taken at most once, and handed back before the answer is written. Messages that leave it go into the
-/// sink.
+/// read. The store is taken at most once, and handed back before the answer is written, but for notices, which are taken only once
+/// they are written. Messages that leave it go into the sink.
 pub fn drive<R: Read, W: Write, E: Write, K: Keeper, T: MailSink>(
     alloc: Global,
     words: &CommandLine,
@@ -92,7 +94,7 @@ fn try_script<R: Read, W: Write, E: Write>(
     }
 }
 
-/// Does what a word asks for that works on a store. `try` and those that serve do none.
+/// Does what a word asks for that works on a store. `try`, `check` and those that serve do none.
 fn act<R: Read, W: Write, K: Keeper, T: MailSink>(
     alloc: Global,
     asked: Subcommand<'_>,
@@ -116,6 +118,8 @@ fn act<R: Read, W: Write, K: Keeper, T: MailSink>(
         Subcommand::AddUser(asked) => run_adduser(alloc, asked, random, input, output, keeper),
         Subcommand::Passwd(asked) => run_passwd(alloc, asked, random, input, output, keeper),
         Subcommand::Address(asked) => run_address(alloc, asked, output, keeper),
+        Subcommand::Scripts(asked) => run_scripts(alloc, asked, output, keeper),
+        Subcommand::Put(asked) => run_put(alloc, asked, input, output, keeper),
         Subcommand::Open(asked) => run_open(alloc, asked, output, keeper),
         Subcommand::Remove(asked) => run_remove(alloc, asked, output, keeper),
         Subcommand::Deliver(asked) => run_deliver(alloc, asked, clock, input, output, keeper),
@@ -129,12 +133,14 @@ fn act<R: Read, W: Write, K: Keeper, T: MailSink>(
         | Subcommand::Send(_)
         | Subcommand::Serve(_)
         | Subcommand::Session(_)
-        | Subcommand::Daemon(_) => Err(Fault::BadArgument),
+        | Subcommand::Daemon(_)
+        | Subcommand::Check(_) => Err(Fault::BadArgument),
     }
 }
 
 /// The status of what was done in a store, or of the fault. Told are: why the store couldn't be closed, and the fault, each
-/// with what the keeper or the sink knows of it. That a call was refused because the store failed tells of both.
+/// with what the keeper or the sink knows of it. That a call was refused because the store failed tells of both, and that a script
+/// isn't valid was told on the output.
 fn conclude<E: Write, K: Keeper, T: MailSink>(
     done: Result<(), Fault>,
     errors: &mut E,
@@ -153,6 +159,10 @@ fn conclude<E: Write, K: Keeper, T: MailSink>(
         Ok(()) => {
             tell_unclosed(errors, unclosed, keeper, sink);
             0
+        }
+        Err(Fault::Invalid) => {
+            tell_unclosed(errors, unclosed, keeper, sink);
+            Fault::Invalid.status()
         }
         Err(fault) => {
             if fault.is_store_failure() {

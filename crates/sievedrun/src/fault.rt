@@ -31,6 +31,12 @@ pub enum Fault {
     /// The path is no Maildir: `tmp` or `new` isn't there.
     #[error("no such Maildir")]
     NoMaildir,
+    /// No script of the user has the name.
+    #[error("no such script")]
+    NoScript,
+    /// A script isn't valid. Where a run ends so, the line that tells why is on the output, and nothing else is told.
+    #[error("not valid")]
+    Invalid,
     /// The input is no count, script and message.
     #[error("bad input")]
     BadInput,
@@ -72,6 +78,8 @@ impl Fault {
             Fault::Stream => b"sieved: input or output failed\n",
             Fault::NoMessage => b"sieved: no such message\n",
             Fault::NoMaildir => b"sieved: no such Maildir\n",
+            Fault::NoScript => b"sieved: no such script\n",
+            Fault::Invalid => b"sieved: not valid\n",
             Fault::BadInput => b"sieved: bad input\n",
             Fault::BadArgument => b"sieved: bad argument\n",
         }

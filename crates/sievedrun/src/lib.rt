@@ -3,14 +3,17 @@
 
 mod account_read;
 mod answer;
+pub mod check;
 mod commands;
 mod drain;
 pub mod drive;
 pub mod fault;
 mod framing;
 mod listing;
+mod notices;
 mod queue;
 pub mod report;
+mod scripts;
 pub mod session;
 mod stream;
 pub mod trouble;

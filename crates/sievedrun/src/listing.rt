@@ -1,21 +1,21 @@
-//! The words that list what is in a user's account: `folders`, `queue`, `notices`.
+//! The words that list what is in a user's account.
 ghost use Rattle.std.specs.Prelude.{◌≡◌, ◌++◌, ℕ, List, codes, decimal, map, false, IsTrue, IfOk, OnOk, option_copied};
 ghost use Rattle.mailstore.specs.Account.{Account};
 ghost use Rattle.mailstore.specs.Tally.{count_of};
 ghost use Rattle.reportlines.specs.Reports.{with_end};
 ghost use Rattle.sievedrun.specs.Serving.{HasDenied, HasGiven};
-ghost use Rattle.sievedrun.specs.Words.{DoesFolders, DoesRead, LacksNothing, ListsNotices, folder_line, directory_line, folder_listing};
+ghost use Rattle.sievedrun.specs.Words.{DoesFolders, DoesRead, LacksNothing, folder_line, directory_line, folder_listing};
 
-use crate::account_read::{AccountRead, DirectoriesOf, FoldersOf, NoticesOf, QueueOf, read_once};
+use crate::account_read::{AccountRead, DirectoriesOf, FoldersOf, QueueOf, read_once};
 use crate::fault::Fault;
 use crate::stream::write_all;
 use crate::values::separator_of;
 use keepers::Keeper;
 use maildirs::{Separator, directory_of};
-use mailstore::{Folder, Head, Notice};
+use mailstore::{Folder, Head};
 use octets::{List, Octets, write_decimal};
-use reportlines::{of_notices, of_queue};
-use sievedwords::{Folders, Notices, StoreLocation};
+use reportlines::of_queue;
+use sievedwords::{Folders, StoreLocation};
 use std::alloc::{AllocError, Global};
 use std::io::Write;
 
@@ -56,16 +56,6 @@ impl Listing for QueueOf<'_> {
 
     fn lines(&self, alloc: Global, found: &List<Head>) -> Result<Octets, AllocError> {
         of_queue(alloc, found.as_slice())
-    }
-}
-
-impl Listing for NoticesOf<'_> {
-    ghost use Rattle.sievedrun.specs.Words.{ListsNotices};
-
-    ghost shows = { λ wanted a text. ListsNotices a text };
-
-    fn lines(&self, alloc: Global, found: &List<Notice>) -> Result<Octets, AllocError> {
-        of_notices(alloc, found.as_slice())
     }
 }
 
@@ -164,25 +154,4 @@ pub fn run_folders<W: Write, K: Keeper>(
         ),
         Some(_) => Err(Fault::BadArgument),
     }
-}
-
-/// `notices`: what went wrong in the user's deliveries.
-pub fn run_notices<W: Write, K: Keeper>(
-    alloc: Global,
-    asked: Notices<'_>,
-    output: &mut W,
-    keeper: &mut K,
-) -> Result<(), Fault>
-    ensures back { K.is_out keeper.old ≡ false → K.is_out keeper.new ≡ false }
-    ensures does { IsTrue K.tells → DoesRead ⊥ (HasDenied K.refuses K.will_wait asked.entry.location) asked.entry.user.now ListsNotices LacksNothing
-        (W.contents output.old) (W.contents output.new) result (K.holds keeper.old) (K.holds keeper.new) }
-    ensures given { OnOk result (HasGiven K.gives K.will_wait asked.entry.location) }
-{
-    run_listing(
-        alloc,
-        asked.location,
-        &NoticesOf(asked.user),
-        output,
-        keeper,
-    )
 }

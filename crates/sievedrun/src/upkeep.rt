@@ -138,7 +138,7 @@ fn keep_up<K: Keeper>(
 }
 
 /// Whether it was done: a refusal of the machine is the fault.
-fn done_by(kept: Result<Answer, Refusal>) -> Result<(), Fault>
+pub fn done_by(kept: Result<Answer, Refusal>) -> Result<(), Fault>
     ensures { IsDoneBy (answer_of kept) result }
 {
     match kept {

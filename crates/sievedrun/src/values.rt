@@ -4,7 +4,7 @@ ghost use Rattle.std.specs.List.{prefix_len};
 ghost use Rattle.octets.specs.Decimal.{Writes};
 ghost use Rattle.sievedrun.specs.Promise as promise;
 ghost use Rattle.sievedrun.specs.Promise.{is_in_line};
-ghost use Rattle.sievedrun.specs.Values.{IsNoNumber, HasNoNumber, IsNoPort, WritesSalt, IsNoSalt, IsSalt, HasNoSalt, IsMoment, IsSeparator, HasNoSeparator, envelope_with};
+ghost use Rattle.sievedrun.specs.Values.{IsNoNumber, HasNoNumber, IsNoPort, IsNoUntil, WritesSalt, IsNoSalt, IsSalt, HasNoSalt, IsMoment, IsSeparator, HasNoSeparator, envelope_with};
 
 use crate::fault::Fault;
 use hex::FromHex;
@@ -12,6 +12,9 @@ use maildirs::Separator;
 use mailengine::Envelope;
 use octets::{Octets, parse_decimal};
 use std::alloc::{AllocError, Global};
+
+/// The last moment that the database can have.
+const MAX_UNTIL: u64 = 9_223_372_036_854_775_807;
 
 /// A number in decimal digits, without a sign.
 pub fn decimal(text: &str) -> Result<u64, Fault>
@@ -33,6 +36,20 @@ pub fn port_of(text: &str) -> Result<u16, Fault>
         Ok(port) => Ok(port),
         Err(_) => Err(Fault::BadArgument),
     }
+}
+
+/// The moment of the last notice that is taken, in seconds since 1970, in decimal digits; below 2^63.
+pub fn until_of(text: &str) -> Result<u64, Fault>
+    ensures ok { IfOk result (λ until. Writes text.now until) }
+    ensures right { OnOk result (IsNoUntil text.now → ⊥) }
+    ensures fault { IfErr result (λ fault. fault ≡ Fault.BadArgument) }
+    ensures none { IfErr result (λ fault. IsNoUntil text.now) }
+{
+    let until = decimal(text)?;
+    if until > MAX_UNTIL {
+        return Err(Fault::BadArgument);
+    }
+    Ok(until)
 }
 
 /// What separates the levels of folders: `.` where it isn't said.

@@ -1,6 +1,6 @@
 -- What words ask for, by what `clap` found in them.
-use Rattle.std.specs.Prelude.{◌≡◌, ◌⊎◌, ℕ, Bool, true, false, List, [], codes, Option, Some, None, option_copied, unwrap_or, Result, Ok, Err}
-use Rattle.clap.specs.Words.{first_value, found_of, has_subcommand, one_text, rows_of, subcommand_name_of, subcommand_rows_of}
+use Rattle.std.specs.Prelude.{◌≡◌, ◌⊎◌, ℕ, Bool, true, false, List, [], codes, Option, Some, None, option_copied, option_map, unwrap_or, Result, Ok, Err}
+use Rattle.clap.specs.Words.{first_value, found_of, matched_of, one_text, raw_values, rows_of, subcommand_name_of, subcommand_rows_of}
 use Rattle.clap.specs.declared.error.Error.{Error}
 use Rattle.clap.specs.declared.parser.matches.ArgMatches.{ArgMatches}
 use Rattle.sievedwords.specs.Ids.{IsNoWord, name_of}
@@ -18,6 +18,8 @@ use Rattle.sievedwords.specs.declared.subcommand.adduser.AddUser.{AddUser}
 use Rattle.sievedwords.specs.declared.subcommand.deliver.Deliver.{Deliver}
 use Rattle.sievedwords.specs.declared.subcommand.passwd.Passwd.{Passwd}
 use Rattle.sievedwords.specs.declared.subcommand.address.SetAddress.{SetAddress}
+use Rattle.sievedwords.specs.declared.subcommand.scripts.Scripts.{Scripts}
+use Rattle.sievedwords.specs.declared.subcommand.put.Put.{Put}
 use Rattle.sievedwords.specs.declared.subcommand.remove.Remove.{Remove}
 use Rattle.sievedwords.specs.declared.subcommand.open.Open.{Open}
 use Rattle.sievedwords.specs.declared.subcommand.folders.Folders.{Folders}
@@ -29,6 +31,7 @@ use Rattle.sievedwords.specs.declared.subcommand.drain.Drain.{Drain}
 use Rattle.sievedwords.specs.declared.subcommand.serve.Serve.{Serve}
 use Rattle.sievedwords.specs.declared.subcommand.session.Session.{Session}
 use Rattle.sievedwords.specs.declared.subcommand.daemon.Daemon.{Daemon}
+use Rattle.sievedwords.specs.declared.subcommand.check.Check.{Check}
 use Rattle.sievedwords.specs.declared.subcommand.send.Send.{Send}
 
 -- ---- what was given to a subcommand
@@ -86,6 +89,17 @@ pub record IsSetAddress (line : CommandLine) (m : ArgMatches) (a : SetAddress) :
   pub user : a.user.now ≡ text_in m (codes "name")
   pub address : a.address.now ≡ text_in m (codes "address")
 
+pub record IsScripts (line : CommandLine) (m : ArgMatches) (a : Scripts) : Type 0 where
+  pub location : IsLocation m a.location
+  pub user : a.user.now ≡ text_in m (codes "user")
+  pub script : option_copied a.script ≡ value_in m (codes "script")
+
+pub record IsPut (line : CommandLine) (m : ArgMatches) (a : Put) : Type 0 where
+  pub location : IsLocation m a.location
+  pub activate : IsFlag m (codes "activate") a.activate
+  pub user : a.user.now ≡ text_in m (codes "user")
+  pub script : a.script.now ≡ text_in m (codes "script")
+
 pub record IsRemove (line : CommandLine) (m : ArgMatches) (a : Remove) : Type 0 where
   pub location : IsLocation m a.location
   pub mail : IsFlag m (codes "mail") a.mail
@@ -126,6 +140,7 @@ pub record IsDone (line : CommandLine) (m : ArgMatches) (a : Done) : Type 0 wher
 
 pub record IsNotices (line : CommandLine) (m : ArgMatches) (a : Notices) : Type 0 where
   pub location : IsLocation m a.location
+  pub until : option_copied a.until ≡ value_in m (codes "until")
   pub user : a.user.now ≡ text_in m (codes "user")
 
 pub record IsDrain (line : CommandLine) (m : ArgMatches) (a : Drain) : Type 0 where
@@ -161,6 +176,9 @@ pub record IsDaemon (line : CommandLine) (m : ArgMatches) (a : Daemon) : Type 0 
   pub quiet : IsFlag m (codes "quiet") a.quiet
   pub check : IsFlag m (codes "check") a.check
 
+pub record IsCheck (line : CommandLine) (m : ArgMatches) (a : Check) : Type 0 where
+  pub file : option_copied a.file ≡ value_in m (codes "file")
+
 -- a subcommand with what was given to it
 abbrev pub AsksFor : CommandLine → ArgMatches → Word → Subcommand → Type 0
 AsksFor line m word.Try (asked.Try a) = IsTry line m a
@@ -168,6 +186,8 @@ AsksFor line m word.Init (asked.Init a) = IsInit line m a
 AsksFor line m word.AddUser (asked.AddUser a) = IsAddUser line m a
 AsksFor line m word.Passwd (asked.Passwd a) = IsPasswd line m a
 AsksFor line m word.Address (asked.Address a) = IsSetAddress line m a
+AsksFor line m word.Scripts (asked.Scripts a) = IsScripts line m a
+AsksFor line m word.Put (asked.Put a) = IsPut line m a
 AsksFor line m word.Remove (asked.Remove a) = IsRemove line m a
 AsksFor line m word.Open (asked.Open a) = IsOpen line m a
 AsksFor line m word.Deliver (asked.Deliver a) = IsDeliver line m a
@@ -181,6 +201,7 @@ AsksFor line m word.Send (asked.Send a) = IsSend line m a
 AsksFor line m word.Serve (asked.Serve a) = IsServe line m a
 AsksFor line m word.Session (asked.Session a) = IsSession line m a
 AsksFor line m word.Daemon (asked.Daemon a) = IsDaemon line m a
+AsksFor line m word.Check (asked.Check a) = IsCheck line m a
 AsksFor line m w s = ⊥
 
 -- ---- the command line
@@ -218,6 +239,14 @@ abbrev pub AsksIn : CommandLine → ArgMatches → Subcommand → Type 0
 AsksIn line m s =
     ((subcommand_name_of m ≡ None) × AsksForNothing s)
     ⊎ ((w : Word) × (given : ArgMatches) × Enters m (name_of w) given × AsksFor line given w s)
+
+-- the values of an argument that may have many, in their order; none where it was left out
+abbrev pub texts_in : ArgMatches → List ℕ → List (List ℕ)
+texts_in m id = unwrap_or (option_map raw_values (matched_of (found_of m) id)) []
+
+-- `clap` found `check` in these words, and these are the files that were given to it, in their order
+abbrev pub NamesFiles : CommandLine → List (List ℕ) → Type 0
+NamesFiles line files = (m : ArgMatches) × (given : ArgMatches) × WasMatched line (Ok m) × Enters m (codes "check") given × (files ≡ texts_in given (codes "file"))
 
 -- what these words ask for; or why they ask for nothing: `clap` refused them, or has a text to show; a word isn't UTF-8
 abbrev pub WasRead : CommandLine → Result Subcommand ReadError → Type 0

@@ -40,6 +40,11 @@ pub enum Argument {
     MostRows,
     SendEightBit,
     WithMail,
+    Script,
+    AnyScript,
+    Activate,
+    Until,
+    Files,
 }
 
 /// How an argument is written.
@@ -51,6 +56,8 @@ enum Form {
     Option,
     /// A value that stands by its place.
     Operand,
+    /// Values that stand by their places, as many as there are.
+    Operands,
 }
 
 impl Argument {
@@ -66,6 +73,10 @@ impl Argument {
                 .value_name(self.value_name())
                 .allow_hyphen_values(true),
             Form::Operand => arg.action(ArgAction::Set).value_name(self.value_name()),
+            Form::Operands => arg
+                .action(ArgAction::Append)
+                .num_args(1..)
+                .value_name(self.value_name()),
         }
     }
 
@@ -76,7 +87,8 @@ impl Argument {
             | Argument::Quiet
             | Argument::Check
             | Argument::SendEightBit
-            | Argument::WithMail => Form::Flag,
+            | Argument::WithMail
+            | Argument::Activate => Form::Flag,
             Argument::Db
             | Argument::From
             | Argument::To
@@ -94,7 +106,8 @@ impl Argument {
             | Argument::Host
             | Argument::Smtp
             | Argument::HostName
-            | Argument::MostRows => Form::Option,
+            | Argument::MostRows
+            | Argument::Until => Form::Option,
             Argument::Name
             | Argument::Address
             | Argument::User
@@ -102,7 +115,10 @@ impl Argument {
             | Argument::Number
             | Argument::Id
             | Argument::AnyId
-            | Argument::Maildir => Form::Operand,
+            | Argument::Maildir
+            | Argument::Script
+            | Argument::AnyScript => Form::Operand,
+            Argument::Files => Form::Operands,
         }
     }
 
@@ -138,6 +154,10 @@ impl Argument {
             Argument::Smtp => "smtp",
             Argument::SendEightBit => "send-8bit",
             Argument::WithMail => "mail",
+            Argument::Script | Argument::AnyScript => "script",
+            Argument::Activate => "activate",
+            Argument::Until => "until",
+            Argument::Files => "file",
         }
     }
 
@@ -149,15 +169,17 @@ impl Argument {
             | Argument::Quiet
             | Argument::Check
             | Argument::SendEightBit
-            | Argument::WithMail => "",
+            | Argument::WithMail
+            | Argument::Activate => "",
             Argument::Separator => ".|/",
             Argument::From | Argument::To | Argument::AnyTo => "A",
-            Argument::At | Argument::Number | Argument::Sessions => "N",
+            Argument::At | Argument::Number | Argument::Sessions | Argument::Until => "N",
             Argument::Most | Argument::MostRows => "K",
             Argument::Smtp => "ADDRESS:PORT|PATH",
             Argument::Port | Argument::Managesieve => "P",
             Argument::Salt => "HEX32",
-            Argument::Db => "FILE",
+            Argument::Db | Argument::Files => "FILE",
+            Argument::Script | Argument::AnyScript => "SCRIPT",
             Argument::Name | Argument::Host | Argument::HostName => "NAME",
             Argument::Lmtp => "P|PATH|-",
             Argument::Names => "local|whole",
@@ -204,6 +226,12 @@ impl Argument {
             Argument::MostRows => "Tries at most K rows [default: all]",
             Argument::SendEightBit => "Sends octets over 127 where 8BITMIME isn't offered too",
             Argument::WithMail => "Removes its messages too",
+            Argument::Script => "The script's name",
+            Argument::AnyScript => "The name of the script that is printed",
+            Argument::Activate => "Makes it the active script",
+            Argument::Until =>
+                "Takes the notices up to this second since 1970, once they are printed",
+            Argument::Files => "Files that have a script each [default: standard input]",
         }
     }
 
@@ -231,6 +259,10 @@ impl Argument {
                 | Argument::SendEightBit
                 | Argument::Salt
                 | Argument::WithMail
+                | Argument::AnyScript
+                | Argument::Activate
+                | Argument::Until
+                | Argument::Files
         )
     }
 }

@@ -1,10 +1,12 @@
 //! What the words ask for.
-ghost use Rattle.std.specs.Prelude.{◌≡◌, false};
-ghost use Rattle.sievedwords.specs.Asks.{HasNoText, WasMatched, WasRead};
+ghost use Rattle.std.specs.Prelude.{◌≡◌, false, map, IfOk};
+ghost use Rattle.sievedwords.specs.Asks.{HasNoText, NamesFiles, WasMatched, WasRead};
 
+use crate::argument::Argument;
 use crate::command_line::CommandLine;
 use crate::given::Given;
 use crate::program::sieved;
+use crate::subcommand::check::CHECK;
 use crate::subcommand::try_script::Try;
 use crate::subcommand::{Subcommand, Word};
 use clap::error::ErrorKind;
@@ -49,6 +51,32 @@ pub fn read<'a>(alloc: Global, words: &'a CommandLine) -> Result<Subcommand<'a>,
         Ok(word.read(&given))
     } else {
         Err(ReadError::NotText)
+    }
+}
+
+/// The paths of the files that words name which ask for `check`, in their order; none of standard input. Time and memory are linear
+/// in the words.
+///
+/// # Errors
+///
+/// Those of `read`; [`ReadError::Unknown`] of words that ask for something else.
+pub fn read_files<'a>(alloc: Global, words: &'a CommandLine) -> Result<Vec<&'a str>, ReadError>
+    ensures { IfOk result (λ files. NamesFiles words.now (map (λ file. file.now) files.items)) }
+{
+    let matches = match match_words(alloc, words) {
+        Ok(matches) => matches,
+        Err(error) => return Err(ReadError::Said(error)),
+    };
+    let Some((name, found)) = matches.subcommand() else {
+        return Err(ReadError::Unknown);
+    };
+    if name != CHECK.name {
+        return Err(ReadError::Unknown);
+    }
+    let files = found.get_strs(Argument::Files.name()).unwrap_or(&[]);
+    match files.to_vec(alloc) {
+        Ok(files) => Ok(files),
+        Err(refused) => Err(ReadError::Said(Error::from(refused))),
     }
 }
 

@@ -5,6 +5,7 @@ ghost use Rattle.sievedwords.specs.Ids.{IsNoWord, name_of};
 
 pub mod address;
 pub mod adduser;
+pub mod check;
 pub mod daemon;
 pub mod deliver;
 pub mod done;
@@ -14,8 +15,10 @@ pub mod init;
 pub mod notices;
 pub mod open;
 pub mod passwd;
+pub mod put;
 pub mod queue;
 pub mod remove;
+pub mod scripts;
 pub mod send;
 pub mod serve;
 pub mod session;
@@ -24,6 +27,7 @@ pub mod try_script;
 
 use self::address::{ADDRESS, SetAddress};
 use self::adduser::{ADDUSER, AddUser};
+use self::check::{CHECK, Check};
 use self::daemon::{DAEMON, Daemon};
 use self::deliver::{DELIVER, Deliver};
 use self::done::{DONE, Done};
@@ -33,8 +37,10 @@ use self::init::{INIT, Init};
 use self::notices::{NOTICES, Notices};
 use self::open::{OPEN, Open};
 use self::passwd::{PASSWD, Passwd};
+use self::put::{PUT, Put};
 use self::queue::{QUEUE, Queue};
 use self::remove::{REMOVE, Remove};
+use self::scripts::{SCRIPTS, Scripts};
 use self::send::{SEND, Send};
 use self::serve::{SERVE, Serve};
 use self::session::{SESSION, Session};
@@ -51,6 +57,8 @@ pub enum Subcommand<'a> {
     AddUser(AddUser<'a>),
     Passwd(Passwd<'a>),
     Address(SetAddress<'a>),
+    Scripts(Scripts<'a>),
+    Put(Put<'a>),
     Remove(Remove<'a>),
     Open(Open<'a>),
     Deliver(Deliver<'a>),
@@ -64,6 +72,7 @@ pub enum Subcommand<'a> {
     Serve(Serve<'a>),
     Session(Session<'a>),
     Daemon(Daemon<'a>),
+    Check(Check<'a>),
 }
 
 /// The name of a subcommand.
@@ -74,6 +83,8 @@ pub enum Word {
     AddUser,
     Passwd,
     Address,
+    Scripts,
+    Put,
     Remove,
     Open,
     Deliver,
@@ -87,16 +98,19 @@ pub enum Word {
     Serve,
     Session,
     Daemon,
+    Check,
 }
 
 impl Word {
     /// All, in the order of the help.
-    pub const ALL: [Word; 18] = [
+    pub const ALL: [Word; 21] = [
         Word::Try,
         Word::Init,
         Word::AddUser,
         Word::Passwd,
         Word::Address,
+        Word::Scripts,
+        Word::Put,
         Word::Remove,
         Word::Open,
         Word::Deliver,
@@ -110,6 +124,7 @@ impl Word {
         Word::Serve,
         Word::Session,
         Word::Daemon,
+        Word::Check,
     ];
 
     /// The subcommand with this name.
@@ -141,6 +156,8 @@ impl Word {
             Word::AddUser => &ADDUSER,
             Word::Passwd => &PASSWD,
             Word::Address => &ADDRESS,
+            Word::Scripts => &SCRIPTS,
+            Word::Put => &PUT,
             Word::Remove => &REMOVE,
             Word::Open => &OPEN,
             Word::Deliver => &DELIVER,
@@ -154,6 +171,7 @@ impl Word {
             Word::Serve => &SERVE,
             Word::Session => &SESSION,
             Word::Daemon => &DAEMON,
+            Word::Check => &CHECK,
         }
     }
 
@@ -167,6 +185,8 @@ impl Word {
             Word::AddUser => Subcommand::AddUser(AddUser::read(given)),
             Word::Passwd => Subcommand::Passwd(Passwd::read(given)),
             Word::Address => Subcommand::Address(SetAddress::read(given)),
+            Word::Scripts => Subcommand::Scripts(Scripts::read(given)),
+            Word::Put => Subcommand::Put(Put::read(given)),
             Word::Remove => Subcommand::Remove(Remove::read(given)),
             Word::Open => Subcommand::Open(Open::read(given)),
             Word::Deliver => Subcommand::Deliver(Deliver::read(given)),
@@ -180,6 +200,7 @@ impl Word {
             Word::Serve => Subcommand::Serve(Serve::read(given)),
             Word::Session => Subcommand::Session(Session::read(given)),
             Word::Daemon => Subcommand::Daemon(Daemon::read(given)),
+            Word::Check => Subcommand::Check(Check::read(given)),
         }
     }
 }

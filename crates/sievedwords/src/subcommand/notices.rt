@@ -8,16 +8,25 @@ use crate::row::Row;
 
 pub static NOTICES: Row = Row {
     name: "notices",
-    about: "Lists what went wrong in a user's deliveries",
-    more: "Reads nothing. Prints `MOMENT TEXT` for each, the moment in seconds since 1970.
-Status 0: listed. 64: wrong words. 65: no such store. 67: no such user. 75: try again later.",
-    arguments: &[Argument::Db, Argument::Wait, Argument::User],
+    about: "Lists what went wrong in a user's deliveries, and takes it where that is said",
+    more: "Reads nothing. Prints `MOMENT TEXT` for each, the moment in seconds since 1970. They stay.
+--until: prints those up to that second, and takes them once they are printed.
+Status 0: listed. 64: wrong words or number. 65: no such store. 67: no such user. 75: try again later; none is taken.",
+    arguments: &[
+        Argument::Db,
+        Argument::Wait,
+        Argument::Until,
+        Argument::User,
+    ],
 };
 
 /// Whose notices are to be listed.
 #[derive(Clone, Copy)]
 pub struct Notices<'a> {
     pub location: StoreLocation<'a>,
+    /// The moment of the last notice that is printed and taken, in seconds since 1970, in decimal; where it is left out all
+    /// are printed, and none is taken.
+    pub until: Option<&'a str>,
     /// The account's name.
     pub user: &'a str,
 }
@@ -28,6 +37,7 @@ impl<'a> Notices<'a> {
     {
         Notices {
             location: given.location(),
+            until: given.value(Argument::Until),
             user: given.text(Argument::User),
         }
     }

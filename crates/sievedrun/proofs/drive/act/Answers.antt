@@ -50,6 +50,26 @@ pub returns-in-Address-clause-reaches : goal.returns-in-Address-clause-reaches
 returns-in-Address-clause-reaches g c =
     subst (λ asked. OnOk c.run_address.result (Reaches (HasGiven g.K.Keeper.gives g.K.Keeper.will_wait) (g.T.MailSink.is_at c.args.sink.now) asked)) (sym c.in-Address.is) (c.run_address.ensures.given)
 
+pub returns-in-Scripts-clause-does : goal.returns-in-Scripts-clause-does
+returns-in-Scripts-clause-does g c tells =
+    let kept = g.T.MailSink.kept c.args.sink.now in
+    subst (λ asked. Does (HasDenied g.K.Keeper.refuses g.K.Keeper.will_wait) (HasRefused g.T.MailSink.refuses) c.args.clock c.args.random (g.R.Read.remaining c.args.input.now) (g.R.Read.remaining c.args.input.now) g.T.MailSink.tells kept kept (g.W.Write.contents c.args.output.now) (g.W.Write.contents c.run_scripts.new.output) asked c.run_scripts.result
+    (g.K.Keeper.holds c.args.keeper.now) (g.K.Keeper.holds c.run_scripts.new.keeper)) (sym c.in-Scripts.is) (((λ told. refl), refl), c.run_scripts.ensures.does tells)
+
+pub returns-in-Scripts-clause-reaches : goal.returns-in-Scripts-clause-reaches
+returns-in-Scripts-clause-reaches g c =
+    subst (λ asked. OnOk c.run_scripts.result (Reaches (HasGiven g.K.Keeper.gives g.K.Keeper.will_wait) (g.T.MailSink.is_at c.args.sink.now) asked)) (sym c.in-Scripts.is) (c.run_scripts.ensures.given)
+
+pub returns-in-Put-clause-does : goal.returns-in-Put-clause-does
+returns-in-Put-clause-does g c tells =
+    let kept = g.T.MailSink.kept c.args.sink.now in
+    subst (λ asked. Does (HasDenied g.K.Keeper.refuses g.K.Keeper.will_wait) (HasRefused g.T.MailSink.refuses) c.args.clock c.args.random (g.R.Read.remaining c.args.input.now) (g.R.Read.remaining c.run_put.new.input) g.T.MailSink.tells kept kept (g.W.Write.contents c.args.output.now) (g.W.Write.contents c.run_put.new.output) asked c.run_put.result
+    (g.K.Keeper.holds c.args.keeper.now) (g.K.Keeper.holds c.run_put.new.keeper)) (sym c.in-Put.is) ((λ told. refl), c.run_put.ensures.does tells)
+
+pub returns-in-Put-clause-reaches : goal.returns-in-Put-clause-reaches
+returns-in-Put-clause-reaches g c =
+    subst (λ asked. OnOk c.run_put.result (Reaches (HasGiven g.K.Keeper.gives g.K.Keeper.will_wait) (g.T.MailSink.is_at c.args.sink.now) asked)) (sym c.in-Put.is) (c.run_put.ensures.given)
+
 pub returns-in-Open-clause-does : goal.returns-in-Open-clause-does
 returns-in-Open-clause-does g c tells =
     let kept = g.T.MailSink.kept c.args.sink.now in

@@ -1,6 +1,7 @@
 -- Why the store couldn't be closed is told first, and then the fault, each with what is known of it.
-use Rattle.std.proofs.Common.{◌≡◌, Ok, Err, sym, subst}
+use Rattle.std.proofs.Common.{◌≡◌, Ok, Err, sym, subst, rules}
 use Rattle.sievedrun.specs.Faults.{cause_of, store_failed, text_said, told_of, troubles, AreTold}
+use Rattle.sievedrun.specs.declared.fault.Fault.TheVariants.{Invalid}
 use Rattle.sievedrun.specs.Streams.{IsWritten}
 use Rattle.sievedrun.proofs.RunLemmas.{told_done, told_failed, told_fault}
 use Rattle.sievedrun.proofs.drive.conclude.Goals as goal
@@ -31,6 +32,7 @@ returns-else-is_store_failure-clause-told g c =
     let new = g.E.Write.contents c.tell_fault-in-Err.new.errors in
     let cause = cause_of (g.K.Keeper.said c.take_close_error-unclosed.new.self) (text_said (g.T.MailSink.said c.args.sink.now)) in
     let fault = c.in-Err.fault in
+    let valid : fault ≡ Invalid → ⊥ = search rules in
     subst (λ done. AreTold old new cause (troubles (g.K.Keeper.unclosed c.args.keeper.now) done)) (sym c.in-Err.is)
     (subst (λ o. AreTold old new cause (troubles o (Err fault))) c.take_close_error-unclosed.ensures.error
-    (told_fault cause old mid new c.take_close_error-unclosed.result fault (c.is_store_failure.ensures.other c.if-is_store_failure.false) c.tell_unclosed-in-Err.ensures.some c.tell_unclosed-in-Err.ensures.none c.tell_fault-in-Err.ensures.line))
+    (told_fault cause old mid new c.take_close_error-unclosed.result fault (c.is_store_failure.ensures.other c.if-is_store_failure.false) valid c.tell_unclosed-in-Err.ensures.some c.tell_unclosed-in-Err.ensures.none c.tell_fault-in-Err.ensures.line))

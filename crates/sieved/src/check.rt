@@ -1,0 +1,105 @@
+//! Scripts in files, or on standard input, that are checked without a store.
+use clap::error::ErrorKind as WordsKind;
+use sessions::scripts::MAX_SCRIPT;
+use sievedrun::check::{check_input, check_text};
+use sievedrun::fault::{Fault, refuse};
+use sievedwords::{CommandLine, ReadError, read_files};
+use std::alloc::{AllocError, Global};
+use std::fs::{File, Files};
+use std::io;
+use std::io::{ErrorKind, Read, Write};
+
+/// So many octets of a file are read at most: with that many it is longer than a script may be.
+const MOST: usize = MAX_SCRIPT + 1;
+
+/// The status where a file can't be read (`EX_TEMPFAIL` of sysexits.h).
+const UNREAD: u8 = 75;
+
+/// Checks the files that the words name, in their order, or the input where they name none. The answer is the exit status, the worst of
+/// all files.
+pub fn check<F: Files, R: Read, W: Write, E: Write>(
+    system: &F,
+    alloc: Global,
+    words: &CommandLine,
+    input: &mut R,
+    output: &mut W,
+    errors: &mut E,
+) -> u8 {
+    let files = match read_files(alloc, words) {
+        Ok(files) => files,
+        Err(error) => return refuse(errors, fault_of(&error)),
+    };
+    if files.is_empty() {
+        return check_input(alloc, input, output, errors);
+    }
+    let mut worst = 0;
+    for file in files {
+        worst = worst.max(check_file(system, alloc, file, output, errors));
+    }
+    worst
+}
+
+fn fault_of(error: &ReadError) -> Fault {
+    match error {
+        ReadError::Said(error) if error.kind() == WordsKind::OutOfMemory => Fault::from(AllocError),
+        _ => Fault::BadArgument,
+    }
+}
+
+/// Checks the script in a file. The answer is the exit status.
+fn check_file<F: Files, W: Write, E: Write>(
+    system: &F,
+    alloc: Global,
+    path: &str,
+    output: &mut W,
+    errors: &mut E,
+) -> u8 {
+    let mut text = Vec::new(alloc);
+    if let Err(refused) = text.resize(MOST, 0) {
+        return refuse(errors, Fault::from(refused));
+    }
+    match read_front(system, path, text.as_mut_slice()) {
+        Ok(len) => {
+            text.truncate(len);
+            check_text(alloc, Some(path), text.as_slice(), output, errors)
+        }
+        Err(error) => tell_unread(errors, path, error.kind()),
+    }
+}
+
+/// Reads a file, as far as there is room for it: how many octets came.
+fn read_front<F: Files>(system: &F, path: &str, room: &mut [u8]) -> io::Result<usize> {
+    let mut file = File::open(system, path)?;
+    let mut filled = 0;
+    for _ in 0..u32::MAX {
+        if filled >= room.len() {
+            break;
+        }
+        match file.read(&mut room[filled..]) {
+            Ok(0) => break,
+            Ok(more) => filled += more,
+            Err(error) if error.kind() == ErrorKind::Interrupted => {}
+            Err(error) => return Err(error),
+        }
+    }
+    Ok(filled)
+}
+
+/// Tells why a file can't be read, and answers the exit status.
+fn tell_unread<E: Write>(errors: &mut E, path: &str, kind: ErrorKind) -> u8 {
+    let _ = errors.write_all(path.as_bytes());
+    let _ = errors.write_all(b": ");
+    let _ = errors.write_all(cause_of(kind).as_bytes());
+    let _ = errors.write_all(b"\n");
+    let _ = errors.flush();
+    UNREAD
+}
+
+fn cause_of(kind: ErrorKind) -> &'static str {
+    match kind {
+        ErrorKind::NotFound | ErrorKind::NotADirectory => "no such file",
+        ErrorKind::PermissionDenied => "permission denied",
+        ErrorKind::IsADirectory => "is a directory",
+        _ => "file can't be read",
+    }
+}

@@ -1,0 +1,21 @@
+-- A write of the line on the fault failed.
+use Rattle.std.proofs.Common.{◌≡◌, ◌≤◌, Some, Err, length, inr, subst, sym, rules}
+use Rattle.std.specs.Option.{option_copied}
+use Rattle.sessions.specs.Limits.{script_limit}
+use Rattle.sessions.specs.Scripts.{IsVerdict}
+use Rattle.sievedrun.specs.Checks.{PrintsFinding, fault_in_file}
+use Rattle.sievedrun.specs.Faults.{IsPrinted}
+use Rattle.sievedrun.proofs.check.print_finding.Goals as goal
+
+pub returns-in_err-write_all : goal.returns-in_err-write_all
+returns-in_err-write_all g c =
+    let file = option_copied c.args.file in
+    let text = c.args.text.now in
+    let old = g.W.Write.contents c.args.output.now in
+    let new = g.W.Write.contents c.write_all.new.output in
+    let verdict = c.in-Some.fault in
+    let is : c.from_residual-in_err-write_all.result ≡ Err c.in_err-write_all.field-0.0 = search rules in
+    let line : c.as_slice.result.now ≡ fault_in_file file verdict = search rules in
+    let short : length text ≤ script_limit = search rules in
+    let found : IsVerdict text (Some verdict) = search rules in
+    subst (PrintsFinding file text old new) (sym is) (inr (inr (verdict, (short, found), subst (IsPrinted (Err c.in_err-write_all.field-0.0) old new) line c.in_err-write_all.ensures)))

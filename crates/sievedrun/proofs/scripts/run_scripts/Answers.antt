@@ -1,0 +1,16 @@
+-- All are listed where no script is named.
+use Rattle.std.proofs.Common.{subst, sym}
+use Rattle.std.specs.Option.{option_copied}
+use Rattle.sievedrun.specs.Serving.{HasDenied}
+use Rattle.sievedrun.specs.Words.{DoesScripts}
+use Rattle.sievedrun.proofs.scripts.run_scripts.Goals as goal
+
+pub returns-in-None-clause-does : goal.returns-in-None-clause-does
+returns-in-None-clause-does g c tells =
+    subst (λ name. DoesScripts (HasDenied g.K.Keeper.refuses g.K.Keeper.will_wait c.args.asked.location) (g.W.Write.contents c.args.output.now) (g.W.Write.contents c.run_listing.new.output) c.args.asked.user.now (option_copied name) c.run_listing.result (g.K.Keeper.holds c.args.keeper.now)
+    (g.K.Keeper.holds c.run_listing.new.keeper)) (sym c.in-None.is) (c.run_listing.ensures.does tells)
+
+pub returns-in-Some-clause-does : goal.returns-in-Some-clause-does
+returns-in-Some-clause-does g c tells =
+    subst (λ name. DoesScripts (HasDenied g.K.Keeper.refuses g.K.Keeper.will_wait c.args.asked.location) (g.W.Write.contents c.args.output.now) (g.W.Write.contents c.run_script.new.output) c.args.asked.user.now (option_copied name) c.run_script.result (g.K.Keeper.holds c.args.keeper.now)
+    (g.K.Keeper.holds c.run_script.new.keeper)) (sym c.in-Some.is) (c.run_script.ensures.does tells)

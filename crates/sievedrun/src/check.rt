@@ -1,0 +1,117 @@
+//! Texts that are checked as scripts, without a store.
+ghost use Rattle.std.specs.Prelude.{◌≡◌, ◌≢◌, Some, false, IfOk, IsTrue, option_copied};
+ghost use Rattle.sievedrun.specs.Checks.{ChecksInput, IsChecked, PrintsFinding, fault_in_file, too_large, told_in};
+ghost use Rattle.sievedrun.specs.Faults.{status_of};
+ghost use Rattle.sievedrun.specs.Streams.{IsWritten, ReadsToEnd};
+
+use crate::fault::{Fault, refuse};
+use crate::stream::{read_all, write_all, write_line};
+use mailstore::Refusal;
+use octets::{Octets, write_decimal};
+use reportlines::of_fault;
+use sessions::scripts::{MAX_SCRIPT, fault_in};
+use sievelex::ScriptFault;
+use std::alloc::{AllocError, Global};
+use std::io::{Read, Write};
+
+/// Checks the input as a script. Of one that is valid nothing is printed, of another the line that tells why it isn't. What goes wrong is
+/// told on the errors. The answer is the exit status.
+pub fn check_input<R: Read, W: Write, E: Write>(
+    alloc: Global,
+    input: &mut R,
+    output: &mut W,
+    errors: &mut E,
+) -> u8
+    ensures reads { result ≡ 0 → ReadsToEnd R.remaining input.old input.new }
+    ensures checks { ChecksInput (R.remaining input.old) (W.contents output.old) (W.contents output.new) (E.contents errors.old) (E.contents errors.new) result }
+{
+    match read_all(alloc, input) {
+        Ok(text) => check_text(alloc, None, text.as_slice(), output, errors),
+        Err(fault) => refuse(errors, fault),
+    }
+}
+
+/// Checks a text as a script, and prints the line that tells why it isn't valid, if it isn't: `line N: TEXT`, or `FILE:N: TEXT` of a
+/// file's. A text that is longer than a script may be is no script. The answer is the exit status: 0, 65, or 75 where memory or a
+/// write failed. Time and memory are those of `sievesyntax::check`.
+pub fn check_text<W: Write, E: Write>(
+    alloc: Global,
+    file: Option<&str>,
+    text: &[u8],
+    output: &mut W,
+    errors: &mut E,
+) -> u8
+    ensures { IsChecked (option_copied file.entry) text.now (W.contents output.old) (W.contents output.new) (E.contents errors.old) (E.contents errors.new) result }
+{
+    match print_finding(alloc, file, text, output) {
+        Ok(None) => 0,
+        Ok(Some(_)) => 65,
+        Err(fault) => refuse_in(errors, file, fault),
+    }
+}
+
+/// Why a text is no valid script, which is printed; nothing of one that is.
+fn print_finding<W: Write>(
+    alloc: Global,
+    file: Option<&str>,
+    text: &[u8],
+    output: &mut W,
+) -> Result<Option<ScriptFault>, Fault>
+    ensures { PrintsFinding (option_copied file.entry) text.now (W.contents output.old) (W.contents output.new) result }
+{
+    if text.len() > MAX_SCRIPT {
+        return Err(Fault::Refused(Refusal::ScriptTooLarge));
+    }
+    let Some(fault) = fault_in(alloc, text)? else {
+        return Ok(None);
+    };
+    let line = line_in(alloc, file, fault)?;
+    write_all(output, line.as_slice())?;
+    Ok(Some(fault))
+}
+
+/// The line on a fault of a script.
+fn line_in(alloc: Global, file: Option<&str>, fault: ScriptFault) -> Result<Octets, AllocError>
+    ensures { IfOk result (λ text. text ≡ fault_in_file (option_copied file.entry) fault) }
+{
+    match file {
+        None => of_fault(alloc, fault),
+        Some(file) => line_in_file(alloc, file, fault),
+    }
+}
+
+/// The line on a fault of the script in a file.
+fn line_in_file(alloc: Global, file: &str, fault: ScriptFault) -> Result<Octets, AllocError>
+    ensures { IfOk result (λ text. text ≡ fault_in_file (Some file.now) fault) }
+{
+    let mut text = Octets::from_slice(alloc, file.as_bytes())?;
+    text.extend_from_slice(b":")?;
+    write_decimal(&mut text, fault.line)?;
+    text.extend_from_slice(b": ")?;
+    text.extend_from_slice(fault.kind.text().as_bytes())?;
+    text.push(b'\n')?;
+    Ok(text)
+}
+
+/// Tells of a fault, behind the file's name where the file is too large, and gives its exit status.
+fn refuse_in<E: Write>(errors: &mut E, file: Option<&str>, fault: Fault) -> u8
+    ensures status { result ≡ status_of fault }
+    ensures line { IsWritten (E.contents errors.old) (E.contents errors.new) (told_in (option_copied file.entry) fault) }
+{
+    let Some(file) = file else {
+        return refuse(errors, fault);
+    };
+    if is_too_large(fault) {
+        let _ = write_line(errors, file.as_bytes(), b": script too large");
+        return fault.status();
+    }
+    refuse(errors, fault)
+}
+
+/// Whether it is that a text is longer than a script may be.
+fn is_too_large(fault: Fault) -> bool
+    ensures yes { IsTrue result → fault ≡ too_large }
+    ensures other { result ≡ false → fault ≢ too_large }
+{
+    matches!(fault, Fault::Refused(Refusal::ScriptTooLarge))
+}

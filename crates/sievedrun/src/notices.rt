@@ -1,0 +1,109 @@
+//! The word on a user's notices, which may take them once they are printed.
+ghost use Rattle.std.specs.Prelude.{◌≡◌, ◌≢◌, false, IsTrue, IfOk, OnOk, option_copied};
+ghost use Rattle.sqlite.specs.Held.{state};
+ghost use Rattle.reportlines.specs.Listings.{notice_listing};
+ghost use Rattle.sievedrun.specs.Promise.{status_after};
+ghost use Rattle.sievedrun.specs.Serving.{HasDenied, HasGiven};
+ghost use Rattle.sievedrun.specs.Words.{DoesNotices, TakesListed, TakesNotices, TurnsStore, notices_until};
+
+use crate::account_read::NoticesOf;
+use crate::commands::take_store;
+use crate::fault::Fault;
+use crate::listing::{Listing, run_listing};
+use crate::stream::write_all;
+use crate::upkeep::done_by;
+use crate::values::until_of;
+use keepers::Keeper;
+use mailengine::{Upkeep, keep};
+use mailstore::{Notice, Store};
+use octets::{List, Octets};
+use reportlines::of_notices;
+use sievedwords::{Notices, StoreLocation};
+use sqlite::Alter;
+use std::alloc::{AllocError, Global};
+use std::io::Write;
+
+impl Listing for NoticesOf<'_> {
+    ghost use Rattle.sievedrun.specs.Words.{ListsNotices};
+
+    ghost shows = { λ wanted a text. ListsNotices a text };
+
+    fn lines(&self, alloc: Global, found: &List<Notice>) -> Result<Octets, AllocError> {
+        of_notices(alloc, found.as_slice())
+    }
+}
+
+/// `notices`: what went wrong in the user's deliveries. With a moment the notices up to it are printed, and taken after that.
+pub fn run_notices<W: Write, K: Keeper>(
+    alloc: Global,
+    asked: Notices<'_>,
+    output: &mut W,
+    keeper: &mut K,
+) -> Result<(), Fault>
+    ensures back { K.is_out keeper.old ≡ false → K.is_out keeper.new ≡ false }
+    ensures does { IsTrue K.tells → DoesNotices (HasDenied K.refuses K.will_wait asked.entry.location) (W.contents output.old) (W.contents output.new)
+        asked.entry.user.now (option_copied asked.entry.until) result (K.holds keeper.old) (K.holds keeper.new) }
+    ensures given { OnOk result (HasGiven K.gives K.will_wait asked.entry.location) }
+{
+    match asked.until {
+        None => run_listing(
+            alloc,
+            asked.location,
+            &NoticesOf(asked.user),
+            output,
+            keeper,
+        ),
+        Some(until) => run_taking(alloc, asked.location, asked.user, until, output, keeper),
+    }
+}
+
+/// `notices --until`: the notices are printed and taken in one holding of the store.
+fn run_taking<W: Write, K: Keeper>(
+    alloc: Global,
+    location: StoreLocation<'_>,
+    user: &str,
+    until: &str,
+    output: &mut W,
+    keeper: &mut K,
+) -> Result<(), Fault>
+    ensures back { K.is_out keeper.old ≡ false → K.is_out keeper.new ≡ false }
+    ensures does { IsTrue K.tells → TakesNotices (HasDenied K.refuses K.will_wait location.entry) (W.contents output.old) (W.contents output.new)
+        user.now until.now result (K.holds keeper.old) (K.holds keeper.new) }
+    ensures given { OnOk result (HasGiven K.gives K.will_wait location.entry) }
+{
+    let until = until_of(until)?;
+    let mut store = take_store(location, false, keeper)?;
+    let taken = print_and_take(alloc, &mut store, user.as_bytes(), until, output);
+    keeper.hand_back(store);
+    taken
+}
+
+/// Prints the notices up to the moment, and takes them once they are written and flushed.
+fn print_and_take<S: Alter, W: Write>(
+    alloc: Global,
+    store: &mut Store<S>,
+    user: &[u8],
+    until: u64,
+    output: &mut W,
+) -> Result<(), Fault>
+    ensures late { status_after result ≢ 64 }
+    ensures takes { TurnsStore (TakesListed user.now until (W.contents output.old) (W.contents output.new) result) (state S.Store store.old) (state S.Store store.new) }
+{
+    let notices = store.notices(user)?;
+    let text = lines_until(alloc, notices, until)?;
+    write_all(output, text.as_slice())?;
+    done_by(keep(alloc, store, user, &Upkeep::TakeNotices { until }))
+}
+
+/// A line for each notice up to the moment, in their order. The notices aren't copied.
+fn lines_until(alloc: Global, notices: List<Notice>, until: u64) -> Result<Octets, AllocError>
+    ensures { IfOk result (λ text. text ≡ notice_listing (notices_until until notices)) }
+{
+    let mut early = List::new(alloc);
+    for notice in notices.into_vec() {
+        if notice.moment <= until {
+            early.push(notice)?;
+        }
+    }
+    of_notices(alloc, early.as_slice())
+}

@@ -1,0 +1,196 @@
+//! The words on a user's scripts: `scripts` and `put`.
+ghost use Rattle.std.specs.Prelude.{◌≡◌, ◌≢◌, false, IsTrue, IfOk, OnOk, option_copied};
+ghost use Rattle.mailengine.specs.Hosts.{answer_of};
+ghost use Rattle.mailengine.specs.declared.upkeep.Upkeep.TheVariants as upkeep;
+ghost use Rattle.mailstore.specs.Account.{Account};
+ghost use Rattle.sessions.specs.Decisions.{AreScripts};
+ghost use Rattle.sessions.specs.Replies.{value_of};
+ghost use Rattle.sievedrun.specs.Draining.{TurnsTables};
+ghost use Rattle.sievedrun.specs.Promise.{status_after};
+ghost use Rattle.sievedrun.specs.Serving.{HasDenied, HasGiven};
+ghost use Rattle.sievedrun.specs.Streams.{ReadsToEnd};
+ghost use Rattle.sievedrun.specs.Words.{DeniedAtEnd, DoesPut, DoesRead, DoesScripts, IsStoredBy, LacksScript, ListsScripts, Offered, PutsScript, ShowsScript, TellsVerdict};
+
+use crate::account_read::{ScriptNames, ScriptOf, ScriptsOf, read_once};
+use crate::commands::take_store;
+use crate::fault::Fault;
+use crate::listing::{Listing, run_listing};
+use crate::stream::{read_all, write_all, write_line};
+use keepers::Keeper;
+use mailengine::{Answer, Upkeep, keep};
+use mailstore::Refusal;
+use msproto::spell;
+use octets::Octets;
+use reportlines::of_fault;
+use sessions::scripts::decide;
+use sessions::sort::NamedCommand;
+use sievedwords::{Put, Scripts, StoreLocation};
+use sievelex::ScriptFault;
+use std::alloc::{AllocError, Global};
+use std::io::{Read, Write};
+
+impl Listing for ScriptsOf<'_> {
+    ghost use Rattle.sievedrun.specs.Words.{ListsScripts};
+
+    ghost shows = { λ wanted a text. ListsScripts a text };
+
+    fn lines(&self, alloc: Global, found: &ScriptNames) -> Result<Octets, AllocError> {
+        script_lines(alloc, found)
+    }
+}
+
+/// The lines that LISTSCRIPTS has before its `OK` (RFC 5804, 2.7).
+fn script_lines(alloc: Global, found: &ScriptNames) -> Result<Octets, AllocError>
+    ensures { IfOk result (λ text. (a : Account) → AreScripts found.now.names found.now.active a → ListsScripts a text) }
+{
+    let names = found.names.try_clone(alloc)?;
+    let decision = decide(alloc, names, active_in(found), &NamedCommand::ListScripts)?;
+    let mut reply = decision.reply;
+    reply.word = None;
+    let mut text = Octets::new(alloc);
+    spell(alloc, &reply, &mut text)?;
+    Ok(text)
+}
+
+/// The name of the active script, if one is.
+fn active_in(found: &ScriptNames) -> Option<&[u8]>
+    ensures { value_of result ≡ found.now.active }
+{
+    match &found.active {
+        Some(name) => Some(name.as_slice()),
+        None => None,
+    }
+}
+
+/// `scripts`: the user's scripts, as LISTSCRIPTS lists them, or the octets of the one with the name.
+pub fn run_scripts<W: Write, K: Keeper>(
+    alloc: Global,
+    asked: Scripts<'_>,
+    output: &mut W,
+    keeper: &mut K,
+) -> Result<(), Fault>
+    ensures back { K.is_out keeper.old ≡ false → K.is_out keeper.new ≡ false }
+    ensures does { IsTrue K.tells → DoesScripts (HasDenied K.refuses K.will_wait asked.entry.location) (W.contents output.old) (W.contents output.new)
+        asked.entry.user.now (option_copied asked.entry.script) result (K.holds keeper.old) (K.holds keeper.new) }
+    ensures given { OnOk result (HasGiven K.gives K.will_wait asked.entry.location) }
+{
+    match asked.script {
+        None => run_listing(
+            alloc,
+            asked.location,
+            &ScriptsOf(asked.user),
+            output,
+            keeper,
+        ),
+        Some(name) => run_script(asked.location, asked.user, name, output, keeper),
+    }
+}
+
+/// `scripts` with a name: the octets of that script.
+fn run_script<W: Write, K: Keeper>(
+    location: StoreLocation<'_>,
+    user: &str,
+    name: &str,
+    output: &mut W,
+    keeper: &mut K,
+) -> Result<(), Fault>
+    ensures back { K.is_out keeper.old ≡ false → K.is_out keeper.new ≡ false }
+    ensures does { IsTrue K.tells → DoesRead ⊥ (HasDenied K.refuses K.will_wait location.entry) user.now (ShowsScript name.now) (LacksScript name.now)
+        (W.contents output.old) (W.contents output.new) result (K.holds keeper.old) (K.holds keeper.new) }
+    ensures given { OnOk result (HasGiven K.gives K.will_wait location.entry) }
+{
+    let Some(text) = read_once(location, &ScriptOf(user, name), keeper)? else {
+        return Err(Fault::NoScript);
+    };
+    write_all(output, text.as_slice())
+}
+
+/// `put`: a script, which is the input, is stored, and becomes the active one where that is said. Of one that isn't valid the line
+/// that tells why is written, and nothing is stored.
+pub fn run_put<R: Read, W: Write, K: Keeper>(
+    alloc: Global,
+    asked: Put<'_>,
+    input: &mut R,
+    output: &mut W,
+    keeper: &mut K,
+) -> Result<(), Fault>
+    ensures unread { status_after result ≡ 64 → input.new ≡ input.old }
+    ensures reads { OnOk result (ReadsToEnd R.remaining input.old input.new) }
+    ensures back { K.is_out keeper.old ≡ false → K.is_out keeper.new ≡ false }
+    ensures does { IsTrue K.tells → DoesPut (DeniedAtEnd (HasDenied K.refuses K.will_wait asked.entry.location) (R.remaining input.new))
+        (Offered asked.entry.user.now asked.entry.script.now asked.entry.activate (R.remaining input.old))
+        (W.contents output.old) (W.contents output.new) result (K.holds keeper.old) (K.holds keeper.new) }
+    ensures given { OnOk result (HasGiven K.gives K.will_wait asked.entry.location) }
+{
+    let octets = read_all(alloc, input)?;
+    let name = Octets::from_slice(alloc, asked.script.as_bytes())?;
+    let verdict = store_script(
+        alloc,
+        asked.location,
+        asked.user.as_bytes(),
+        name,
+        Octets::from_vec(octets),
+        asked.activate,
+        keeper,
+    )?;
+    tell_verdict(alloc, asked.script.as_bytes(), verdict, output)
+}
+
+/// The script is stored, in a store that is taken and handed back; or what is wrong with it.
+fn store_script<K: Keeper>(
+    alloc: Global,
+    location: StoreLocation<'_>,
+    user: &[u8],
+    name: Octets,
+    text: Octets,
+    activate: bool,
+    keeper: &mut K,
+) -> Result<Option<ScriptFault>, Fault>
+    ensures late { status_after result ≢ 64 }
+    ensures back { K.is_out keeper.old ≡ false → K.is_out keeper.new ≡ false }
+    ensures puts { IsTrue K.tells → TurnsTables
+        (PutsScript (HasDenied K.refuses K.will_wait location.entry) user.now (upkeep.StoreScript name text activate) result) (K.holds keeper.old) (K.holds keeper.new) }
+    ensures given { OnOk result (HasGiven K.gives K.will_wait location.entry) }
+{
+    let upkeep = Upkeep::StoreScript {
+        name,
+        text,
+        activate,
+    };
+    let mut store = take_store(location, false, keeper)?;
+    let kept = keep(alloc, &mut store, user, &upkeep);
+    keeper.hand_back(store);
+    stored_by(kept)
+}
+
+/// What is wrong with the script, if something is: a refusal of the machine is the fault.
+fn stored_by(kept: Result<Answer, Refusal>) -> Result<Option<ScriptFault>, Fault>
+    ensures { IsStoredBy (answer_of kept) result }
+{
+    match kept {
+        Ok(Answer::Refused(refusal)) => Err(Fault::Refused(refusal)),
+        Ok(Answer::Invalid(fault)) => Ok(Some(fault)),
+        Ok(_) => Ok(None),
+        Err(refusal) => Err(Fault::Refused(refusal)),
+    }
+}
+
+/// Tells that the script was stored, or what is wrong with it, which is a fault then.
+fn tell_verdict<W: Write>(
+    alloc: Global,
+    name: &[u8],
+    verdict: Option<ScriptFault>,
+    output: &mut W,
+) -> Result<(), Fault>
+    ensures late { status_after result ≢ 64 }
+    ensures tells { TellsVerdict name.now verdict (W.contents output.old) (W.contents output.new) result }
+{
+    match verdict {
+        None => write_line(output, b"stored ", name),
+        Some(fault) => {
+            let line = of_fault(alloc, fault)?;
+            write_all(output, line.as_slice())?;
+            Err(Fault::Invalid)
+        }
+    }
+}
