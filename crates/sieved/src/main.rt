@@ -95,9 +95,7 @@ where
         Ok(Some(Subcommand::Daemon(asked))) => serve_many(
             net, alloc, asked, &*input, output, errors, keeper, sink,
         ),
-        Ok(Some(Subcommand::Check(_))) => {
-            check(net, alloc, words, input, output, &mut errors)
-        }
+        Ok(Some(Subcommand::Check(_))) => { check(net, alloc, words, input, output, &mut errors) }
         _ => drive(
             alloc,
             words,
@@ -129,7 +127,10 @@ fn server_subcommand<'a>(
     alloc: Global,
     words: &'a CommandLine,
 ) -> Result<Option<Subcommand<'a>>, AllocError> {
-    if !matches!(words.first(), Some("serve" | "session" | "daemon" | "check")) {
+    if !matches!(
+        words.first(),
+        Some("serve" | "session" | "daemon" | "check")
+    ) {
         return Ok(None);
     }
     match read(alloc, words) {
