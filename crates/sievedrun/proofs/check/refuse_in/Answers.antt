@@ -23,5 +23,5 @@ returns-then-is_too_large-clause-line g c =
 pub returns-clause-line : goal.returns-clause-line
 returns-clause-line g c =
     let old = g.E.Write.contents c.args.errors.now in
-    let new = g.E.Write.contents c.refuse.new.errors in
-    subst (IsWritten old new) (sym (told_otherwise (option_copied c.args.file) c.args.fault (c.is_too_large.ensures.other c.if-is_too_large.false))) c.refuse.ensures.line
+    let new = g.E.Write.contents c.refuse-2.new.errors in
+    subst (IsWritten old new) (sym (told_otherwise (option_copied c.args.file) c.args.fault (c.is_too_large.ensures.other c.if-is_too_large.false))) c.refuse-2.ensures.line
