@@ -449,7 +449,7 @@ def section(event, state):
     if kind in ("password", "address"):
         return f"== {kind} {who}\n{event[2]}\n"
     if kind in ("store", "storeactive"):
-        return f"== {kind} {who} {event[2]}".rstrip() + f"\n{SCRIPTS[event[3]][0] if event[3] in SCRIPTS else event[3].replace(chr(13), '')}"
+        return f"== {kind} {who} {event[2]}".rstrip() + f"\n{SCRIPTS[event[3]][0] if event[3] in SCRIPTS else event[3].replace(chr(13), '')}\n"
     if kind == "adduser":
         return f"== adduser {who}\n{who}@example.org\n{PASSWORDS[who]}\n"
     return f"== {kind} {' '.join(map(str, event[1:]))}\n"
