@@ -8,7 +8,7 @@ Prints a line for each trial, a last one that counts them, and ends with 1 where
 does a tenth of what is done many times. It needs python3; `postfix` needs root and Debian's postfix, `dovecot` root and Debian's
 dovecot-submissiond, else these trials are left out.
 """
-import fcntl, os, random, re, resource, shutil, signal, socket, sqlite3, subprocess, tempfile, threading, time
+import contextlib, fcntl, os, random, re, resource, shutil, signal, socket, sqlite3, subprocess, tempfile, threading, time
 import smtpservers, trials
 from managesieve import HERE, SIEVED, Store
 
@@ -25,7 +25,8 @@ class Server:
         self.lines, self.taken, self.connections, self.written = [], [], 0, 0
         self.sock = socket.create_server(("127.0.0.1", 0))
         self.place = f"127.0.0.1:{self.sock.getsockname()[1]}"
-        threading.Thread(target=self.serve, daemon=True).start()
+        self.thread = threading.Thread(target=self.serve, daemon=True)
+        self.thread.start()
 
     def serve(self):
         while True:
@@ -95,6 +96,10 @@ class Server:
         return b"".join(found)
 
     def stop(self):
+        """Ends its thread: one that still waited could take a connection of the next server, whose socket may have the same descriptor."""
+        with contextlib.suppress(OSError):
+            self.sock.shutdown(socket.SHUT_RDWR)
+        self.thread.join(5)
         self.sock.close()
 
 
