@@ -10,7 +10,6 @@ each process had.
 import os, resource, subprocess, sys, tempfile
 
 HERE = os.path.dirname(os.path.abspath(__file__))
-SIEVED = os.path.abspath(sys.argv[1] if len(sys.argv) > 1 else f"{HERE}/../crates/sieved/out/sieved")
 SIZE = 30_000_000
 SALT = "00112233445566778899aabbccddeeff"
 SOURCE = """//! Puts one value of 30 MB into a table of a file.
@@ -49,16 +48,22 @@ def peak(words, folder, data=b""):
     return used.ru_maxrss / 1024
 
 
-with tempfile.TemporaryDirectory() as folder:
-    crate = f"{folder}/crates/insert"
-    os.makedirs(f"{crate}/src")
-    open(f"{folder}/crates.txt", "w").write("insert: sqlite\n")
-    open(f"{crate}/src/main.rt", "w").write(SOURCE)
-    subprocess.run(["rt", "run"], cwd=crate, check=True, stdout=subprocess.DEVNULL)
-    os.remove(f"{crate}/message.db")
-    alone = peak([f"{crate}/out/insert"], crate)
-    db = ["--db", f"{folder}/mail.db"]
-    peak([SIEVED, "init", *db], folder)
-    peak([SIEVED, "adduser", *db, "--salt", SALT, "alice", "alice@example.org"], folder, b"secret\n")
-    whole = peak([SIEVED, "deliver", *db, "--to", "alice@example.org", "alice"], folder, b"Subject: x\n\n" + b"a" * (SIZE - 12))
-    print(f"SQLite alone {alone:.1f} MB, sieved deliver {whole:.1f} MB")
+def main():
+    program = os.path.abspath(sys.argv[1] if len(sys.argv) > 1 else f"{HERE}/../crates/sieved/out/sieved")
+    with tempfile.TemporaryDirectory() as folder:
+        crate = f"{folder}/crates/insert"
+        os.makedirs(f"{crate}/src")
+        open(f"{folder}/crates.txt", "w").write("insert: sqlite\n")
+        open(f"{crate}/src/main.rt", "w").write(SOURCE)
+        subprocess.run(["rt", "run"], cwd=crate, check=True, stdout=subprocess.DEVNULL)
+        os.remove(f"{crate}/message.db")
+        alone = peak([f"{crate}/out/insert"], crate)
+        db = ["--db", f"{folder}/mail.db"]
+        peak([program, "init", *db], folder)
+        peak([program, "adduser", *db, "--salt", SALT, "alice", "alice@example.org"], folder, b"secret\n")
+        whole = peak([program, "deliver", *db, "--to", "alice@example.org", "alice"], folder, b"Subject: x\n\n" + b"a" * (SIZE - 12))
+        print(f"SQLite alone {alone:.1f} MB, sieved deliver {whole:.1f} MB")
+
+
+if __name__ == "__main__":
+    main()

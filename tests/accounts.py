@@ -14,6 +14,10 @@ PROGRAM = [SIEVED]
 LISTED, LOG_IN = [b'"m"\r\n', b"OK\r\n"], [b'NO "Log in first."\r\n']
 AWAY = b'require "vacation"; vacation "Away.";'
 CLOSE = "import sqlite3, sys; base = sqlite3.connect(sys.argv[1]); base.execute('UPDATE account SET rounds = 0'); base.commit(); base.close()"
+# A thousand accounts more, whose lines are 140 octets long.
+FILL = """import sqlite3, sys; base = sqlite3.connect(sys.argv[1]); name = lambda number: (b"a" * 60 + b"%04d" % number)
+base.executemany("INSERT INTO account VALUES (?, ?, x'00', 1, x'00', NULL, 1, 1, 1)", [(name(number), b"b" * 60 + b"@example.org") for number in range(1_000)])
+base.commit(); base.close()"""
 
 
 class Host:
@@ -35,8 +39,12 @@ class Host:
 
     def close_all(self):
         """Closes all accounts in the tables, as a move to another machine does, while the daemon serves."""
+        self.change(CLOSE)
+
+    def change(self, program):
+        """Changes the tables by SQL, under the store's locks."""
         waits = [part for name in ("wait", "lock") for part in ("flock", f"{self.store.file}.{name}")]
-        subprocess.run([*waits, sys.executable, "-c", CLOSE, self.store.file], check=True)
+        subprocess.run([*waits, sys.executable, "-c", program, self.store.file], check=True)
 
     def word_on_a_full_disk(self, word, *more, data=b""):
         """The same where nothing of the output is taken."""
@@ -158,6 +166,33 @@ def scripts():
     return "each sees what the other stored, and which script is active"
 
 
+def users():
+    """All users, beside a daemon: in order, with their scripts; closed and removed ones; an output that nobody reads keeps nobody out."""
+    trials.need("flock")
+    with Host() as host:
+        add = lambda name: host.word("adduser", name, f"{name}@example.org", data=b"secret\n") == (0, f"added {name}\n")
+        assert host.word("users") == (0, "")
+        assert add("bob") and add("Zoe") and add("alice")
+        assert host.word("put", "--activate", "alice", 'a "b', data=b"keep;") == (0, 'stored a "b\n')
+        assert host.word("users") == (0, 'Zoe - Zoe@example.org\nalice "a \\"b" alice@example.org\nbob - bob@example.org\n')
+        assert host.word("remove", "bob") == (0, "removed bob\n")
+        assert host.word("users") == (0, 'Zoe - Zoe@example.org\nalice "a \\"b" alice@example.org\n')
+        host.close_all()
+        assert host.word("users") == (0, "closed Zoe\nclosed alice\n")
+        assert host.word("open", "alice") == (0, "opened alice\n")
+        assert host.word("users") == (0, 'closed Zoe\nalice "a \\"b" alice@example.org\n')
+        assert host.word_on_a_full_disk("users") == (75, "sieved: input or output failed\n")
+        assert host.word("users", "alice")[0] == 64
+        host.change(FILL)
+        with subprocess.Popen([*host.store.words("users", "--wait")], stdout=subprocess.PIPE) as reader:
+            first = reader.stdout.read(1)
+            assert host.deliver("alice", "bob@example.net", "alice@example.org") == (0, "file INBOX\n"), "the store is kept"
+            rest = reader.stdout.read()
+        listed = (first + rest).decode().splitlines()
+        assert reader.returncode == 0 and len(listed) == 1_002 and listed == sorted(listed, key=lambda line: line.removeprefix("closed ").encode())
+    return "in the order of octets; closed and removed ones; an output that isn't read keeps no mail out"
+
+
 def put_refused():
     """What is refused, in PUTSCRIPT's order, leaves the scripts as they are."""
     with Host("alice") as host:
@@ -220,7 +255,7 @@ def check():
     return "lines for those that are wrong, and the worst status"
 
 
-TRIALS = {trial.__name__: trial for trial in (password, salts, address, closed, removal, scripts, put_refused, notices, check)}
+TRIALS = {trial.__name__: trial for trial in (password, salts, address, closed, removal, users, scripts, put_refused, notices, check)}
 
 if __name__ == "__main__":
     trials.main(TRIALS, lambda program: PROGRAM.__setitem__(0, program))

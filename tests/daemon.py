@@ -49,6 +49,11 @@ def says():
     assert told_of(store, *db)[0] == 64
     assert told_of(store, *db, "--managesieve", "65536") == (64, "", "sieved: bad argument\n")
     assert told_of(store, *db, "--managesieve", "x") == (64, "", "sieved: bad argument\n")
+    for size in "0", "65537", "18446744073709551616", "-1", "1.5", "64M", "":
+        assert told_of(store, *db, *port, "--memory", size) == (64, "", "sieved: bad argument\n"), size
+        assert told_of(store, *db, *port, "--memory", size, "--check") == (64, "", "sieved: bad argument\n"), size
+    for size in "1", "064", "65536":
+        assert told_of(store, *db, *port, "--memory", size, "--check") == (0, "", ""), size
     for file in absent, foreign:
         assert told_of(store, "--db", file, *port) == (65, "", "sieved: not a sieved database\n"), told_of(store, "--db", file, *port)
         assert told_of(store, "--db", file, *port, "--check") == (65, "", "sieved: not a sieved database\n")
@@ -394,9 +399,9 @@ def fails():
     assert client.get(b"a") and client.get(b"b") and other.put(b"c", b"keep;\r\n").startswith(b"OK")
     assert server.poll() is None
     server.kill()
-    lines = server.stderr.read().decode().splitlines()
+    first, *lines = server.stderr.read().decode().splitlines()
     end(server)
-    assert lines and set(lines) == {"sieved: not a sieved database"}, lines
+    assert first.startswith("sieved: begins ") and lines and set(lines) == {"sieved: not a sieved database"}, lines
     return f"while the store was gone TRYLATER, and {len(lines)} lines; then all is there"
 
 
@@ -421,7 +426,7 @@ def rests():
 
 
 def tells():
-    """Behind a minute in which something happened a line has its counts."""
+    """The first line has version and process; behind a minute in which something happened one has its counts."""
     store = new_store("alice", "bob")
     words = store.words("daemon", "--managesieve", "0", "--lmtp", "0", "--quiet")
     server = subprocess.Popen(words, stdout=subprocess.PIPE, stderr=subprocess.PIPE)
@@ -436,6 +441,9 @@ def tells():
     greet(peer)
     replies = peer.deliver(b"Subject: x\r\n\r\nx\r\n", b"alice@x", b"bob@x", b"nobody@x")
     assert [reply[:3] for reply in replies] == [b"250", b"250"], replies
+    first = server.stderr.readline().decode()
+    version = subprocess.run([PROGRAM[0], "--version"], capture_output=True, text=True).stdout.split()[-1]
+    assert first == f"sieved: begins version={version} pid={server.pid}\n", first
     status = server.stderr.readline().decode()
     after = time.time() - began
     end(server)

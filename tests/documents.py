@@ -121,7 +121,7 @@ def links():
 
 def version():
     with open(f"{TOP}/crates/sievedwords/src/program.rt") as file:
-        (found,) = re.findall(r'\.version\("([0-9.]+)"\)', file.read())
+        (found,) = re.findall(r'VERSION: &str = "([0-9.]+)"', file.read())
     said = subprocess.run([SIEVED, "--version"], capture_output=True, text=True).stdout.split()
     page = [line for line in lines_of("docs/sieved.1") if line.startswith(".Os")]
     newest = [line.split() for line in lines_of("CHANGELOG.md") if re.match(r"## [0-9]", line)][0]

@@ -208,11 +208,16 @@ def refusals():
 
 
 def boxes():
-    """Mailboxes and near misses; of an address literal with a tag nothing is asked that stands behind it."""
+    """Mailboxes and near misses, and address literals of numbers."""
     draw = random.Random(21)
     for text in mailboxes.drawn(600, draw):
-        if mailboxes.is_mailbox(text) or b"[ipv6:" not in text.lower():
-            yield f"{escaped(text)}\t{'yes' if mailboxes.is_mailbox(text) else 'no'}\n"
+        yield f"{escaped(text)}\t{'yes' if mailboxes.is_mailbox(text) else 'no'}\n"
+    source = None
+    for literal, is_one, said in mailboxes.numbered():
+        if said != source:
+            source = said
+            yield f"# {said}\n"
+        yield f"{escaped(f'a@{literal}'.encode())}\t{'yes' if is_one else 'no'}\n"
 
 
 with open(os.path.join(HOME, "letters.cases"), "w", encoding="ascii") as out:

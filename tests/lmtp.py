@@ -243,6 +243,22 @@ def thousand():
     return f"{len(users)} recipients, a reply each; another client's NOOP took {slowest * 1000:.0f} ms at most"
 
 
+def send_on(peer, part):
+    """More of a text, where the connection hasn't ended."""
+    try:
+        peer.sock.sendall(part)
+    except OSError:
+        pass
+
+
+def told_at_end(peer):
+    """The reply to the end of a text; nothing where there was no room even for that, and the connection ended."""
+    try:
+        return peer.say(b".\r\n")[0]
+    except OSError:
+        return b""
+
+
 def room():
     """All that 70 clients send at once, who end nothing: together they hold 64 MiB, and who passes that is told so."""
     store = new_store("alice")
@@ -256,7 +272,7 @@ def room():
     part = (b"x" * 998 + b"\r\n") * 1_000
     for _ in range(size // len(part)):
         for peer in peers:
-            peer.sock.sendall(part)
+            send_on(peer, part)
     clients, gone = [connect(sieve) for _ in range(50)], 0
     literal = b'PUTSCRIPT {1048576+}\r\n' + b"y" * 1_048_576 + b" {1048576+}\r\n" + b"y" * 1_048_000
     for client in clients:
@@ -267,16 +283,38 @@ def room():
     # What they sent is read once this is answered: the daemon reads of each in turn.
     time.sleep(1)
     most = memory(server, "VmHWM")
-    told = [peer.say(b".\r\n")[0] for peer in peers]
+    told = [told_at_end(peer) for peer in peers]
     filed, refused = told.count(b"250 2.1.5 file INBOX\r\n"), told.count(b"452 4.3.1 Out of memory, try later\r\n")
-    again = peers[-1].say(b"MAIL FROM:<s@x> SIZE=33000000\r\n")[0]
+    ended = told.count(b"")
+    for one in [*clients, *peers]:
+        one.close()
+    time.sleep(1)
+    peer = Peer(port)
+    greet(peer)
+    again = peer.say(b"MAIL FROM:<s@x> SIZE=33000000\r\n")[0]
     delivered = memory(server, "VmHWM")
     end(server)
-    assert filed + refused == 20 and filed >= 1 and refused >= 1, told
+    assert filed + refused + ended == 20 and filed >= 1 and refused + ended >= 1, told
     assert count_of(store, "alice") == filed
     assert again == b"250 2.1.0 Ok\r\n", again
     assert most - before < 3 * mib * 1024, (before, most)
-    return f"20 texts of {size >> 20} MiB and 50 scripts of 2 MiB at once, of which {mib} MiB may be held: {filed} filed, {refused} told 452, {gone} scripts cut off; {most} kB at most, {before} before, {delivered} with the deliveries"
+    return f"20 texts of {size >> 20} MiB and 50 scripts of 2 MiB at once, of which {mib} MiB may be held: {filed} filed, {refused} told 452, {ended} disconnected, {gone} scripts cut off; {most} kB at most, {before} before, {delivered} with the deliveries"
+
+
+def little_room():
+    """With --memory 1 a text of 2 MiB has no room, and one of half a MiB has; a SIZE of 2 MiB is refused before it."""
+    store = new_store("alice")
+    server, port = daemon(store, "--lmtp", "0", "--memory", "1")
+    peer = Peer(port)
+    greet(peer)
+    for lines, told in (2_000, b"452 4.3.1 Out of memory, try later\r\n"), (500, b"250 2.1.5 file INBOX\r\n"):
+        assert peer.open(b"alice@x") == [b"250 2.1.5 Ok\r\n"] and peer.say(b"DATA\r\n")[0].startswith(b"354")
+        peer.sock.sendall((b"x" * 998 + b"\r\n") * lines)
+        assert peer.say(b".\r\n")[0] == told, lines
+    assert peer.say(b"MAIL FROM:<s@x> SIZE=2000000\r\n")[0].startswith(b"452 4.3.1")
+    end(server)
+    assert count_of(store, "alice") == 1
+    return "--memory 1: a text of 2 MiB and such a SIZE are told 452, half a MiB is filed"
 
 
 def broken_off():
@@ -365,7 +403,7 @@ def killed():
     return done.stdout.strip()
 
 
-TRIALS = {"dialogues": dialogues, "names": names, "scripts": scripts, "circles": circles, "thousand": thousand, "room": room, "broken_off": broken_off, "away": away,
+TRIALS = {"dialogues": dialogues, "names": names, "scripts": scripts, "circles": circles, "thousand": thousand, "room": room, "little_room": little_room, "broken_off": broken_off, "away": away,
           "sockets": sockets, "killed": killed}
 
 

@@ -18,7 +18,7 @@ A line for a trial says how many requests there were, at how many the answer was
 line counts the trials, and the status is 1 where one failed. `tests/run` runs it, with --quick: some forty requests of each, spread
 over all. It needs python3 and cc; what crates/cases tries needs its program, crates/cases/out/cases.
 """
-import io, os, re, shutil, struct, subprocess, tempfile
+import contextlib, io, os, re, shutil, sqlite3, struct, subprocess, tempfile
 import managesieve, stops, trials
 from collections import Counter
 from concurrent.futures import ThreadPoolExecutor
@@ -95,7 +95,7 @@ def word(room, *words, data=b"", scripts=(), maildir=False, spoil=None, **more):
             for part in ("tmp", "new", "cur") if maildir else ():
                 os.makedirs(f"{folder}/Maildir/{part}", exist_ok=True)
             filled = [text.replace("FOLDER", folder) for text in words]
-            command = [PROGRAM[0], filled[0], *(() if words[0] == "try" else ("--db", f"{folder}/mail.db")), *filled[1:]]
+            command = [PROGRAM[0], filled[0], *(() if words[0] in ("try", "check") else ("--db", f"{folder}/mail.db")), *filled[1:]]
             ran = refusing(command, number, data, **more)
             if spoil and ran[0]:
                 spoil(folder)
@@ -188,6 +188,58 @@ def notices():
 
 def drain(**more):
     return word(with_mail(), "drain", "alice", "INBOX", "FOLDER/Maildir", maildir=True, **more)
+
+
+def users():
+    room = with_mail()
+    for name in "bob", "carol":
+        room.run("adduser", "--salt", SALT, name, f"{name}@example.org", data=b"another\n")
+    room.run("put", "--activate", "bob", 'a "b', data=b"keep;\r\n")
+    return word(room, "users")
+
+
+def passwd():
+    return word(Room(), "passwd", "--salt", SALT[::-1], "alice", data=b"another\n")
+
+
+def address():
+    return word(Room(), "address", "alice", "alice@example.com")
+
+
+def scripts_word():
+    return word(with_mail(), "scripts", "alice", scripts=[b"main", b"other"])
+
+
+def script_word():
+    return word(with_mail(), "scripts", "alice", "main", scripts=[b"main", b"other"])
+
+
+def put_file(**more):
+    return word(with_mail(), "put", "--activate", "alice", "new", data=SCRIPT, scripts=[b"main", b"other", b"new"], **more)
+
+
+def remove(**more):
+    return word(with_mail(), "remove", "--mail", "alice", **more)
+
+
+def open_word():
+    """An account that is closed in the tables, as a move leaves it."""
+    room = with_mail()
+    with contextlib.closing(sqlite3.connect(f"{room.folder}/mail.db")) as store, store:
+        store.execute("UPDATE account SET rounds = 0")
+    return word(room, "open", "alice")
+
+
+def notices_until(**more):
+    room = Room()
+    room.talk(put_script(b"main", b'require "vacation"; vacation "a"; vacation "b";\r\n'), b'SETACTIVE "main"\r\n')
+    for moment in "5", "6", "7":
+        room.run("deliver", "--from", "bob@example.net", "--to", "alice@example.org", "--at", moment, "alice", data=MAIL % 1)
+    return word(room, "notices", "--until", "6", "alice", **more)
+
+
+def check():
+    return word(Room(), "check", data=SCRIPT)
 
 
 # A session: each answer is the full one, or puts the client off.
@@ -598,8 +650,9 @@ TEXTS = ["addresses", "targets", "bare", "spellings", "words", "texts", "tokens"
          "heads", "scripts", "tests", "vacations"]
 
 WORDS = (try_word, init, adduser, deliver, folders, show, queue, queue_row, done, notices, drain,
+         users, passwd, address, scripts_word, script_word, put_file, remove, open_word, notices_until, check,
          put, put_again, activate, delete, rename, get, listed, checked, serve, planted)
-AGAIN = (try_word, deliver, done, drain, put)
+AGAIN = (try_word, deliver, done, drain, put, put_file, remove, notices_until)
 TRIALS = {trial.__name__.removesuffix("_word"): trial for trial in WORDS} | ENGINE
 TRIALS |= {f"{trial.__name__.removesuffix('_word')}_none_left": lambda trial=trial: trial(**NONE_LEFT) for trial in AGAIN}
 TRIALS |= {f"text_{name}": lambda name=name: texts(name) for name in TEXTS}

@@ -53,6 +53,7 @@ fn add(out: &mut Octets, asked: Subcommand<'_>) -> Result<(), AllocError> {
             asked.location,
             &[asked.salt.unwrap_or("no salt"), asked.name, asked.address],
         ),
+        Subcommand::Users(asked) => add_at(out, "users", asked.location, &[]),
         Subcommand::Passwd(asked) => add_at(
             out,
             "passwd",
@@ -130,6 +131,7 @@ fn add(out: &mut Octets, asked: Subcommand<'_>) -> Result<(), AllocError> {
             let mail = asked.mail.unwrap_or("no mail");
             let separator = asked.separator.unwrap_or("no separator");
             let host = asked.host.unwrap_or("no host");
+            let memory = asked.memory.unwrap_or("no size");
             let quiet = if asked.quiet { "quiet" } else { "" };
             add_texts(
                 out,
@@ -143,6 +145,7 @@ fn add(out: &mut Octets, asked: Subcommand<'_>) -> Result<(), AllocError> {
                     mail,
                     separator,
                     host,
+                    memory,
                     quiet,
                 ],
             )

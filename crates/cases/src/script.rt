@@ -102,7 +102,9 @@ fn discard_after(alloc: Global, test: &str) -> Result<Octets, AllocError> {
     add_parts(
         &mut script,
         &[
-            Text(b"require [\"envelope\", \"subaddress\", \"mailbox\"]; if "),
+            Text(
+                b"require [\"envelope\", \"subaddress\", \"relational\", \"comparator-i;ascii-numeric\", \"mailbox\"]; if ",
+            ),
             Text(test.as_slice()),
             Text(b" { discard; }"),
         ],

@@ -1,4 +1,6 @@
 pub mod Cuts
 pub mod Examples
+pub mod NumberLemmas
 pub mod Orders
+pub mod SortingLemmas
 pub mod Standing

@@ -1,2 +1,4 @@
 pub mod Comparators
 pub mod Search
+pub mod Sorting
+pub mod Numbers

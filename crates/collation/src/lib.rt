@@ -1,5 +1,5 @@
-//! Comparators (RFC 4790): whether two texts are the same, and whether one holds the other, by the images of their
-//! octets. Nothing here takes memory.
+//! Comparators (RFC 4790): whether two texts are the same, whether one holds the other, and which comes first, by the
+//! images of their octets or by numbers. Nothing here takes memory.
 #![tactic(auto)]
 
 ghost use Rattle.std.specs.Prelude.{◌≡◌, ◌↔◌, ℕ, ◌+◌, ◌^◌, ◌<◌, ◌≤◌, length, refl, IsTrue};
@@ -7,9 +7,14 @@ ghost use Rattle.std.specs.Char.{to_ascii_uppercase};
 ghost use Rattle.std.proofs.lemmas.Str.Ascii.{uppercase-uppercase};
 ghost use Rattle.collation.specs.Comparators.{EqualBy, ContainsBy, SameFrom};
 
+pub mod laws;
+mod numeric;
+mod order;
 mod spelling;
 mod twoway;
 
+pub use numeric::{are_equal_numbers, compare_numbers};
+pub use order::compare;
 pub use spelling::{Key, Plain, Spot};
 pub use twoway::find;
 

@@ -272,6 +272,8 @@ impl<S: Shelf + Drop> Clock for DeskFake<S> {
 impl<S: Shelf + Drop> Desk for DeskFake<S> {
     ghost shows = { S.holds };
 
+    ghost leaves = { S.leaves };
+
     ghost clean = { λ _. Unit {0} };
 
     fn carry(&mut self, id: u32, clients: &mut Clients, event: &Event) -> Option<Answer> {
@@ -339,6 +341,8 @@ impl<S: Shelf + Drop> Desk for DeskFake<S> {
         self.stage.keep(Act::Worked(Note::Looked(wanted)));
         rests || wanted
     }
+
+    ghost left = { S.left };
 
     ghost sure = { λ _ _. tt };
 }

@@ -22,9 +22,12 @@ pub struct MemShelf {
 impl Shelf for MemShelf {
     ghost use Rattle.sqlite.specs.Held.{state};
     ghost use Rattle.sqlite.specs.Steps.{over_memory};
-    ghost use Rattle.sessions.specs.Acts.{HasAccounts};
+    ghost use Rattle.std.specs.Prelude.{IsTrue};
+    ghost use Rattle.mailmoves.specs.Enduring.{Endures};
 
-    ghost holds = { λ shelf accounts. HasAccounts (state over_memory shelf.store) accounts };
+    ghost holds = { λ shelf accounts. Endures (state over_memory shelf.store) accounts };
+
+    ghost leaves = { λ shelf trees. IsTrue (state over_memory shelf.store).is_open × (state over_memory shelf.store).may_leave trees };
 
     ghost has = { λ shelf mails. shelf.sink.messages ≡ mails };
 
@@ -42,4 +45,6 @@ impl Shelf for MemShelf {
     fn move_on(&mut self, now: u64, fresh: bool) -> Moving {
         move_next(&mut self.store, &mut self.sink, &mut self.route, now, fresh)
     }
+
+    ghost left = { λ shelf accounts shown trees left. shown.left left.0 trees left.1 };
 }

@@ -3,6 +3,8 @@ ghost use Rattle.mailstore.specs.Account.{Accounts};
 ghost use Rattle.mailposts.specs.Posts.{IsFound};
 ghost use Rattle.mailengine.specs.Hosts.{IsGivenUp};
 ghost use Rattle.std.specs.Prelude.{List};
+ghost use Rattle.sqlite_trees.specs.Tree.{Trees};
+ghost use Rattle.mailmoves.specs.Enduring.{MayLeave};
 ghost use Rattle.mailsinks.specs.declared.kept.KeptMail.{KeptMail};
 ghost use Rattle.sieveddaemon.specs.Moves.{HasKept};
 ghost use Rattle.daemonfakes.specs.Shelves.{IsApplied, IsSought, IsMovedOn, StillHas};
@@ -15,6 +17,9 @@ use mailmoves::Moving;
 pub trait Shelf {
     /// Which accounts it has.
     ghost holds: { Self → Accounts → Type 0 };
+
+    /// What an open after a crash at this moment may find.
+    ghost leaves: { Self → Trees → Type 0 };
 
     /// The messages that moved on.
     ghost has: { Self → List KeptMail → Type 0 };
@@ -34,4 +39,7 @@ pub trait Shelf {
     fn move_on(&mut self, now: u64, fresh: bool) -> Moving
         ensures moves { IsMovedOn holds result self.old self.new }
         ensures keeps { HasKept has result self.old self.new };
+
+    // A crash leaves the accounts, or what one event makes of them, as a whole.
+    ghost left: { (shelf : Self) (accounts : Accounts) → holds shelf accounts → (trees : Trees) → leaves shelf trees → MayLeave accounts trees };
 }

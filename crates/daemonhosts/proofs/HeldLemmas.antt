@@ -5,8 +5,10 @@ use Rattle.sqlite.specs.Effect.{Database}
 use Rattle.sqlite.specs.Held.{Held, state}
 use Rattle.mailstore.specs.Account.{Accounts}
 use Rattle.mailstore.specs.Shows.{Presents, Offers}
+use Rattle.mailstore.specs.Connection.{IsSettled}
 use Rattle.keepers.specs.Taken.{IsTaken}
-use Rattle.sessions.specs.Acts.{HasAccounts}
+use Rattle.mailmoves.specs.Enduring.{Endures}
+use Rattle.mailmoves.proofs.EnduringLemmas.{settled_endures, event_endures}
 use Rattle.lmtp.specs.declared.receiver.Lookup.{Lookup}
 use Rattle.mailstore.specs.declared.refusal.Refusal.{Refusal}
 use Rattle.mailstore.specs.declared.report.Report.{Report}
@@ -14,9 +16,9 @@ use Rattle.sieveexec.specs.declared.envelope.Envelope.{Envelope}
 use Rattle.mailposts.specs.declared.demand.Parcel.{Parcel}
 use Rattle.sqlite.specs.State.{State, HasCleanDisk}
 use Rattle.mailengine.specs.AccountEvents.{Delivery}
-use Rattle.mailengine.specs.Hosts.{Kept, IsEvent, host, ActsDelivery, MayRefuseDelivery, answer_by}
+use Rattle.mailengine.specs.Hosts.{Kept, IsEvent, SurvivesEvent, host, ActsDelivery, MayRefuseDelivery, answer_by}
 use Rattle.mailengine.specs.declared.answer.Answer.TheVariants.{Delivered}
-use Rattle.mailengine.proofs.HostLemmas.{account_event, delivery_may}
+use Rattle.mailengine.proofs.HostLemmas.{account_crash, account_event, delivery_may}
 use Rattle.mailengine.specs.declared.answer.Answer.{Answer}
 use Rattle.mailengine.specs.declared.event.Event.{Event}
 use Rattle.mailsinks.specs.declared.kept.KeptMail.{KeptMail}
@@ -35,12 +37,12 @@ presented db accounts shown = inl (shown.0, inl shown.1, shown.2)
 
 module _ {S : Type 0} (g : Ghosts S) (tells : Bool) where
   -- a store that was taken shows what its keeper's tables offered
-  pub taken : (was is : Database) (store : Held S) → (IsTrue tells → IsTaken false was (state g store).now) → (accounts : Accounts) → ShowsBy g tells was None accounts → ShowsBy g tells is (Some store) accounts
-  taken was is store took accounts shown = λ is_open. (took shown.0).0.shown accounts shown.1
+  pub taken : (was is : Database) (store : Held S) → (IsTrue tells → IsTaken false was (state g store).now) → (IsTrue tells → IsSettled (state g store)) → (accounts : Accounts) → ShowsBy g tells was None accounts → ShowsBy g tells is (Some store) accounts
+  taken was is store took settled accounts shown = settled_endures (state g store) accounts (settled shown.0) ((took shown.0).0.shown accounts shown.1)
 
   -- a store that was given back is offered by its keeper's tables
   pub given : (was is : Database) (store : Held S) → (IsTrue tells → IsTrue (state g store).is_open) → (IsTrue tells → is ≡ (state g store).now) → IsTrue tells → (accounts : Accounts) → ShowsBy g tells was (Some store) accounts → ShowsBy g tells is None accounts
-  given was is store sure held told accounts shown = (told, subst (λ db. Offers db accounts) (sym (held told)) (presented (state g store).now accounts (shown (sure told))))
+  given was is store sure held told accounts shown = (told, subst (λ db. Offers db accounts) (sym (held told)) (presented (state g store).now accounts (shown.shown (sure told))))
 
   -- what was shown stays so where the tables that are told are as they were
   pub kept : (was is : Database) (store : Option (Held S)) → (IsTrue tells → is ≡ was) → (accounts : Accounts) → ShowsBy g tells was store accounts → ShowsBy g tells is store accounts
@@ -49,13 +51,14 @@ module _ {S : Type 0} (g : Ghosts S) (tells : Bool) where
 
 -- an event by one call of `apply`: nobody came between
 pub done_alone : {R S : Type 0} (g : Ghosts S) (shows : R → Accounts → Type 0) (r q : R) (event : Event) (answer : Answer) (old new : Held S) (before after : Kept)
-    → ((accounts : Accounts) → shows r accounts → HasAccounts (state g old) accounts) → ((accounts : Accounts) → HasAccounts (state g new) accounts → shows q accounts)
-    → HasCleanDisk (state g new) → IsEvent event answer (host (state g old) before) (host (state g new) after) → IsDone shows [] event answer r before q after
-done_alone g shows r q event answer old new before after was is clean made = λ w at.
-    let led = made clean w (record { accounts = was w.accounts at.shown; sessions = at.sessions }) in (
-      led.0,
-      record { strangers = tt; told = []; between = w; theirs = refl; apart = refl; ours = led.1.is_next },
-      record { shown = is led.0.accounts led.1.implements.accounts; sessions = led.1.implements.sessions },
+    → ((accounts : Accounts) → shows r accounts → Endures (state g old) accounts) → ((accounts : Accounts) → Endures (state g new) accounts → shows q accounts)
+    → HasCleanDisk (state g new) → (IsTrue (state g new).is_open → IsTrue (state g old).is_open) → SurvivesEvent event (host (state g old) before) (host (state g new) after)
+    → IsEvent event answer (host (state g old) before) (host (state g new) after) → IsDone shows [] event answer r before q after
+done_alone g shows r q event answer old new before after was is clean shut crash made = λ w at.
+    let it = event_endures event (state g old) (state g new) before after clean shut crash w at.sessions (was w.accounts at.shown) answer made in (
+      it.0,
+      record { strangers = tt; told = []; between = w; theirs = refl; apart = refl; ours = it.1 },
+      record { shown = is it.0.accounts it.2; sessions = it.3 },
     )
 
 -- an event that was done behind a call that changed no account
@@ -75,16 +78,30 @@ asked_alone shows r q user lookup kept finds = λ w at.
     (w, record { strangers = tt; told = []; theirs = refl; apart = refl; found = seen.0 }, record { shown = seen.1; sessions = at.sessions })
 
 -- a delivery is an event, whatever sessions there are
+delivery_acts : (parcel : Parcel) (moment : ℕ) (user message : List ℕ) (envelope : Envelope) (old new : State) (r : Result Report Refusal)
+    → user ≡ parcel.user → envelope ≡ record { from = parcel.sender; to = parcel.recipient } → message ≡ parcel.message → ActsDelivery user envelope message moment old new r
+    → ActsDelivery parcel.user (record { from = parcel.sender; to = parcel.recipient }) parcel.message moment old new r
+delivery_acts parcel moment user message envelope old new r is_user is_envelope is_message acts =
+    let own : Envelope = record { from = parcel.sender; to = parcel.recipient } in
+    subst (λ u. ActsDelivery u own parcel.message moment old new r) is_user
+    (subst (λ e. ActsDelivery user e parcel.message moment old new r) is_envelope (subst (λ m. ActsDelivery user envelope m moment old new r) is_message acts))
+
 pub delivered_as : (parcel : Parcel) (moment : ℕ) (user message : List ℕ) (envelope : Envelope) (old new : State) (kept : Kept) (r : Result Report Refusal)
     → user ≡ parcel.user → envelope ≡ record { from = parcel.sender; to = parcel.recipient } → message ≡ parcel.message → ActsDelivery user envelope message moment old new r
     → IsEvent (delivery_of parcel moment) (answer_by Delivered r) (host old kept) (host new kept)
 delivered_as parcel moment user message envelope old new kept r is_user is_envelope is_message acts =
     let own : Envelope = record { from = parcel.sender; to = parcel.recipient } in
-    let made : ActsDelivery parcel.user own parcel.message moment old new r =
-    subst (λ u. ActsDelivery u own parcel.message moment old new r) is_user
-    (subst (λ e. ActsDelivery user e parcel.message moment old new r) is_envelope (subst (λ m. ActsDelivery user envelope m moment old new r) is_message acts)) in
     account_event (delivery_of parcel moment) (λ accounts. Delivery accounts parcel.user own parcel.message moment) (MayRefuseDelivery own parcel.message moment) (λ w answer next done. done)
-    (delivery_may parcel.user parcel.message own moment) old new kept Delivered r made
+    (delivery_may parcel.user parcel.message own moment) old new kept Delivered r (delivery_acts parcel moment user message envelope old new r is_user is_envelope is_message acts)
+
+-- and what a crash leaves of it
+pub delivered_crash : (parcel : Parcel) (moment : ℕ) (user message : List ℕ) (envelope : Envelope) (old new : State) (kept : Kept) (r : Result Report Refusal)
+    → user ≡ parcel.user → envelope ≡ record { from = parcel.sender; to = parcel.recipient } → message ≡ parcel.message → ActsDelivery user envelope message moment old new r
+    → SurvivesEvent (delivery_of parcel moment) (host old kept) (host new kept)
+delivered_crash parcel moment user message envelope old new kept r is_user is_envelope is_message acts =
+    let own : Envelope = record { from = parcel.sender; to = parcel.recipient } in
+    account_crash (delivery_of parcel moment) (λ accounts. Delivery accounts parcel.user own parcel.message moment) (MayRefuseDelivery own parcel.message moment) (λ w answer next done. done)
+    (delivery_may parcel.user parcel.message own moment) old new kept r (answer_by Delivered r) (delivery_acts parcel moment user message envelope old new r is_user is_envelope is_message acts)
 
 -- what a sink keeps, as the daemon sees it
 pub has_kept : {K S T : Type 0} (tells : Bool) (kept : T → List KeptMail) (r q : HeldStore K T S) (m : Moving) → KeepsIt tells (kept r.sink) (kept q.sink) m → HasKept (HasMail tells kept) m r q

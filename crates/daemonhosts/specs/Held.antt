@@ -1,5 +1,6 @@
 -- What a store shows that is had now and then.
-use Rattle.std.specs.Prelude.{◌≡◌, ℕ, Bool, false, List, [], Option, Some, None, IsTrue}
+use Rattle.std.specs.Prelude.{◌≡◌, ◌⊎◌, ℕ, Bool, false, List, [], Option, Some, None, IsTrue}
+use Rattle.sqlite_trees.specs.Tree.{Trees}
 use Rattle.sqlite_trees.specs.declared.store.Store.{Ghosts}
 use Rattle.sqlite.specs.Effect.{Database}
 use Rattle.sqlite.specs.Held.{Held, state}
@@ -7,21 +8,29 @@ use Rattle.sqlite.specs.State.{HasCleanDisk}
 use Rattle.lmtp.specs.declared.receiver.Lookup.{Lookup}
 use Rattle.mailstore.specs.Account.{Accounts}
 use Rattle.mailstore.specs.Shows.{Offers}
-use Rattle.sessions.specs.Acts.{HasAccounts}
 use Rattle.mailengine.specs.Hosts.{Kept}
+use Rattle.mailmoves.specs.Enduring.{Endures}
 use Rattle.mailmoves.specs.Moving.{Moves}
 use Rattle.mailmoves.specs.declared.moving.Moving.{Moving}
 use Rattle.mailsinks.specs.declared.kept.KeptMail.{KeptMail}
 use Rattle.mailengine.specs.declared.answer.Answer.{Answer}
+use Rattle.mailengine.specs.declared.answer.Answer.TheVariants.{Refused}
+use Rattle.mailstore.specs.declared.refusal.Refusal.TheVariants.{Memory, Store}
 use Rattle.mailengine.specs.declared.event.Event.{Event}
 use Rattle.keepers.specs.declared.keeper.Unavailable.{Unavailable}
 use Rattle.sieveddaemon.specs.Desk.{StillShows, IsDone, NothingDone, IsFoundIn}
 use Rattle.daemonhosts.specs.declared.held.HeldStore.{HeldStore}
 
--- while it is had the store shows the accounts; else they are those of its keeper's tables, and none can be claimed where it doesn't tell these
+-- while it is had the store shows the accounts, and a crash leaves them, or as one event makes them (`Endures`); else they are those of its
+-- keeper's tables, and none can be claimed where it doesn't tell these
 abbrev pub ShowsBy : {S : Type 0} → Ghosts S → Bool → Database → Option (Held S) → Accounts → Type 0
-ShowsBy g tells db (Some store) accounts = HasAccounts (state g store) accounts
+ShowsBy g tells db (Some store) accounts = Endures (state g store) accounts
 ShowsBy g tells db None accounts = IsTrue tells × Offers db accounts
+
+-- what an open after a crash may find, while it is had and no fault of the disk has shut its connection
+abbrev pub LeavesBy : {S : Type 0} → Ghosts S → Option (Held S) → Trees → Type 0
+LeavesBy g (Some store) trees = IsTrue (state g store).is_open × (state g store).may_leave trees
+LeavesBy g None trees = ⊥
 
 -- the disk returned what was written; while it isn't had that is known of a keeper that tells its tables alone
 abbrev pub IsCleanBy : {S : Type 0} → Ghosts S → Bool → Option (Held S) → Type 0
@@ -35,6 +44,9 @@ Shows g tells holds held accounts = ShowsBy g tells (holds held.keeper) held.sto
 abbrev pub IsClean : {K S T : Type 0} → Ghosts S → Bool → HeldStore K T S → Type 0
 IsClean g tells held = IsCleanBy g tells held.store
 
+pub record Leaves {K S T : Type 0} (g : Ghosts S) (held : HeldStore K T S) (trees : Trees) : Type 0 where
+  pub now : LeavesBy g held.store trees
+
 -- whatever accounts were shown, they are shown
 abbrev pub StillShown : {K S T : Type 0} → Ghosts S → Bool → (K → Database) → HeldStore K T S → HeldStore K T S → Type 0
 StillShown g tells holds held later = StillShows (Shows g tells holds) held later
@@ -46,6 +58,10 @@ Changes shows clean event None r before q after = NothingDone shows r before q a
 
 abbrev pub Brings : {K S T : Type 0} → Ghosts S → Bool → (K → Database) → Event → Option Answer → HeldStore K T S → Kept → HeldStore K T S → Kept → Type 0
 Brings g tells holds event answer held before later after = Changes (Shows g tells holds) (IsClean g tells) event answer held before later after
+
+-- a refusal of the store whose disk is full is told as lack of memory, and every other answer as it is
+abbrev pub IsToldAs : Answer → Answer → Type 0
+IsToldAs answer told = (told ≡ answer) ⊎ ((answer ≡ Refused Store) × (told ≡ Refused Memory))
 
 -- a keeper that waits for nobody refused the store at this path so
 abbrev pub DeniesAtOnce : {K : Type 0} → (K → List ℕ → Unavailable → Type 0) → (K → Bool) → List ℕ → Unavailable → Type 0

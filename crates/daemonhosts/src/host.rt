@@ -4,7 +4,7 @@ ghost use Rattle.mailposts.specs.Posts.{IsFound};
 ghost use Rattle.mailengine.specs.Hosts.{IsGivenUp, Kept};
 ghost use Rattle.sieveddaemon.specs.Desk.{delivery_of};
 ghost use Rattle.wires.specs.Told.{IsOwn};
-ghost use Rattle.daemonhosts.specs.Held.{Shows, IsClean, StillShown, Brings, Goes, HasMail, Seeks};
+ghost use Rattle.daemonhosts.specs.Held.{Shows, IsClean, StillShown, Brings, Goes, HasMail, IsToldAs, Seeks};
 ghost use Rattle.sieveddaemon.specs.Moves.{HasKept};
 
 use crate::held::HeldStore;
@@ -12,13 +12,14 @@ use crate::news::News;
 use crate::queue::Queue;
 use keepers::{Keeper, Unavailable};
 use lmtp::Lookup;
-use mailengine::{Answer, Clients, Event};
+use mailengine::{Answer, Clients, Event, Refusal};
 use mailmoves::{Moving, Route, span_behind};
 use mailposts::Parcel;
 use mailsinks::MailSink;
 use sieveddaemon::desk::Desk;
 use sieveddaemon::note::Note;
 use sievedrun::trouble::Trouble;
+use sqlite::ErrorCode;
 use std::alloc::Global;
 use std::collections::VecDeque;
 use std::io::Write;
@@ -159,9 +160,10 @@ impl<'a, N: Net + time::Clock, E: Write + Drop, K: Keeper + Drop, T: MailSink + 
         let moment = seconds(self.system);
         match self.held.deliver(self.alloc, parcel, moment) {
             Some(answer) => {
-                self.news.note_delivery(parcel, &answer, self.held.code());
+                let code = self.held.code();
+                self.news.note_delivery(parcel, &answer, code);
                 note_time(&mut self.news, self.system, begun);
-                Some(answer)
+                Some(told_as(answer, code))
             }
             None => None,
         }
@@ -227,6 +229,22 @@ impl<'a, N: Net + time::Clock, E: Write + Drop, K: Keeper + Drop, T: MailSink + 
         let refusal = self.held.give_back();
         let now = self.sockets.now();
         self.news.note_given(refusal, self.held.cause(), now);
+    }
+}
+
+/// The answer to a delivery, as it is told: of a store whose disk is full as of one that lacks memory.
+fn told_as(answer: Answer, code: Option<ErrorCode>) -> Answer
+    ensures { IsToldAs answer result }
+{
+    match answer {
+        Answer::Refused(Refusal::Store) => {
+            if code == Some(ErrorCode::DiskFull) {
+                Answer::Refused(Refusal::Memory)
+            } else {
+                Answer::Refused(Refusal::Store)
+            }
+        }
+        other => other,
     }
 }
 
@@ -346,8 +364,12 @@ impl<N: Net + time::Clock, E: Write + Drop, K: Keeper + Drop, T: MailSink + Drop
 impl<N: Net + time::Clock, E: Write + Drop, K: Keeper + Drop, T: MailSink + Drop> Desk
     for Host<'_, N, E, K, T> {
     ghost use Rattle.keepers.specs.Laws.{never_told};
+    ghost use Rattle.daemonhosts.specs.Held.{Leaves};
+    ghost use Rattle.daemonhosts.specs.Laws.{crash_leaves};
 
     ghost shows = { Shows K.S.Store K.tells K.holds };
+
+    ghost leaves = { Leaves K.S.Store };
 
     ghost clean = { IsClean K.S.Store K.tells };
 
@@ -421,6 +443,8 @@ impl<N: Net + time::Clock, E: Write + Drop, K: Keeper + Drop, T: MailSink + Drop
         }
         gives
     }
+
+    ghost left = { λ held accounts shown trees left. crash_leaves _ _ left shown };
 
     ghost sure = { λ desk told. never_told told };
 }

@@ -5,7 +5,7 @@ ghost use Rattle.sqlite.specs.Held as sqlite;
 ghost use Rattle.sqlite.specs.Held.{state};
 ghost use Rattle.sqlite.specs.State.{HasCleanDisk};
 ghost use Rattle.mailstore.specs.Schema.{no_schema, mail_schema};
-ghost use Rattle.mailstore.specs.Connection.{StaysSame};
+ghost use Rattle.mailstore.specs.Connection.{StaysSame, IsSettled};
 ghost use Rattle.mailstore.specs.Account.{no_accounts};
 ghost use Rattle.mailstore.specs.declared.refusal.Refusal.{Refusal};
 ghost use Rattle.mailstore.specs.Refusals.{IsTransient};
@@ -124,6 +124,7 @@ pub trait Keeper {
     /// tables stay as they are.
     fn take(&mut self, path: &str, fresh: bool) -> Result<Store<Self::S>, Unavailable>
         ensures taken { IfOk result (λ store. IsTrue tells → IsTaken fresh (holds self.old) (state Self.S.Store store).now) }
+        ensures settled { IfOk result (λ store. IsTrue tells → IsSettled (state Self.S.Store store)) }
         ensures refused { OnErr result (IsTrue tells → holds self.new ≡ holds self.old) }
         ensures out { OnOk result (IsTrue (is_out self.new)) }
         ensures kept { OnErr result (is_out self.new ≡ is_out self.old) }
@@ -181,6 +182,7 @@ pub(crate) fn store_of<S: Alter + Drop>(
         → StaysSame (state S.Store conn) (state S.Store store)) }
     ensures ours { IfOk result (λ store. HasCleanDisk (state S.Store store) → fresh ≡ false → IsKnown (state S.Store conn).now) }
     ensures made { IfOk result (λ store. HasCleanDisk (state S.Store store) → IsTrue fresh → Presents (state S.Store store).now no_accounts) }
+    ensures settled { IfOk result (λ store. HasCleanDisk (state S.Store store) → IsSettled (state S.Store store)) }
     ensures blank { IfOk result (λ store. IsTrue fresh → conn.schema ≡ no_schema) }
     ensures refused { IfErr result (λ e. HasCleanDisk (state S.Store e.1) → StaysSame (state S.Store conn) (state S.Store e.1)) }
 {

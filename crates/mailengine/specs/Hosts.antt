@@ -15,7 +15,7 @@ use Rattle.sieveexec.specs.declared.envelope.Envelope.{Envelope}
 use Rattle.mailstore.specs.declared.queue.Outgoing.{Outgoing}
 use Rattle.mailstore.specs.declared.report.Report.{Report}
 use Rattle.mailstore.specs.declared.refusal.Refusal.{Refusal}
-use Rattle.mailstore.specs.declared.refusal.Refusal.TheVariants.{Memory, Store, NoUser, UserExists, BadUser, NoRow, AccountClosed, UserIsOpen, UserHasMail, BadScriptName, ScriptTooLarge, TooManyScripts}
+use Rattle.mailstore.specs.declared.refusal.Refusal.TheVariants.{Memory, Store, NoUser, UserExists, BadUser, NoRow, AccountClosed, UserHasMail}
 use Rattle.sessions.specs.Acts.{HasAccounts, Acts, Lasts}
 use Rattle.sessions.specs.Counts.{SessionView}
 use Rattle.sessions.specs.GivenUp.{text_given_up}
@@ -30,7 +30,6 @@ use Rattle.mailengine.specs.declared.clients.Clients.{Clients as Sessions}
 use Rattle.mailengine.specs.declared.answer.Answer.TheVariants.{Delivered, Added, Taken, MailTaken, Refused}
 use Rattle.mailengine.specs.AccountEvents.{Delivery, Addition, Taking, MailTaking}
 use Rattle.mailengine.specs.declared.upkeep.Upkeep.{Upkeep}
-use Rattle.mailengine.specs.declared.upkeep.Upkeep.TheVariants.{SetPassword, SetAddress, StoreScript, OpenAccount, RemoveAccount}
 use Rattle.mailengine.specs.Upkeep.{Keeping, IsFit, MayLackFor}
 use Rattle.mailengine.specs.Limits.{limit_refusal, IsNewUser}
 use Rattle.mailengine.specs.World.{World, Clients, if_open, Next, Runs}
@@ -252,16 +251,3 @@ RefusesAddition name address password refusal =
 -- has none
 abbrev pub RefusesTaking : Refusal → Type 0
 RefusesTaking refusal = (refusal ≡ NoUser) ⊎ (refusal ≡ NoRow) ⊎ IsTransient refusal
-
--- the refusals of an administrator's act, by what is handed in and by the account
-abbrev pub RefusesKept : Upkeep → Refusal → Type 0
-RefusesKept (SetPassword salt password) refusal = refusal ≡ BadUser
-RefusesKept (SetAddress address) refusal = refusal ≡ BadUser
-RefusesKept (StoreScript name text activate) refusal = (refusal ≡ BadScriptName) ⊎ (refusal ≡ ScriptTooLarge) ⊎ (refusal ≡ TooManyScripts)
-RefusesKept OpenAccount refusal = refusal ≡ UserIsOpen
-RefusesKept (RemoveAccount mail) refusal = refusal ≡ UserHasMail
-RefusesKept upkeep refusal = ⊥
-
--- it is refused so, or for want of an account, or without visible cause
-abbrev pub RefusesKeeping : Upkeep → Refusal → Type 0
-RefusesKeeping upkeep refusal = RefusesKept upkeep refusal ⊎ (refusal ≡ NoUser) ⊎ MayRefuseKeeping upkeep refusal

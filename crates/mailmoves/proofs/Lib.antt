@@ -1,1 +1,3 @@
+pub mod EnduringLemmas
 pub mod MoveLemmas
+pub mod RefusedLemmas

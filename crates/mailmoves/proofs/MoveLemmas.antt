@@ -7,28 +7,26 @@ use Rattle.mailstore.specs.CopyRows.{HasFirst}
 use Rattle.mailstore.specs.Promises.{HasOurTables, Keeps, Reads, OfOpen}
 use Rattle.mailstore.specs.declared.refusal.Refusal.{Refusal}
 use Rattle.mailstore.specs.declared.taking.NumberedMessage.{NumberedMessage}
-use Rattle.sessions.specs.Acts.{HasAccounts}
-use Rattle.sessions.proofs.ActLemmas.{glanced, accounts_stay, read_shows}
+use Rattle.sessions.proofs.ActLemmas.{read_shows}
 use Rattle.mailengine.specs.Hosts.{ActsMailTaking, answer_by}
 use Rattle.mailengine.specs.declared.answer.Answer.TheVariants.{MailTaken}
+use Rattle.mailmoves.specs.Enduring.{Endures}
 use Rattle.mailmoves.specs.Moving.{IsFirst, TakesFirst, MovesFirst, Moves, MovesOn, WasClean, IsStill}
 use Rattle.mailsinks.specs.declared.kept.KeptMail.{KeptMail}
 use Rattle.mailmoves.specs.declared.moving.Kept.{Kept}
 use Rattle.mailmoves.specs.declared.moving.Moving.{Moving}
 use Rattle.mailmoves.specs.declared.moving.Moving.TheVariants as moving
 use Rattle.mailmoves.specs.declared.moving.Why.{Why}
+use Rattle.mailmoves.proofs.EnduringLemmas.{read_endures, taking_endures}
 
 -- ---- what only reads
 
 pub read_clean : {X E : Type 0} (a b : State) (r : Result X E) → Keeps a b r → WasClean a b
 read_clean a b r k = clean_before a b (λ _. HasOurTables a.now → ⊥) k.crash
 
-pub read_shown : {X E : Type 0} (a b : State) (r : Result X E) → Keeps a b r → HasCleanDisk b → (accounts : Accounts) → HasAccounts a accounts → HasAccounts b accounts
-read_shown a b r k = accounts_stay a b (glanced a b r k)
-
 -- and nothing moved
 pub still_first : {X E : Type 0} (user folder : List ℕ) (why : Why) (a b : State) (r : Result X E) → Keeps a b r → MovesFirst user folder (Err why) a b
-still_first user folder why a b r k clean accounts shown = (accounts, refl, read_shown a b r k clean accounts shown)
+still_first user folder why a b r k clean accounts shown = (accounts, refl, read_endures a b r k clean accounts shown)
 
 still_moves : (m : Moving) (accounts : Accounts) → IsStill m → Moves m accounts accounts
 still_moves moving.Nothing accounts is = refl
@@ -42,7 +40,7 @@ still_on m a is clean accounts shown = (accounts, still_moves m accounts is, sho
 
 -- a move behind a read
 pub moves_behind : {X E : Type 0} (m : Moving) (a b c : State) (r : Result X E) → Keeps a b r → WasClean b c → MovesOn m b c → MovesOn m a c
-moves_behind m a b c r k was moves clean accounts shown = moves clean accounts (read_shown a b r k (was clean) accounts shown)
+moves_behind m a b c r k was moves clean accounts shown = moves clean accounts (read_endures a b r k (was clean) accounts shown)
 
 pub still_then : {X E : Type 0} (m : Moving) (a b : State) (r : Result X E) → Keeps a b r → IsStill m → MovesOn m a b
 still_then m a b r k is = moves_behind m a b b r k (λ clean. clean) (still_on m b is)
@@ -51,7 +49,7 @@ still_then m a b r k is = moves_behind m a b b r k (λ clean. clean) (still_on m
 pub failed_is : (user folder : List ℕ) (why : Why) (m : Moving) (a b : State) → IsStill m → MovesFirst user folder (Err why) a b → MovesOn m a b
 failed_is user folder why m a b is moves clean accounts shown =
     let it = moves clean accounts shown in
-    (accounts, still_moves m accounts is, subst (HasAccounts b) it.1 it.2)
+    (accounts, still_moves m accounts is, subst (Endures b) it.1 it.2)
 
 -- ---- one message
 module _ (user folder : List ℕ) (a b : State) (r : Result (Option NumberedMessage) Refusal) (first : Option NumberedMessage) (was : r ≡ Ok first)
@@ -60,14 +58,14 @@ module _ (user folder : List ℕ) (a b : State) (r : Result (Option NumberedMess
   some_first [] has = absurd (let no = has in cc)
   some_first (other ∷ more) has = let same : message.message ≡ other = cc in ap (λ m. m ∷ more) (sym same)
 
-  is_first : HasCleanDisk b → (accounts : Accounts) → HasAccounts a accounts → IsFirst accounts user folder message.message
+  is_first : HasCleanDisk b → (accounts : Accounts) → Endures a accounts → IsFirst accounts user folder message.message
   is_first clean accounts shown =
-      let own = subst (λ q. IfOk q (λ x. OfOpen accounts user (λ account. HasFirst x (messages_in account.folders folder)))) was (reads.found clean accounts (read_shows a b r first was reads.keeps clean accounts shown).0) in
+      let own = subst (λ q. IfOk q (λ x. OfOpen accounts user (λ account. HasFirst x (messages_in account.folders folder)))) was (reads.found clean accounts (read_shows a b r first was reads.keeps clean accounts shown.shown).0) in
       (own.0, drop 1 (messages_in own.0.folders folder), own.1, some_first (messages_in own.0.folders folder) (subst (λ f. HasFirst f (messages_in own.0.folders folder)) is own.2))
 
   pub took_first : (c : State) (q : Result (Unit {0}) Refusal) (kept : Kept) → WasClean b c → ActsMailTaking user folder a c q → kept.message ≡ message.message → kept.answer ≡ answer_by (λ done. MailTaken) q → MovesFirst user folder (Ok kept) a c
   took_first c q kept clean_then acts same answer clean accounts shown =
-      let it = acts.carries clean accounts shown in (
+      let it = taking_endures user folder a c q acts clean accounts shown q refl in (
         it.0,
         (subst (λ m. IsFirst accounts user folder m) (sym same) (is_first (clean_then clean) accounts shown), subst (λ o. TakesFirst accounts user folder o it.0) (sym answer) it.1),
         it.2,

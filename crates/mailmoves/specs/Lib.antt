@@ -1,3 +1,4 @@
+pub mod Enduring
 pub mod Moving
 pub mod Place
 pub mod Rests

@@ -4,10 +4,10 @@ use Rattle.sqlite.specs.State.{State, HasCleanDisk}
 use Rattle.mailstore.specs.Account.{Account, Accounts, open_of, messages_in}
 use Rattle.mailstore.specs.Refusals.{IsTransient}
 use Rattle.mailsinks.specs.declared.kept.KeptMail.{KeptMail}
-use Rattle.sessions.specs.Acts.{HasAccounts}
 use Rattle.mailengine.specs.AccountEvents.{MailTaking}
 use Rattle.mailengine.specs.Hosts.{TurnsBy}
 use Rattle.mailengine.specs.declared.answer.Answer.{Answer}
+use Rattle.mailmoves.specs.Enduring.{Endures}
 use Rattle.mailmoves.specs.declared.moving.Kept.{Kept}
 use Rattle.mailmoves.specs.declared.moving.Moving.{Moving}
 use Rattle.mailmoves.specs.declared.moving.Moving.TheVariants as moving
@@ -27,10 +27,10 @@ abbrev pub FirstMoves : List ℕ → List ℕ → Result Kept Why → Accounts �
 FirstMoves user folder (Ok kept) accounts later = IsFirst accounts user folder kept.message × TakesFirst accounts user folder kept.answer later
 FirstMoves user folder (Err why) accounts later = later ≡ accounts
 
--- over a store, whatever accounts it showed
+-- over a store, whatever accounts it showed; a crash leaves those that it shows, or as one event makes them (`Endures`)
 abbrev pub MovesFirst : List ℕ → List ℕ → Result Kept Why → State → State → Type 0
 MovesFirst user folder result old new =
-    HasCleanDisk new → (accounts : Accounts) → HasAccounts old accounts → (later : Accounts) × FirstMoves user folder result accounts later × HasAccounts new later
+    HasCleanDisk new → (accounts : Accounts) → Endures old accounts → (later : Accounts) × FirstMoves user folder result accounts later × Endures new later
 
 -- ---- whichever folder it is
 
@@ -40,7 +40,7 @@ Moves other accounts later = later ≡ accounts
 
 abbrev pub MovesOn : Moving → State → State → Type 0
 MovesOn result old new =
-    HasCleanDisk new → (accounts : Accounts) → HasAccounts old accounts → (later : Accounts) × Moves result accounts later × HasAccounts new later
+    HasCleanDisk new → (accounts : Accounts) → Endures old accounts → (later : Accounts) × Moves result accounts later × Endures new later
 
 -- no message left its folder
 abbrev pub IsStill : Moving → Type 0

@@ -28,6 +28,9 @@ pub mod LeastLemmas
 pub mod AllLemmas
 pub mod PlaceLemmas
 pub mod NextLemmas
+pub mod UserLemmas
+pub mod WalkLemmas
+pub mod UserExamples
 pub mod ListedLemmas
 pub mod FirstLemmas
 pub mod NumberLemmas

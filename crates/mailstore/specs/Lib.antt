@@ -18,6 +18,7 @@ pub mod ScriptRows
 pub mod Shows
 pub mod Taking
 pub mod Tally
+pub mod Users
 pub use Rattle.mailtables.specs.Cells
 pub use Rattle.mailtables.specs.Connection
 pub use Rattle.mailtables.specs.Ours

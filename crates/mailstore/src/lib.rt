@@ -20,6 +20,7 @@ mod row;
 mod script;
 pub mod store;
 mod taking;
+mod users;
 
 pub use folder::Folder;
 pub use head::Head;

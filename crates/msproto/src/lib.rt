@@ -14,4 +14,4 @@ pub use commands::Command;
 pub use items::{Item, Reach, command_at, extent, first, item_at};
 pub use replies::{Code, Line, Reply, Status};
 pub use scanner::Scan;
-pub use spelling::spell;
+pub use spelling::{spell, spell_string};

@@ -71,11 +71,11 @@ fn line(line: &Line, out: &mut Octets) -> Result<(), AllocError>
 {
     match line {
         Line::Capability { name, value } => {
-            string(name.as_slice(), out)?;
+            spell_string(name.as_slice(), out)?;
             after_space(value, out)?;
         }
         Line::Script { name, active } => {
-            string(name.as_slice(), out)?;
+            spell_string(name.as_slice(), out)?;
             if *active {
                 out.extend_from_slice(b" ACTIVE")?;
             }
@@ -119,7 +119,7 @@ fn code(code: &Option<Code>, out: &mut Octets) -> Result<(), AllocError>
     match code {
         Code::Tag(tag) => {
             out.extend_from_slice(b" (TAG ")?;
-            string(tag.as_slice(), out)?;
+            spell_string(tag.as_slice(), out)?;
             out.extend_from_slice(b")")
         }
         Code::MaxSize => out.extend_from_slice(b" (QUOTA/MAXSIZE)"),
@@ -139,13 +139,16 @@ fn after_space(text: &Option<Octets>, out: &mut Octets) -> Result<(), AllocError
     match text {
         Some(text) => {
             out.push(b' ')?;
-            string(text.as_slice(), out)
+            spell_string(text.as_slice(), out)
         }
         None => Ok(()),
     }
 }
 
-fn string(text: &[u8], out: &mut Octets) -> Result<(), AllocError>
+/// Appends a text as a string (RFC 5804, section 4): quoted where it fits, with `\` before each `"` and `\`, else a literal.
+///
+/// Time and memory are linear in the text. Lack of memory is the only error, and `out` then has more at its end.
+pub fn spell_string(text: &[u8], out: &mut Octets) -> Result<(), AllocError>
     ensures ok { OnOk result (out.new ≡ out.old ++ s.string_spelled text.now) }
     ensures err { OnErr result (s.Extends out.old out.new) }
 {

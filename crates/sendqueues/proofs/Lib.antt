@@ -2,3 +2,4 @@ mod Examples
 mod QueueLemmas
 mod StoreLemmas
 mod ShownLemmas
+mod TakeLemmas

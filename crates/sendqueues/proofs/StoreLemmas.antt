@@ -28,17 +28,12 @@ use Rattle.mailstore.specs.Promises as store
 use Rattle.mailstore.specs.declared.next.Queued.{Queued}
 use Rattle.mailstore.specs.declared.queue.Outgoing.{Outgoing}
 use Rattle.mailstore.specs.declared.refusal.Refusal.{Refusal}
-use Rattle.mailstore.specs.declared.refusal.Refusal.TheVariants.{NoUser, NoRow}
-use Rattle.mailstore.specs.Refusals.{IsTransient}
+use Rattle.mailstore.specs.declared.refusal.Refusal.TheVariants.{NoUser}
 use Rattle.mailstore.proofs.NextLemmas.{queued_total}
 use Rattle.sessions.specs.Acts.{HasAccounts, Carries}
 use Rattle.sessions.proofs.ActLemmas.{glanced, accounts_stay, read_shows}
 use Rattle.mailengine.proofs.TakingLemmas.{row_numbered}
-use Rattle.mailengine.specs.declared.answer.Answer.TheVariants.{Taken, Refused}
-use Rattle.mailengine.specs.AccountEvents.{TakesIn, Taking}
-use Rattle.mailengine.specs.AccountEvents as engine
-use Rattle.mailengine.specs.Hosts.{TurnsBy, ActsTaking, answer_by}
-use Rattle.sendqueues.specs.Posts.{IsAfter, HasRow, IsRowAt, IsNoneDue, IsNext, IsFound, IsPast, IsStep, IsGone, Works, Reads, TakesRow, is_due}
+use Rattle.sendqueues.specs.Posts.{IsAfter, HasRow, IsRowAt, IsNoneDue, IsNext, IsFound, IsPast, IsStep, Works, Reads, is_due}
 use Rattle.sendqueues.specs.declared.post.Post.{Post}
 use Rattle.sendqueues.specs.declared.post.Step.{Step}
 use Rattle.sendqueues.specs.declared.post.Step.TheVariants.{End, Past, Due}
@@ -120,7 +115,7 @@ all_at P [] x all there = absurd there
 all_at P (y ∷ xs) x all (inl same) = subst P (sym same) all.0
 all_at P (y ∷ xs) x all (inr there) = all_at P xs x all.1 there
 
-permuted_has : {X : Type 0} (xs ys : List X) (x : X) → IsPermutation xs ys → Has xs x → Has ys x
+pub permuted_has : {X : Type 0} (xs ys : List X) (x : X) → IsPermutation xs ys → Has xs x → Has ys x
 permuted_has xs ys x same there = all_at (Has ys) xs x (all_shuffled (Has ys) ys xs (IsPermutation-sym xs ys same) (within_all ys ys (λ y here. here))) there
 
 filtered_has : {X : Type 0} (p : X → Bool) (xs : List X) (x : X) → Has (filter p xs) x → Has xs x
@@ -141,7 +136,7 @@ found_has id (first ∷ rows) row is = go (first.id == id) (found_has id rows ro
     go false later same = inr (later same)
 
 -- a row of a queue stands in the table
-row_queued : (tables : Tables) (accounts : Accounts) (place : Queued) (row : Outgoing) → ShowsAccounts tables accounts → HasRow accounts place row → IsQueued tables place
+pub row_queued : (tables : Tables) (accounts : Accounts) (place : Queued) (row : Outgoing) → ShowsAccounts tables accounts → HasRow accounts place row → IsQueued tables place
 row_queued tables accounts place row shows has =
     let shown : IsShown place.user (rows_of place.user tables) has.0 = subst (IsShownOrAbsent place.user (rows_of place.user tables)) (open_there (get accounts place.user) has.0 has.1) (shows.users place.user) in
     let there : Has has.0.queue row = found_has place.id has.0.queue row has.2 in
@@ -158,7 +153,7 @@ both_equal Equal b is = (refl, is)
 both_equal Greater b is = absurd (let never = is in cc)
 
 -- neither before nor after is the same
-one_place : (p q : Queued) → (IsAfter p q → ⊥) → (IsAfter q p → ⊥) → p ≡ q
+pub one_place : (p q : Queued) → (IsAfter p q → ⊥) → (IsAfter q p → ⊥) → p ≡ q
 one_place p q not_before not_after = by (queued_cmp p q) refl
   where
     by : (o : Ordering) → queued_cmp p q ≡ o → p ≡ q
@@ -312,59 +307,3 @@ module _ (waits : Waits) (now : ℕ) (start place : Queued) where
 -- there are fewer rows
 pub steps_past : (waits : Waits) (now : ℕ) (start place : Queued) (e : Refusal) (a b : State) → Works (StepsTo waits now start place) a b → Works (Reads (IsFound waits now start) (Err e)) a b
 steps_past waits now start place e a b steps = works_as a b (StepsTo waits now start place) (Reads (IsFound waits now start) (Err e)) (λ accounts later h. (h.0, tt)) steps
-
--- ---- a row is taken out
-
-refused_row : (accounts later : Accounts) (user : List ℕ) (o : Option Outgoing) (e : Refusal) → engine.TakesRow accounts user o (Refused e) later → later ≡ accounts
-refused_row accounts later user None e takes = takes.stays
-refused_row accounts later user (Some row) e takes = absurd (let no = takes.taken in cc)
-
-refused_in : (accounts later : Accounts) (user : List ℕ) (id : ℕ) (o : Option Account) (e : Refusal) → TakesIn accounts user id o (Refused e) later → later ≡ accounts
-refused_in accounts later user id None e takes = takes.stays
-refused_in accounts later user id (Some a) e takes = refused_row accounts later user (row_with id a.queue) e takes
-
-refused_same : (accounts later : Accounts) (user : List ℕ) (id : ℕ) (e : Refusal) → Taking accounts user id (Refused e) later → later ≡ accounts
-refused_same accounts later user id e taking = refused_in accounts later user id (open_of accounts user) e taking
-
-module _ (place : Queued) (user : List ℕ) (same : user ≡ place.user) (a b : State) (r : Result Outgoing Refusal) (acts : ActsTaking user place.id a b r) where
-  abbrev Turned : Result Outgoing Refusal → Accounts → Accounts → Type 0
-  Turned q = TurnsBy (λ accounts. Taking accounts place.user place.id) IsTransient (answer_by Taken q)
-
-  as_acts : (q : Result Outgoing Refusal) → r ≡ q → Works (Turned q) a b
-  as_acts q is = record {
-    carries = subst (λ o. Carries (Turned o) a b) is (subst (λ u. Carries (TurnsBy (λ accounts. Taking accounts u place.id) IsTransient (answer_by Taken r)) a b) same acts.carries);
-    clean = clean_before a b _ acts.crash;
-  }
-
-  -- it wasn't taken out
-  pub take_refused : (e : Refusal) → r ≡ Err e → Works (TakesRow place (Err e)) a b
-  take_refused e is = works_as a b (Turned (Err e)) (TakesRow place (Err e)) stays (as_acts (Err e) is)
-    where
-      stays : (accounts later : Accounts) → Turned (Err e) accounts later → later ≡ accounts
-      stays accounts later (inl taking) = refused_same accounts later place.user place.id e taking
-      stays accounts later (inr refused) = refused.3
-
-  -- it was
-  pub row_taken : (row : Outgoing) (done : Unit {0}) → r ≡ Ok row → Works (TakesRow place (Ok done)) a b
-  row_taken row done is = works_as a b (Turned (Ok row)) (TakesRow place (Ok done)) by (as_acts (Ok row) is)
-    where
-      by : (accounts later : Accounts) → Turned (Ok row) accounts later → IsGone place accounts later
-      by accounts later (inl taking) = (Taken row, taking)
-      by accounts later (inr refused) = absurd (let no = refused.2 in cc)
-
-  -- it isn't there
-  pub row_gone : (e : Refusal) (done : Unit {0}) → (IsTransient e → ⊥) → r ≡ Err e → Works (TakesRow place (Ok done)) a b
-  row_gone e done known is = works_as a b (Turned (Err e)) (TakesRow place (Ok done)) by (as_acts (Err e) is)
-    where
-      by : (accounts later : Accounts) → Turned (Err e) accounts later → IsGone place accounts later
-      by accounts later (inl taking) = (Refused e, taking)
-      by accounts later (inr refused) = absurd (known (let same : e ≡ refused.0 = (let h = refused.2 in cc) in subst IsTransient (sym same) refused.1))
-
--- these aren't without visible cause
-pub no_row_known : IsTransient NoRow → ⊥
-no_row_known (inl never) = let h = never in cc
-no_row_known (inr never) = let h = never in cc
-
-pub no_user_known : IsTransient NoUser → ⊥
-no_user_known (inl never) = let h = never in cc
-no_user_known (inr never) = let h = never in cc

@@ -1,10 +1,11 @@
 -- Rows of queues that are due, as a store finds them.
-use Rattle.std.specs.Prelude.{◌≡◌, Bool, true, ℕ, Option, Some, None, Result, Ok, Err, IfOk}
+use Rattle.std.specs.Prelude.{◌≡◌, Bool, true, false, ℕ, Option, Some, None, Result, Ok, Err, IfOk}
 use Rattle.std.specs.declared.cmp.Ordering.TheVariants.{Less}
 use Rattle.sqlite.specs.State.{State, HasCleanDisk}
 use Rattle.mailstore.specs.Account.{Accounts, row_with}
-use Rattle.mailstore.specs.Next.{queued_cmp}
-use Rattle.mailstore.specs.Promises.{OfOpen}
+use Rattle.mailtables.specs.Rows.{Tables}
+use Rattle.mailstore.specs.Next.{queued_cmp, IsQueued}
+use Rattle.mailstore.specs.Promises.{Keeps, OfOpen, OverAccounts}
 use Rattle.mailstore.specs.declared.next.Queued.{Queued}
 use Rattle.mailstore.specs.declared.queue.Outgoing.{Outgoing}
 use Rattle.mailstore.specs.declared.refusal.Refusal.{Refusal}
@@ -74,6 +75,21 @@ pub record Works (Turn : Accounts → Accounts → Type 0) (old new : State) : T
 -- a read: no account changes, and after Ok this holds of the answer and of the accounts
 abbrev pub Reads : {X : Type 0} → (Accounts → X → Type 0) → Result X Refusal → Accounts → Accounts → Type 0
 Reads Part result accounts later = (later ≡ accounts) × IfOk result (Part accounts)
+
+-- what is seen holds of whatever accounts the tables showed, and all stays
+pub record Sees {X : Type 0} (Part : Accounts → X → Type 0) (old new : State) (result : Result X Refusal) : Type 0 where
+  pub found : HasCleanDisk new → OverAccounts old (λ accounts. IfOk result (Part accounts))
+  pub keeps : Keeps old new result
+
+-- whether an open account has a row at a place
+abbrev pub IsThere : Queued → Accounts → Bool → Type 0
+IsThere place accounts true = (row : Outgoing) × HasRow accounts place row
+IsThere place accounts false = (row : Outgoing) → HasRow accounts place row → ⊥
+
+-- whether any account has one
+abbrev pub TellsQueued : Queued → Bool → Tables → Type 0
+TellsQueued place true tables = IsQueued tables place
+TellsQueued place false tables = IsQueued tables place → ⊥
 
 -- the event of the machine that takes the row at a place was answered: the row left the queue, or it wasn't there
 abbrev pub IsGone : Queued → Accounts → Accounts → Type 0

@@ -102,14 +102,19 @@ impl<K: Keeper + Drop> HeldStore<K> {
     }
 
     /// The row at a place is taken out.
-    pub(crate) fn remove(&mut self, path: &str, place: &Queued) -> Result<(), Unavailable>
+    pub(crate) fn remove(
+        &mut self,
+        alloc: Global,
+        path: &str,
+        place: &Queued,
+    ) -> Result<(), Unavailable>
         ensures { TurnsShown K.S.Store K.tells K.holds (Removes place.now result) self.old.store self.old.keeper self.new.store self.new.keeper }
     {
         self.take(path)?;
         let Some(store) = &mut self.store else {
             return Err(Unavailable::Busy);
         };
-        match take_row(store, place) {
+        match take_row(alloc, store, place) {
             Ok(()) => Ok(()),
             Err(refusal) => Err(Unavailable::Refused(refusal)),
         }

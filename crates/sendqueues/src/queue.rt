@@ -121,7 +121,7 @@ impl<K: Keeper + Drop> Queue for StoreQueue<'_, K> {
         let Ok(place) = place_of(self.alloc, user, id) else {
             return Err(Denial::Memory);
         };
-        match self.held.remove(self.search.path, &place) {
+        match self.held.remove(self.alloc, self.search.path, &place) {
             Ok(()) => Ok(()),
             Err(denial) => {
                 self.since = None;

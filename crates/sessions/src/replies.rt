@@ -90,7 +90,9 @@ pub fn capabilities(alloc: Global, user: &Option<Octets>) -> Result<Reply, Alloc
         alloc,
         &mut lines,
         b"SIEVE",
-        Some(b"fileinto envelope vacation copy vacation-seconds subaddress mailbox"),
+        Some(
+            b"fileinto envelope vacation copy vacation-seconds subaddress relational comparator-i;ascii-numeric mailbox",
+        ),
     )?;
     add_capability(alloc, &mut lines, b"MAXREDIRECTS", Some(b"16"))?;
     add_capability(alloc, &mut lines, b"UNAUTHENTICATE", None)?;

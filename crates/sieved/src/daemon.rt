@@ -20,11 +20,8 @@ use std::{fs, io};
 use systemsockets::SystemSockets;
 use wires::service::Service;
 
-/// So many KiB all connections may hold: 64 MiB.
-const MEMORY: u32 = 65_536;
-
-/// Serves many clients at once, from the store of a keeper. What is inherited is on the descriptor. The answer is the exit status,
-/// where there is one.
+/// Serves many clients at once, from the store of a keeper. What is inherited is on the descriptor. The first line on the errors has
+/// the version and the number of the process. The answer is the exit status, where there is one.
 pub fn serve_many<
     N: Net + Files + Clock,
     D: AsFd,
@@ -36,6 +33,7 @@ pub fn serve_many<
     system: &N,
     alloc: Global,
     words: words::Daemon<'_>,
+    pid: u32,
     descriptor: &D,
     output: &mut W,
     mut errors: E,
@@ -65,7 +63,7 @@ pub fn serve_many<
     };
     match watch(system, alloc, listening, output) {
         Ok(sockets) => {
-            let host = Host::new(
+            let mut host = Host::new(
                 alloc,
                 system,
                 sockets,
@@ -76,6 +74,7 @@ pub fn serve_many<
                 words.quiet,
                 errors,
             );
+            host.begin(words::VERSION.as_bytes(), pid);
             live(alloc, &asked, host)
         }
         Err(error) => refuse(&mut errors, trouble_of_socket(error)),
@@ -166,7 +165,7 @@ fn live<N: Net + Clock, E: Write + Drop, K: Keeper + Drop, T: MailSink + Drop>(
         Ok(name) => name,
         Err(AllocError) => return host.refuse(trouble_of(Fault::from(AllocError))),
     };
-    let mut daemon = MailDaemon::new(alloc, asked.names, name, asked.mail.is_some(), MEMORY);
+    let mut daemon = MailDaemon::new(alloc, asked.names, name, asked.mail.is_some(), asked.memory);
     let mut service = Service::new(alloc);
     match life::serve(&mut host, &mut daemon, &mut service, u64::MAX) {
         Ok(()) => 0,

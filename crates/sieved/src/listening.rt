@@ -6,7 +6,7 @@ use mio::net::TcpListener;
 use octets::{Octets, is_printable};
 use sievedrun::fault::Fault;
 use sievedrun::trouble::Trouble;
-use sievedrun::values::{port_of, separator_of};
+use sievedrun::values::{mebibytes_of, port_of, separator_of};
 use sievedwords::Daemon;
 use std::alloc::{AllocError, Global};
 use std::fs::Files;
@@ -18,6 +18,9 @@ use systemsockets::{Listener, bind_path, inherit};
 
 /// The longest name of a host, in octets (RFC 5321, 4.5.3.1.2).
 const MAX_HOST: usize = 255;
+
+/// How much all connections may hold where the words don't say it, in MiB.
+const MEMORY: u32 = 64;
 
 /// Where clients of LMTP come in.
 #[derive(Clone, Copy)]
@@ -49,6 +52,8 @@ pub struct Asked<'a> {
     pub mail: Option<Mail<'a>>,
     /// The name with which clients of LMTP are greeted.
     pub host: &'a str,
+    /// How much all connections may hold, in KiB.
+    pub memory: u32,
 }
 
 /// What the words ask for.
@@ -70,6 +75,7 @@ pub fn read_asked(words: Daemon<'_>) -> Result<Asked<'_>, Fault> {
         names: names_of(words.names)?,
         mail: mail_of(words)?,
         host: host_of(words.host)?,
+        memory: memory_of(words.memory)?,
     })
 }
 
@@ -116,6 +122,15 @@ pub fn host_of(text: Option<&str>) -> Result<&str, Fault> {
         return Err(Fault::BadArgument);
     }
     Ok(name)
+}
+
+/// How many KiB all connections may hold.
+fn memory_of(text: Option<&str>) -> Result<u32, Fault> {
+    let mebibytes = match text {
+        None => MEMORY,
+        Some(text) => mebibytes_of(text)?,
+    };
+    Ok(mebibytes.saturating_mul(1_024))
 }
 
 /// What listens, in the order of the kinds of connections, and the lines that tell of it.

@@ -28,6 +28,7 @@ use std::fs::Files;
 use std::io::{Read, Write};
 use std::net::{Net, TcpListener, TcpStream};
 use std::os::fd::AsFd;
+use std::process;
 use std::process::ExitCode;
 use std::random::RandomSource;
 use std::time::{Clock, SystemTime};
@@ -51,8 +52,11 @@ fn run(rt: &HostRuntime, words: &CommandLine) -> u8 {
         rt,
         rt.alloc(),
         words,
-        clock(rt),
-        random(rt),
+        Moment {
+            clock: clock(rt),
+            random: random(rt),
+            pid: process::id(rt.process()),
+        },
         &mut rt.stdin(),
         &mut rt.stdout(),
         rt.stderr(),
@@ -61,13 +65,21 @@ fn run(rt: &HostRuntime, words: &CommandLine) -> u8 {
     )
 }
 
+/// What the system says as the program begins: the clock's moment in seconds since 1970 and 16 random octets, where they can be
+/// had, and the number of the process.
+#[derive(Clone, Copy)]
+struct Moment {
+    clock: Option<u64>,
+    random: Option<[u8; 16]>,
+    pid: u32,
+}
+
 /// Does what the words ask for, and answers the exit status.
 fn answer<N, R: Read + AsFd, W: Write, E: Write + Drop, K: Keeper + Drop, T: MailSink + Drop>(
     net: &N,
     alloc: Global,
     words: &CommandLine,
-    clock: Option<u64>,
-    random: Option<[u8; 16]>,
+    moment: Moment,
     input: &mut R,
     output: &mut W,
     mut errors: E,
@@ -93,7 +105,7 @@ where
             )
         }
         Ok(Some(Subcommand::Daemon(asked))) => serve_many(
-            net, alloc, asked, &*input, output, errors, keeper, sink,
+            net, alloc, asked, moment.pid, &*input, output, errors, keeper, sink,
         ),
         Ok(Some(Subcommand::Check(_))) => { check(net, alloc, words, input, output, &mut errors) }
         _ => drive(
@@ -103,8 +115,8 @@ where
             output,
             &mut errors,
             &mut keeper,
-            clock,
-            random,
+            moment.clock,
+            moment.random,
             &mut sink,
         ),
     }

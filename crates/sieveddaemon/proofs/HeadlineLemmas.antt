@@ -3,10 +3,12 @@ use Rattle.std.proofs.Common.{◌≡◌, ℕ, ◌==◌, Bool, true, false, List,
 use Rattle.std.specs.Ordering.{nat_cmp}
 use Rattle.std.specs.BTreeMap as tree
 use Rattle.std.specs.Map.{lookup}
+use Rattle.sqlite_trees.specs.Tree.{Trees}
 use Rattle.lmtp.specs.declared.name.Names.{Names}
 use Rattle.mailstore.specs.Account.{Accounts}
 use Rattle.std.proofs.lemmas.List.{append-nil}
 use Rattle.mailengine.specs.World.{World, Next, Runs}
+use Rattle.mailmoves.specs.Enduring.{MayLeave}
 use Rattle.mailmoves.specs.declared.moving.Moving.{Moving}
 use Rattle.mailmoves.specs.declared.moving.Moving.TheVariants as moving
 use Rattle.mailengine.specs.declared.answer.Answer.{Answer}
@@ -215,7 +217,7 @@ module _ {R : Type 0} (shows : R → Accounts → Type 0) where
 
   -- ---- the headline
 
-  module _ (m : Moment MailDaemon Note R) (fresh : Fresh m.service) (new : IsNew m.machine) (start : Accounts) (shown : shows m.rest start) where
+  module _ (leaves : R → Trees → Type 0) (left : (r : R) (accounts : Accounts) → shows r accounts → (trees : Trees) → leaves r trees → MayLeave accounts trees) (m : Moment MailDaemon Note R) (fresh : Fresh m.service) (new : IsNew m.machine) (start : Accounts) (shown : shows m.rest start) where
     no_client : (id : ℕ) → client_of m.service id ≡ None
     no_client id = ap (λ es. lookup (tree.is_at (nat_cmp id)) es) fresh.none
 
@@ -260,7 +262,7 @@ module _ {R : Type 0} (shows : R → Accounts → Type 0) where
           led.2,
         )
 
-    pub headline : (moves : List (Move Note)) (n : Moment MailDaemon Note R) → Passes (mail_rules shows) m moves n → Headline shows m.machine.names m.machine.host start m.service.moment (acts_of moves) n.rest n.machine
+    pub headline : (moves : List (Move Note)) (n : Moment MailDaemon Note R) → Passes (mail_rules shows) m moves n → Headline shows leaves m.machine.names m.machine.host start m.service.moment (acts_of moves) n.rest n.machine
     headline moves n passes =
         let all = holds moves n passes in
         record {
@@ -271,4 +273,5 @@ module _ {R : Type 0} (shows : R → Accounts → Type 0) where
           end = all.0;
           holds = all.1;
           shown = all.2;
+          left = left n.rest all.0.accounts all.2.shown;
         }

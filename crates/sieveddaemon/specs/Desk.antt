@@ -5,12 +5,12 @@ use Rattle.lmtp.specs.declared.receiver.Lookup.TheVariants.{Known, Unknown, Away
 use Rattle.std.specs.FinMap.{get}
 use Rattle.mailstore.specs.Account.{Accounts, known_one}
 use Rattle.sqlite.specs.State.{State, HasCleanDisk}
-use Rattle.sessions.specs.Acts.{HasAccounts}
 use Rattle.mailengine.specs.Hosts.{Kept, HasClients, KeepsClients}
 use Rattle.mailengine.specs.World.{World, Clients, Next, Runs}
 use Rattle.mailengine.specs.declared.answer.Answer.{Answer}
 use Rattle.mailengine.specs.declared.event.Event.{Event}
 use Rattle.mailengine.specs.declared.event.Event.TheVariants.{Open, Give, Step, GiveUp, Close, Deliver}
+use Rattle.mailmoves.specs.Enduring.{Endures}
 use Rattle.mailposts.specs.declared.demand.Parcel.{Parcel}
 use Rattle.wires.specs.declared.act.Act.{Act}
 use Rattle.wires.specs.declared.act.Act.TheVariants.{Noted, Worked}
@@ -85,9 +85,9 @@ IsFoundIn accounts user Unknown = known_one (get accounts user) ≡ None
 IsFoundIn accounts user Absent = ⊥
 IsFoundIn accounts user lookup = Unit {0}
 
--- the same of a store, as it is behind that: it shows what it showed
+-- the same of a store, as it is behind that: it shows what it showed, and a crash leaves what it left (`Endures`)
 abbrev pub Finds : List ℕ → Lookup → State → State → Type 0
-Finds user lookup old new = HasCleanDisk new → (accounts : Accounts) → HasAccounts old accounts → IsFoundIn accounts user lookup × HasAccounts new accounts
+Finds user lookup old new = HasCleanDisk new → (accounts : Accounts) → Endures old accounts → IsFoundIn accounts user lookup × Endures new accounts
 
 -- from a world others' events lead to accounts, and that was found in them; nothing else changes
 pub record FindsAt (others : List Event) (user : List ℕ) (lookup : Lookup) (w next : World) : Type 0 where

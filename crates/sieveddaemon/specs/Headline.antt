@@ -1,6 +1,7 @@
 -- What is true of a daemon's life.
 use Rattle.std.specs.Prelude.{◌≡◌, ℕ, List, [], ◌++◌, Bool, Option, Some, None, IfSome, IsTrue}
 use Rattle.std.specs.FinMap.{empty}
+use Rattle.sqlite_trees.specs.Tree.{Trees}
 use Rattle.lmtp.specs.declared.name.Names.{Names}
 use Rattle.mailstore.specs.Account.{Accounts}
 use Rattle.mailengine.specs.OwnActs.{IsAlone}
@@ -8,6 +9,7 @@ use Rattle.mailengine.specs.Sound.{AreSound}
 use Rattle.mailengine.specs.Spacing.{IsSpaced}
 use Rattle.mailengine.specs.World.{World, Runs}
 use Rattle.mailengine.specs.declared.answer.Answer.{Answer}
+use Rattle.mailmoves.specs.Enduring.{MayLeave}
 use Rattle.wires.specs.Life.{Fresh, IsFrontOf}
 use Rattle.wires.specs.declared.act.Act.{Act}
 use Rattle.wires.specs.declared.service.Service.{Service}
@@ -42,12 +44,14 @@ pub record HoldsAfter (names : Names) (host : List ℕ) (w : World) (now : ℕ) 
   pub mail : (id : ℕ) → (o : Option MailLine) × TellsOn names host id now None acts o × IfSome o (λ l. IsFrontOf l.sent l.spelled)
 
 -- from these accounts and no connection on, at each front of the acts, and at the end with the accounts that the store shows then and the
--- daemon's sessions
-pub record Headline {R : Type 0} (shows : R → Accounts → Type 0) (names : Names) (host : List ℕ) (start : Accounts) (now : ℕ) (acts : List (Act Note)) (r : R) (d : MailDaemon) : Type 0 where
+-- daemon's sessions; a crash at the end leaves these accounts, or what one event makes of them, as a whole: so all that was answered stays,
+-- and nothing is half there
+pub record Headline {R : Type 0} (shows : R → Accounts → Type 0) (leaves : R → Trees → Type 0) (names : Names) (host : List ℕ) (start : Accounts) (now : ℕ) (acts : List (Act Note)) (r : R) (d : MailDaemon) : Type 0 where
   pub each_moment : (some rest : List (Act Note)) → some ++ rest ≡ acts → (v : World) × HoldsAfter names host (world_of start) now some v
   pub end : World
   pub holds : HoldsAfter names host (world_of start) now acts end
   pub shown : IsWorld shows r d.daemon.clients.sessions end
+  pub left : (trees : Trees) → leaves r trees → MayLeave end.accounts trees
 
 -- a daemon that knows no connection
 pub record IsNew (d : MailDaemon) : Type 0 where
@@ -56,7 +60,7 @@ pub record IsNew (d : MailDaemon) : Type 0 where
   pub posts : d.posts.entries ≡ []
 
 -- of a life, where it is told: the acts that were added
-abbrev pub Serves : {O R : Type 0} → (O → Bool) → (O → List (Act Note)) → (O → R) → (R → Accounts → Type 0) → O → MailDaemon → Service → O → MailDaemon → Type 0
-Serves tells seen rest shows o d s p e =
+abbrev pub Serves : {O R : Type 0} → (O → Bool) → (O → List (Act Note)) → (O → R) → (R → Accounts → Type 0) → (R → Trees → Type 0) → O → MailDaemon → Service → O → MailDaemon → Type 0
+Serves tells seen rest shows leaves o d s p e =
     IsTrue (tells p) → IsNew d → Fresh s → (start : Accounts) → shows (rest o) start
-    → (acts : List (Act Note)) × (seen p ≡ seen o ++ acts) × Headline shows d.names d.host start s.moment acts (rest p) e
+    → (acts : List (Act Note)) × (seen p ≡ seen o ++ acts) × Headline shows leaves d.names d.host start s.moment acts (rest p) e

@@ -1,11 +1,13 @@
 //! The store, as the daemon sees it.
 ghost use Rattle.std.specs.Prelude.{ℕ, List, IsTrue, IfSome};
+ghost use Rattle.sqlite_trees.specs.Tree.{Trees};
 ghost use Rattle.mailposts.specs.Posts.{IsFound};
 ghost use Rattle.mailstore.specs.Account.{Accounts};
 ghost use Rattle.mailengine.specs.Hosts.{IsGivenUp};
 ghost use Rattle.wires.specs.declared.act.Act.TheVariants.{Noted};
 ghost use Rattle.wires.specs.Told.{TellsIf};
 ghost use Rattle.sieveddaemon.specs.declared.note.Note.TheVariants.{Answered, Freed, Spoke};
+ghost use Rattle.mailmoves.specs.Enduring.{MayLeave};
 ghost use Rattle.mailsinks.specs.declared.kept.KeptMail.{KeptMail};
 ghost use Rattle.sieveddaemon.specs.Moves.{MovesOn};
 ghost use Rattle.sieveddaemon.specs.Desk.{Carries, Delivers, Looks, LooksUp, StillShowsIf};
@@ -21,6 +23,9 @@ use wires::outside::Outside;
 pub trait Desk: Outside<Note = Note> {
     /// Which accounts the store shows.
     ghost shows: { Self.Rest → Accounts → Type 0 };
+
+    /// What an open after a crash at this moment may find, while the store is had.
+    ghost leaves: { Self.Rest → Trees → Type 0 };
 
     /// The disk returned what was written.
     ghost clean: { Self.Rest → Type 0 };
@@ -78,6 +83,9 @@ pub trait Desk: Outside<Note = Note> {
     fn look(&mut self, rests: bool) -> bool
         ensures kept { IsTrue (Self.tells self.new) → IsTrue (Self.tells self.old) }
         ensures looks { Looks Self.tells Self.seen Self.rest shows clean self.old rests result self.new };
+
+    // A crash leaves the accounts that are shown, or what one event makes of them, as a whole.
+    ghost left: { (rest : Self.Rest) (accounts : Accounts) → shows rest accounts → (trees : Trees) → leaves rest trees → MayLeave accounts trees };
 
     // Where it tells its acts, its disk doesn't lie.
     ghost sure: { (desk : Self) → IsTrue (Self.tells desk) → clean (Self.rest desk) };

@@ -12,6 +12,7 @@ mod ServingLemmas
 mod StatusLemmas
 mod StreamExamples
 mod TakeLemmas
+mod UserLemmas
 mod RunLemmas
 pub mod StreamLemmas
 pub mod Examples

@@ -6,7 +6,7 @@ use Rattle.octets.specs.Ascii.{is_digit}
 use Rattle.octets.specs.Decimal.{Writes}
 use Rattle.maildirs.specs.declared.separator.Separator.TheVariants.{Dot, Slash}
 use Rattle.mailsinks.specs.declared.sink.SinkError.{SinkError}
-use Rattle.mailstore.specs.Account.{Account, Accounts, row_with}
+use Rattle.mailstore.specs.Account.{Account, Accounts, Password, activates, closes, new_account, removes, row_with}
 use Rattle.mailstore.specs.Promises.{HasNoOpen}
 use Rattle.mailstore.specs.declared.queue.Outgoing.{Outgoing}
 use Rattle.mailstore.specs.declared.refusal.Refusal.{Refusal}
@@ -22,7 +22,7 @@ use Rattle.sievedrun.specs.Faults.{memory, no_user, store_failed, cause_of, told
 use Rattle.sievedrun.specs.Streams.{IsWritten, WriteFailed}
 use Rattle.sievedrun.specs.declared.fault.Fault.{Fault}
 use Rattle.sievedrun.specs.Values.{WritesSalt, IsSalt, IsMoment, IsSeparator, envelope_with}
-use Rattle.sievedrun.specs.Words.{Adds, Guards, IsDoneBy, IsStoredBy, Offered, said_of, DeniedAtEnd, Posts, Dequeues, Tells, TellsInvalid, HasMessage, ShowsOutgoing, notices_until}
+use Rattle.sievedrun.specs.Words.{Adds, Guards, IsDoneBy, IsStoredBy, Offered, said_of, DeniedAtEnd, Posts, Dequeues, Tells, TellsInvalid, HasMessage, ShowsOutgoing, notices_until, user_line}
 
 -- ---- values
 
@@ -310,3 +310,28 @@ both-troubles = refl
 
 one-trouble : troubles (Some Memory) (Err store_failed) ≡ store_failed ∷ []
 one-trouble = refl
+
+-- ---- `users`
+
+abbrev asked_for : Password
+asked_for = record { salt = codes "s"; rounds = 1; digest = codes "d" }
+
+abbrev her_account : Account
+her_account = new_account (codes "a@b") asked_for
+
+user-open : user_line (codes "alice") her_account ≡ codes "alice - a@b\n"
+user-open = refl
+
+user-active : user_line (codes "alice") (activates (Some (codes "a\"b")) her_account) ≡ codes "alice \"a\\\"b\" a@b\n"
+user-active = refl
+
+-- near miss: a script named by a hyphen stands between quotation marks
+user-hyphen : user_line (codes "alice") (activates (Some (codes "-")) her_account) ≡ user_line (codes "alice") her_account → ⊥
+user-hyphen e = cc
+
+-- a closed one doesn't tell its address
+user-closed : user_line (codes "alice") (closes her_account) ≡ codes "closed alice\n"
+user-closed = refl
+
+user-removed : user_line (codes "alice") (removes her_account) ≡ []
+user-removed = refl

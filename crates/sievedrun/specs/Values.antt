@@ -1,5 +1,5 @@
 -- The values that stand in words.
-use Rattle.std.specs.Prelude.{◌≡◌, ℕ, ◌<◌, ◌^◌, List, [], ◌∷◌, Option, Some, None, Ok}
+use Rattle.std.specs.Prelude.{◌≡◌, ℕ, ◌<◌, ◌≤◌, ◌^◌, List, [], ◌∷◌, Option, Some, None, Ok}
 use Rattle.hex.specs.Hex.{decode_sized}
 use Rattle.maildirs.specs.Spelling.{octet_of}
 use Rattle.maildirs.specs.declared.separator.Separator.{Separator}
@@ -23,6 +23,10 @@ WritesSalt digits salt = decode_sized digits 16 ≡ Ok salt
 -- these digits write no port
 abbrev pub IsNoPort : List ℕ → Type 0
 IsNoPort digits = (port : ℕ) → port < 65536 → Writes digits port → ⊥
+
+-- these digits write no size from 1 to 65,536 MiB
+abbrev pub IsNoSize : List ℕ → Type 0
+IsNoSize digits = (size : ℕ) → 1 ≤ size → size ≤ 65536 → Writes digits size → ⊥
 
 -- these digits write no moment that the database can have, in seconds since 1970
 abbrev pub IsNoUntil : List ℕ → Type 0

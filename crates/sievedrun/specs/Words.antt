@@ -1,6 +1,6 @@
 -- What a word of the command line does: what becomes of the accounts, what is printed, and why it is refused.
 use Prim.Native.Nat.{zero}
-use Rattle.std.specs.Prelude.{◌≡◌, ◌≢◌, ◌⊎◌, ℕ, suc, Bool, true, false, List, [], ◌++◌, codes, decimal, filter, map, nat_le, slice_get, IsTrue, Option, Some, None, option_copied, Result, Ok, Err, OnOk}
+use Rattle.std.specs.Prelude.{◌≡◌, ◌≢◌, ◌⊎◌, ℕ, suc, Bool, true, false, List, [], ◌++◌, codes, decimal, filter, map, nat_le, slice_get, IsTrue, Option, Some, None, option_copied, Result, Ok, Err, OnOk, cond, length, ◌==◌, ◌&&◌}
 use Rattle.std.specs.FinMap.{entries, get, keys}
 use Rattle.std.specs.Io.KnownBytes.{IsAtEnd, Keeps}
 use Rattle.std.specs.List.{flat_map}
@@ -11,12 +11,13 @@ use Rattle.sqlite.specs.Effect.{Database}
 use Rattle.sqlite.specs.State.{State, HasCleanDisk}
 use Rattle.mailsinks.specs.declared.kept.KeptMail.{KeptMail}
 use Rattle.mailsinks.specs.declared.sink.SinkError.{SinkError}
-use Rattle.mailstore.specs.Account.{Account, Accounts, no_accounts, messages_in, row_with}
+use Rattle.mailstore.specs.Account.{Account, Accounts, is_closed, is_removed, no_accounts, messages_in, row_with}
 use Rattle.mailstore.specs.HeadRows.{head_of}
 use Rattle.mailstore.specs.Promises.{HasNoOpen, OfOpen}
 use Rattle.mailstore.specs.Schema.{no_schema}
 use Rattle.mailstore.specs.Shows.{Presents}
 use Rattle.mailstore.specs.Tally.{size_of}
+use Rattle.mailstore.specs.Users.{IsNextUser}
 use Rattle.mailstore.specs.declared.refusal.Refusal.{Refusal}
 use Rattle.mailstore.specs.declared.refusal.Refusal.TheVariants.{NoRow}
 use Rattle.mailengine.specs.World.{Next}
@@ -27,7 +28,8 @@ use Rattle.mailengine.specs.declared.event.Event.TheVariants.{Deliver, AddUser, 
 use Rattle.mailengine.specs.declared.upkeep.Upkeep.{Upkeep}
 use Rattle.mailengine.specs.declared.upkeep.Upkeep.TheVariants as upkeep
 use Rattle.mailstore.specs.declared.notice.Notice.{Notice}
-use Rattle.msproto.specs.Replies.{lines_spelled}
+use Rattle.mailstore.specs.declared.profile.Profile.{Profile}
+use Rattle.msproto.specs.Replies.{lines_spelled, string_spelled}
 use Rattle.sessions.specs.Scripts.{script_lines}
 use Rattle.sievelex.specs.Faults.{fault_line}
 use Rattle.sievelex.specs.declared.fault.ScriptFault.{ScriptFault}
@@ -303,6 +305,59 @@ LacksScript name fault a = (fault ≡ NoScript) × (get a.scripts name ≡ None)
 abbrev pub LacksNothing : Fault → Account → Type 0
 LacksNothing fault a = ⊥
 
+-- ---- `users`
+
+-- what stands for the active script: its name as ManageSieve spells it (RFC 5804, section 4), or a hyphen where none is active
+abbrev pub active_word : Option (List ℕ) → List ℕ
+active_word None = codes "-"
+active_word (Some name) = string_spelled name
+
+abbrev pub open_line : List ℕ → Option (List ℕ) → List ℕ → List ℕ
+open_line name active address = with_end (name ++ (codes " " ++ (active_word active ++ (codes " " ++ address))))
+
+abbrev pub closed_line : List ℕ → List ℕ
+closed_line name = with_end (codes "closed " ++ name)
+
+-- the line of an account, which a removed one doesn't have
+abbrev pub user_line : List ℕ → Account → List ℕ
+user_line name a = cond (is_removed a) [] (cond (is_closed a) (closed_line name) (open_line name a.active a.address))
+
+-- the same of what the store answers of the account, and of a name, which may have none
+abbrev pub profile_line : List ℕ → Profile → List ℕ
+profile_line name p = cond (p.rounds == 0 && length p.digest == 0) [] (cond (p.rounds == 0) (closed_line name) (open_line name p.active p.address))
+
+abbrev pub found_line : List ℕ → Option Profile → List ℕ
+found_line name None = []
+found_line name (Some p) = profile_line name p
+
+-- a line for each account, in the order of the octets of the names
+abbrev pub user_listing : List (List ℕ × Account) → List ℕ
+user_listing users = flat_map (λ user. user_line user.0 user.1) users
+
+-- no account changes, and all are listed
+pub record ListsUsers (accounts later : Accounts) (text : List ℕ) : Type 0 where
+  pub stays : later ≡ accounts
+  pub listed : text ≡ user_listing (entries accounts)
+
+-- the word over tables: the users are listed, or it was kept from it
+abbrev pub DoesUsers : (Fault → Type 0) → Option (List ℕ) → Option (List ℕ) → Result (Unit {0}) Fault → Database → Database → Type 0
+DoesUsers Denied old new result = TurnsTables (Finishes ListsUsers (λ fault accounts. IsHindered ⊥ ⊥ Denied fault) old new result)
+
+-- what was read of all accounts: they are listed, or the word was kept from it
+abbrev pub FindsUsers : (Fault → Type 0) → Result (List ℕ) Fault → Accounts → Type 0
+FindsUsers Denied (Ok text) accounts = text ≡ user_listing (entries accounts)
+FindsUsers Denied (Err fault) accounts = IsHindered ⊥ ⊥ Denied fault
+
+-- the line of the user with the name, where there is an account
+abbrev pub line_at : List ℕ → Option Account → List ℕ
+line_at name None = []
+line_at name (Some a) = user_line name a
+
+-- the text has the line of the user with the name more at its end, and the next user is this one
+pub record AddsUser (name old new : List ℕ) (next : Option (List ℕ)) (accounts : Accounts) : Type 0 where
+  pub added : new ≡ old ++ line_at name (get accounts name)
+  pub follows : IsNextUser name next accounts
+
 -- ---- `notices`, which may take what it prints
 
 -- over a store that is open at the end: whatever accounts it showed, it then shows what became of them
@@ -406,6 +461,7 @@ module _ (Denied : StoreLocation → Fault → Type 0) (Sunk : SinkError → Typ
   Does (word.Init a) result old new = Idle × DoesInit (Denied a.location) out_old out_new result old new
   Does (word.AddUser a) result old new =
       StaysAsItWas tells had has × DoesEvent (SaltFailed (option_copied a.salt) random) (HasNoSalt (option_copied a.salt)) (DeniedAtEnd (Denied a.location) left) (Adds (option_copied a.salt) random a.name.now a.address.now given) out_old out_new result old new
+  Does (word.Users a) result old new = Idle × DoesUsers (Denied a.location) out_old out_new result old new
   Does (word.Passwd a) result old new =
       StaysAsItWas tells had has
       × DoesEvent (SaltFailed (option_copied a.salt) random) (HasNoSalt (option_copied a.salt)) (DeniedAtEnd (Denied a.location) left) (Guards (option_copied a.salt) random a.user.now given) out_old out_new result old new
@@ -435,6 +491,7 @@ module _ (Denied : StoreLocation → Fault → Type 0) (Sunk : SinkError → Typ
 abbrev pub Reaches : (StoreLocation → Type 0) → (List ℕ → Type 0) → Subcommand → Type 0
 Reaches Given At (word.Init a) = Given a.location
 Reaches Given At (word.AddUser a) = Given a.location
+Reaches Given At (word.Users a) = Given a.location
 Reaches Given At (word.Passwd a) = Given a.location
 Reaches Given At (word.Address a) = Given a.location
 Reaches Given At (word.Scripts a) = Given a.location

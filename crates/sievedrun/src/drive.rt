@@ -20,6 +20,7 @@ use crate::stream::write_all;
 use crate::trouble::Trouble;
 use crate::try_script::try_run;
 use crate::upkeep::{run_address, run_open, run_passwd, run_remove};
+use crate::users::run_users;
 use crate::values::envelope_of;
 use clap::Error;
 use clap::error::ErrorKind;
@@ -116,6 +117,7 @@ fn act<R: Read, W: Write, K: Keeper, T: MailSink>(
     match asked {
         Subcommand::Init(asked) => run_init(asked, output, keeper),
         Subcommand::AddUser(asked) => run_adduser(alloc, asked, random, input, output, keeper),
+        Subcommand::Users(asked) => run_users(alloc, asked, output, keeper),
         Subcommand::Passwd(asked) => run_passwd(alloc, asked, random, input, output, keeper),
         Subcommand::Address(asked) => run_address(alloc, asked, output, keeper),
         Subcommand::Scripts(asked) => run_scripts(alloc, asked, output, keeper),

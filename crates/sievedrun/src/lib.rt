@@ -19,4 +19,5 @@ mod stream;
 pub mod trouble;
 pub mod try_script;
 mod upkeep;
+mod users;
 pub mod values;

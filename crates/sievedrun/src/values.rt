@@ -1,10 +1,10 @@
 //! Values that stand in the words, and the first line of an input.
-ghost use Rattle.std.specs.Prelude.{◌≡◌, ◌⊎◌, None, IfOk, IfErr, OnOk, option_copied};
+ghost use Rattle.std.specs.Prelude.{◌≡◌, ◌⊎◌, ◌≤◌, None, IfOk, IfErr, OnOk, option_copied};
 ghost use Rattle.std.specs.List.{prefix_len};
 ghost use Rattle.octets.specs.Decimal.{Writes};
 ghost use Rattle.sievedrun.specs.Promise as promise;
 ghost use Rattle.sievedrun.specs.Promise.{is_in_line};
-ghost use Rattle.sievedrun.specs.Values.{IsNoNumber, HasNoNumber, IsNoPort, IsNoUntil, WritesSalt, IsNoSalt, IsSalt, HasNoSalt, IsMoment, IsSeparator, HasNoSeparator, envelope_with};
+ghost use Rattle.sievedrun.specs.Values.{IsNoNumber, HasNoNumber, IsNoPort, IsNoSize, IsNoUntil, WritesSalt, IsNoSalt, IsSalt, HasNoSalt, IsMoment, IsSeparator, HasNoSeparator, envelope_with};
 
 use crate::fault::Fault;
 use hex::FromHex;
@@ -15,6 +15,9 @@ use std::alloc::{AllocError, Global};
 
 /// The last moment that the database can have.
 const MAX_UNTIL: u64 = 9_223_372_036_854_775_807;
+
+/// The greatest size that may be said, in MiB: 64 GiB.
+const MAX_MEBIBYTES: u64 = 65_536;
 
 /// A number in decimal digits, without a sign.
 pub fn decimal(text: &str) -> Result<u64, Fault>
@@ -36,6 +39,21 @@ pub fn port_of(text: &str) -> Result<u16, Fault>
         Ok(port) => Ok(port),
         Err(_) => Err(Fault::BadArgument),
     }
+}
+
+/// A size in MiB, in decimal digits; from 1 to 65,536.
+pub fn mebibytes_of(text: &str) -> Result<u32, Fault>
+    ensures ok { IfOk result (λ size. Writes text.now size) }
+    ensures least { IfOk result (λ size. 1 ≤ size) }
+    ensures most { IfOk result (λ size. size ≤ 65536) }
+    ensures fault { IfErr result (λ fault. fault ≡ Fault.BadArgument) }
+    ensures none { IfErr result (λ fault. IsNoSize text.now) }
+{
+    let size = decimal(text)?;
+    if size == 0 || size > MAX_MEBIBYTES {
+        return Err(Fault::BadArgument);
+    }
+    Ok(size as u32)
 }
 
 /// The moment of the last notice that is taken, in seconds since 1970, in decimal digits; below 2^63.

@@ -33,6 +33,7 @@ use Rattle.sievedwords.specs.declared.subcommand.session.Session.{Session}
 use Rattle.sievedwords.specs.declared.subcommand.daemon.Daemon.{Daemon}
 use Rattle.sievedwords.specs.declared.subcommand.check.Check.{Check}
 use Rattle.sievedwords.specs.declared.subcommand.send.Send.{Send}
+use Rattle.sievedwords.specs.declared.subcommand.users.Users.{Users}
 
 -- ---- what was given to a subcommand
 
@@ -78,6 +79,9 @@ pub record IsAddUser (line : CommandLine) (m : ArgMatches) (a : AddUser) : Type 
   pub salt : option_copied a.salt ≡ value_in m (codes "salt")
   pub name : a.name.now ≡ text_in m (codes "name")
   pub address : a.address.now ≡ text_in m (codes "address")
+
+pub record IsUsers (line : CommandLine) (m : ArgMatches) (a : Users) : Type 0 where
+  pub location : IsLocation m a.location
 
 pub record IsPasswd (line : CommandLine) (m : ArgMatches) (a : Passwd) : Type 0 where
   pub location : IsLocation m a.location
@@ -173,6 +177,7 @@ pub record IsDaemon (line : CommandLine) (m : ArgMatches) (a : Daemon) : Type 0 
   pub mail : option_copied a.mail ≡ value_in m (codes "mail")
   pub separator : option_copied a.separator ≡ value_in m (codes "separator")
   pub host : option_copied a.host ≡ value_in m (codes "host")
+  pub memory : option_copied a.memory ≡ value_in m (codes "memory")
   pub quiet : IsFlag m (codes "quiet") a.quiet
   pub check : IsFlag m (codes "check") a.check
 
@@ -184,6 +189,7 @@ abbrev pub AsksFor : CommandLine → ArgMatches → Word → Subcommand → Type
 AsksFor line m word.Try (asked.Try a) = IsTry line m a
 AsksFor line m word.Init (asked.Init a) = IsInit line m a
 AsksFor line m word.AddUser (asked.AddUser a) = IsAddUser line m a
+AsksFor line m word.Users (asked.Users a) = IsUsers line m a
 AsksFor line m word.Passwd (asked.Passwd a) = IsPasswd line m a
 AsksFor line m word.Address (asked.Address a) = IsSetAddress line m a
 AsksFor line m word.Scripts (asked.Scripts a) = IsScripts line m a

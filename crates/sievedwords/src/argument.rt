@@ -44,6 +44,7 @@ pub enum Argument {
     AnyScript,
     Activate,
     Until,
+    Memory,
     Files,
 }
 
@@ -107,7 +108,8 @@ impl Argument {
             | Argument::Smtp
             | Argument::HostName
             | Argument::MostRows
-            | Argument::Until => Form::Option,
+            | Argument::Until
+            | Argument::Memory => Form::Option,
             Argument::Name
             | Argument::Address
             | Argument::User
@@ -157,6 +159,7 @@ impl Argument {
             Argument::Script | Argument::AnyScript => "script",
             Argument::Activate => "activate",
             Argument::Until => "until",
+            Argument::Memory => "memory",
             Argument::Files => "file",
         }
     }
@@ -177,6 +180,7 @@ impl Argument {
             Argument::Most | Argument::MostRows => "K",
             Argument::Smtp => "ADDRESS:PORT|PATH",
             Argument::Port | Argument::Managesieve => "P",
+            Argument::Memory => "MIB",
             Argument::Salt => "HEX32",
             Argument::Db | Argument::Files => "FILE",
             Argument::Script | Argument::AnyScript => "SCRIPT",
@@ -231,6 +235,7 @@ impl Argument {
             Argument::Activate => "Makes it the active script",
             Argument::Until =>
                 "Takes the notices up to this second since 1970, once they are printed",
+            Argument::Memory => "How much all connections may hold, in MiB [default: 64]",
             Argument::Files => "Files that have a script each [default: standard input]",
         }
     }
@@ -262,6 +267,7 @@ impl Argument {
                 | Argument::AnyScript
                 | Argument::Activate
                 | Argument::Until
+                | Argument::Memory
                 | Argument::Files
         )
     }

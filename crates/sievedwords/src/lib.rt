@@ -12,6 +12,7 @@ mod subcommand;
 
 pub use command_line::CommandLine;
 pub use location::StoreLocation;
+pub use program::VERSION;
 pub use reading::{ReadError, read, read_files};
 pub use subcommand::Subcommand;
 pub use subcommand::address::SetAddress;
@@ -35,3 +36,4 @@ pub use subcommand::serve::Serve;
 pub use subcommand::session::Session;
 pub use subcommand::show::Show;
 pub use subcommand::try_script::Try;
+pub use subcommand::users::Users;

@@ -3,6 +3,9 @@ use crate::subcommand::Word;
 use clap::Command;
 use std::alloc::{AllocError, Global};
 
+/// The program's version.
+pub const VERSION: &str = "1.0.0";
+
 /// The program with all words.
 pub fn sieved<'a>(alloc: Global) -> Result<Command<'a>, AllocError> {
     with_words(alloc, program(alloc)?, &Word::ALL)
@@ -24,7 +27,7 @@ fn with_words<'a>(
 /// The program without its words.
 fn program<'a>(alloc: Global) -> Result<Command<'a>, AllocError> {
     Command::new(alloc, "sieved")
-        .version("1.0.0")
+        .version(VERSION)
         .about("Files mail by each user's Sieve script, and serves the scripts by ManageSieve")
         .after_help("Without a command it is `try` with an empty envelope.")
         .propagate_version(true)

@@ -24,6 +24,7 @@ pub mod serve;
 pub mod session;
 pub mod show;
 pub mod try_script;
+pub mod users;
 
 use self::address::{ADDRESS, SetAddress};
 use self::adduser::{ADDUSER, AddUser};
@@ -46,6 +47,7 @@ use self::serve::{SERVE, Serve};
 use self::session::{SESSION, Session};
 use self::show::{SHOW, Show};
 use self::try_script::{TRY, Try};
+use self::users::{USERS, Users};
 use crate::given::Given;
 use crate::row::Row;
 
@@ -55,6 +57,7 @@ pub enum Subcommand<'a> {
     Try(Try<'a>),
     Init(Init<'a>),
     AddUser(AddUser<'a>),
+    Users(Users<'a>),
     Passwd(Passwd<'a>),
     Address(SetAddress<'a>),
     Scripts(Scripts<'a>),
@@ -81,6 +84,7 @@ pub enum Word {
     Try,
     Init,
     AddUser,
+    Users,
     Passwd,
     Address,
     Scripts,
@@ -103,10 +107,11 @@ pub enum Word {
 
 impl Word {
     /// All, in the order of the help.
-    pub const ALL: [Word; 21] = [
+    pub const ALL: [Word; 22] = [
         Word::Try,
         Word::Init,
         Word::AddUser,
+        Word::Users,
         Word::Passwd,
         Word::Address,
         Word::Scripts,
@@ -154,6 +159,7 @@ impl Word {
             Word::Try => &TRY,
             Word::Init => &INIT,
             Word::AddUser => &ADDUSER,
+            Word::Users => &USERS,
             Word::Passwd => &PASSWD,
             Word::Address => &ADDRESS,
             Word::Scripts => &SCRIPTS,
@@ -183,6 +189,7 @@ impl Word {
             Word::Try => Subcommand::Try(Try::read(given)),
             Word::Init => Subcommand::Init(Init::read(given)),
             Word::AddUser => Subcommand::AddUser(AddUser::read(given)),
+            Word::Users => Subcommand::Users(Users::read(given)),
             Word::Passwd => Subcommand::Passwd(Passwd::read(given)),
             Word::Address => Subcommand::Address(SetAddress::read(given)),
             Word::Scripts => Subcommand::Scripts(Scripts::read(given)),

@@ -1,16 +1,18 @@
 -- The definitions at a few mails: what they fit, and what is near it that they don't.
 use Rattle.std.proofs.Common.{◌≡◌, lit<, true, false, Some, None, inl, inr, [], ◌∷◌, ◌++◌, codes, refl, arith}
-use Rattle.sievesyntax.specs.declared.tree.checks.Matching.TheVariants.{Is, Contains}
+use Rattle.sievesyntax.specs.declared.tree.checks.Matching.TheVariants.{Is, Contains, Value, Count}
+use Rattle.sievesyntax.specs.declared.tree.checks.Relation.TheVariants as R
 use Rattle.sievesyntax.specs.declared.tree.checks.AddressPart.TheVariants.{LocalPart, Domain, User, Detail}
 use Rattle.sievesyntax.specs.declared.tree.checks.AddressPart.TheVariants as part
 use Rattle.sievesyntax.specs.declared.tree.checks.Bound.TheVariants.{Over, Under}
-use Rattle.sievesyntax.specs.declared.tree.checks.Collation.TheVariants.{Octet, AsciiCasemap}
+use Rattle.sievesyntax.specs.declared.tree.checks.Collation.TheVariants.{Octet, AsciiCasemap, AsciiNumeric}
 use Rattle.addrparts.specs.declared.address.Addr.{Addr}
 use Rattle.addrparts.specs.Reading.{addrs}
 use Rattle.addrparts.specs.Reading as reading
 use Rattle.addrparts.proofs.Lists.{addrs-are}
 use Rattle.sieveexec.specs.Mails.{MailSpec, mail_of, values_of, text_shown, has_addresses, addresses_of}
-use Rattle.sieveexec.specs.Matches.{matches_key, matches_some, image_by}
+use Rattle.sieveexec.specs.Matches.{matches_key, matches_some}
+use Rattle.sieveexec.specs.Counts.{fields_counted, addresses_counted, envelope_counted}
 use Rattle.sieveexec.specs.Parts.{CutsAtFirst, IsPartOf, part_of, Cuts, CutsAtLast, IsPart, part_in}
 use Rattle.sieveexec.specs.Holding.{IsBeyond, IsNamed, SomeAddress}
 
@@ -112,18 +114,37 @@ not_under-limit : IsBeyond Under 4000 4000 → ⊥
 not_under-limit under = omega (arith, under)
 
 -- the key "a" is the value "A" for one comparator, and not for the other
-is-folded : matches_key (image_by AsciiCasemap) Is (codes "a") (codes "A") ≡ true
+is-folded : matches_key AsciiCasemap Is (codes "a") (codes "A") ≡ true
 is-folded = refl
 
-is-octet : matches_key (image_by Octet) Is (codes "a") (codes "A") ≡ false
+is-octet : matches_key Octet Is (codes "a") (codes "A") ≡ false
 is-octet = refl
 
 -- the empty key stands in the empty value, and no key matches where there is no key
-contains-empty : matches_key (image_by Octet) Contains [] [] ≡ true
+contains-empty : matches_key Octet Contains [] [] ≡ true
 contains-empty = refl
 
 no-key : matches_some Octet Is [] [] ≡ false
 no-key = refl
+
+-- 10 is more than 9 as a number and less as a text
+value-number : (matches_key AsciiNumeric (Value R.Greater) (codes "9") (codes "10") ≡ true) × (matches_key Octet (Value R.Greater) (codes "9") (codes "10") ≡ false)
+value-number = (refl, refl)
+
+-- what begins with no digit is infinite, and equal to all such
+value-infinite : (matches_key AsciiNumeric (Value R.Greater) (codes "99999999999999999999") (codes "x1") ≡ true) × (matches_key AsciiNumeric Is (codes "y") [] ≡ true)
+value-infinite = (refl, refl)
+
+-- two fields are counted, and those of a name that stands twice twice; a number has no parts
+two-fields : (fields_counted sample (codes "to" ∷ []) ≡ 2) × (fields_counted sample (codes "to" ∷ (codes "cc" ∷ (codes "TO" ∷ []))) ≡ 4)
+two-fields = (refl, refl)
+
+counted : matches_some AsciiNumeric (Count R.Equal) (codes "02" ∷ []) (codes "2") ≡ true
+counted = refl
+
+-- the null reverse-path isn't counted
+envelope-null : envelope_counted (mail_of [] (record { from = []; to = codes "x@y" })) (record { comparator = AsciiNumeric; part = part.All; matching = Count R.Equal; parts = record { from = true; to = true }; keys = [] }) ≡ 1
+envelope-null = refl
 
 -- a test that names the recipient alone doesn't look at the sender
 named-to : IsNamed (record { from = false; to = true }) sample []

@@ -1,5 +1,6 @@
 pub mod Decisions
 pub mod MatchLemmas
+pub mod OrderLemmas
 pub mod PartLemmas
 pub mod TruthLemmas
 pub mod IndexLemmas

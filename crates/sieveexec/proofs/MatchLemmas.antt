@@ -3,15 +3,20 @@ use Rattle.std.proofs.Common.{◌≡◌, ◌≤◌, ℕ, zero, suc, Bool, true, 
 use Rattle.std.specs.Bool.{Decides}
 use Rattle.std.proofs.lemmas.Bool.Decides.{Decides-and, Decides-or, Decides-eqb}
 use Rattle.std.proofs.lemmas.Slice.Eq.{bytes_eq-Decides}
+use Rattle.std.specs.Char.{to_ascii_uppercase}
 use Rattle.collation.specs.Comparators.{ContainsBy}
+use Rattle.collation.specs.Numbers.{EqualNumbers, number_at}
 use Rattle.globmatch.specs.Glob.{items, Glob}
 use Rattle.globmatch.specs.declared.pattern.Item.{Item}
 use Rattle.globmatch.specs.declared.pattern.Item.TheVariants.{Star, One, Exact}
 use Rattle.sievesyntax.specs.declared.tree.checks.Collation.{Collation}
 use Rattle.sievesyntax.specs.declared.tree.checks.Matching.{Matching}
-use Rattle.sievesyntax.specs.declared.tree.checks.Matching.TheVariants.{Is, Contains, Matches}
-use Rattle.sieveexec.specs.Matches.{image_by, MatchesKey, MatchesSome, begins_with, some_end, is_contained, is_globbed, matches_key, matches_some}
+use Rattle.sievesyntax.specs.declared.tree.checks.Matching.TheVariants.{Is, Contains, Matches, Value, Count}
+use Rattle.sievesyntax.specs.declared.tree.checks.Collation.TheVariants.{Octet, AsciiCasemap, AsciiNumeric}
+use Rattle.sievesyntax.specs.declared.tree.checks.Relation.TheVariants as R
+use Rattle.sieveexec.specs.Matches.{MatchesByImage, MatchesByNumber, MatchesKey, MatchesSome, begins_with, some_end, is_contained, is_globbed, order_by, number_order, matches_by_image, matches_by_number, matches_key, matches_some}
 use Rattle.sieveexec.proofs.Decisions.{decides_as, any_decides}
+use Rattle.sieveexec.proofs.OrderLemmas.{image_ranked, image_relates, number_ranked, number_relates}
 
 -- the images of a key stand first in those of a text
 abbrev BeginsBy : (ℕ → ℕ) → List ℕ → List ℕ → Type 0
@@ -96,13 +101,27 @@ globbed_decides image (Exact one ∷ more) (other ∷ rest) =
     Decides-and _ _ (Decides-eqb (image one) (image other)) (globbed_decides image more rest)
 
 -- whether a value matches a key
-pub matches_key_decides : (image : ℕ → ℕ) (matching : Matching) (key value : List ℕ) → Decides (matches_key image matching key value) (MatchesKey image matching key value)
-matches_key_decides image Is key value = bytes_eq-Decides (map image key) (map image value)
-matches_key_decides image Contains key value = contained_decides image key value
-matches_key_decides image Matches key value = globbed_decides image (items key) value
+pub image_decides : (image : ℕ → ℕ) (matching : Matching) (key value : List ℕ) → Decides (matches_by_image image matching key value) (MatchesByImage image matching key value)
+image_decides image Is key value = bytes_eq-Decides (map image key) (map image value)
+image_decides image Contains key value = contained_decides image key value
+image_decides image Matches key value = globbed_decides image (items key) value
+image_decides image (Value relation) key value = image_relates image relation value key (order_by image value key) (image_ranked image value key)
+image_decides image (Count relation) key value = image_relates image relation value key (order_by image value key) (image_ranked image value key)
+
+pub number_decides : (matching : Matching) (key value : List ℕ) → Decides (matches_by_number matching key value) (MatchesByNumber matching key value)
+number_decides Is key value = number_relates R.Equal key value (number_order (number_at key) (number_at value)) (number_ranked key value)
+number_decides Contains key value = (λ h. never h, λ none. absurd none)
+number_decides Matches key value = (λ h. never h, λ none. absurd none)
+number_decides (Value relation) key value = number_relates relation value key (number_order (number_at value) (number_at key)) (number_ranked value key)
+number_decides (Count relation) key value = number_relates relation value key (number_order (number_at value) (number_at key)) (number_ranked value key)
+
+matches_key_decides : (collation : Collation) (matching : Matching) (key value : List ℕ) → Decides (matches_key collation matching key value) (MatchesKey collation matching key value)
+matches_key_decides Octet = image_decides (λ octet. octet)
+matches_key_decides AsciiCasemap = image_decides to_ascii_uppercase
+matches_key_decides AsciiNumeric = number_decides
 
 -- whether a value matches some key
 pub matches_some_decides : (collation : Collation) (matching : Matching) (keys : List (List ℕ)) (value : List ℕ) → Decides (matches_some collation matching keys value) (MatchesSome collation matching keys value)
 matches_some_decides collation matching keys value =
-    any_decides (λ key. matches_key (image_by collation) matching key value) (λ key. MatchesKey (image_by collation) matching key value)
-    (λ key. matches_key_decides (image_by collation) matching key value) keys
+    any_decides (λ key. matches_key collation matching key value) (λ key. MatchesKey collation matching key value)
+    (λ key. matches_key_decides collation matching key value) keys

@@ -1,6 +1,6 @@
 -- The truth of a test is whether it holds.
-use Rattle.std.proofs.Common.{◌≡◌, ◌≢◌, ◌≤◌, ◌↔◌, length, ℕ, Bool, true, false, cond, ◌||◌, ◌⊎◌, inl, inr, List, [], ◌∷◌, Option, Some, None, refl, sym, ap, ◌∙◌, subst, arith}
-use Rattle.std.specs.Bool.{Decides}
+use Rattle.std.proofs.Common.{decimal, IfOk, Result, ◌≡◌, ◌≢◌, ◌≤◌, ◌↔◌, length, ℕ, Bool, true, false, cond, ◌||◌, ◌⊎◌, inl, inr, List, [], ◌∷◌, Option, Some, None, refl, sym, ap, ◌∙◌, subst, arith}
+use Rattle.std.specs.Bool.{Decides, MatchBool}
 use Rattle.std.specs.List.{list_any, list_all, flat_map, Any, All}
 use Rattle.std.proofs.lemmas.List.Folds.{list_any-append}
 use Rattle.std.proofs.lemmas.Bool.Decides.{Decides-and, Decides-or, Decides-not, Decides-eqb, Decides-ltb, same_from_decides}
@@ -19,8 +19,9 @@ use Rattle.addrparts.proofs.Lists.{addrs-are, addrs-only}
 use Rattle.sieveexec.specs.Mails.{MailSpec, values_of, texts_of, has_addresses, addresses_of}
 use Rattle.sieveexec.specs.Matches.{MatchesSome}
 use Rattle.sieveexec.specs.Parts.{IsPartOf, part_of, IsPart, part_in}
+use Rattle.sieveexec.specs.Counts.{is_count, is_some_of, fields_counted, addresses_counted, envelope_counted}
 use Rattle.sieveexec.specs.Holding.{IsBeyond, IsNamed, SomeAddress, TestHolds}
-use Rattle.sieveexec.specs.Truth.{is_beyond, is_some_of, is_mailbox, is_some_there, part_matches, envelope_matches, truth_at}
+use Rattle.sieveexec.specs.Truth.{is_beyond, is_mailbox, is_some_there, part_matches, envelope_matches, truth_at}
 use Rattle.sieveexec.proofs.Decisions.{decides_as, any_decides, all_decides}
 use Rattle.sieveexec.proofs.MatchLemmas.{matches_some_decides}
 use Rattle.sieveexec.proofs.PartLemmas.{given, part_of_is, part_of_only, part_is, part_only}
@@ -58,7 +59,10 @@ matching_decides : (test : EnvelopeTest) (address : List ℕ) → Decides (envel
 matching_decides test address =
     part_decides test.comparator test.matching test.keys (part_in test.part address) (IsPart test.part address) (part_is test.part address) (part_only test.part address)
 
-named : (mail : MailSpec) (test : EnvelopeTest) → ((test.parts.from ≡ true) × Part test mail.from) ⊎ ((test.parts.to ≡ true) × Part test mail.to) → TestHolds mail (Envelope test)
+abbrev Named : MailSpec → EnvelopeTest → Type 0
+Named mail test = (one : List ℕ) × (part : List ℕ) × IsNamed test.parts mail one × IsPart test.part one part × MatchesSome test.comparator test.matching test.keys part
+
+named : (mail : MailSpec) (test : EnvelopeTest) → ((test.parts.from ≡ true) × Part test mail.from) ⊎ ((test.parts.to ≡ true) × Part test mail.to) → Named mail test
 named mail test (inl (asked, (part, is, matches))) = (mail.from, part, inl (asked, refl), is, matches)
 named mail test (inr (asked, (part, is, matches))) = (mail.to, part, inr (asked, refl), is, matches)
 
@@ -111,18 +115,38 @@ mailboxes_same result names is = same_from_decides result (list_all is_mailbox n
 is_asked : (asked : Bool) → Decides asked (asked ≡ true)
 is_asked asked = (λ h. h, λ h. h)
 
+-- where values are counted, and where they aren't
+counts_decides : (counts one other : Bool) (P Q : Type 0) → Decides one P → Decides other Q → Decides (cond counts one other) (MatchBool counts P Q)
+counts_decides true one other P Q first second = first
+counts_decides false one other P Q first second = second
+
 -- a test is true exactly where it holds
 pub truth_decides : (mail : MailSpec) (check : Check) → Decides (truth_at mail check) (TestHolds mail check)
 truth_decides mail (Size size) = beyond_decides size.bound mail.size size.limit
 truth_decides mail (Exists names) = all_decides (λ name. is_some_there (values_of mail name)) (λ name. values_of mail name ≢ []) (λ name. there_decides (values_of mail name)) names
 truth_decides mail (Header header) =
-    any_decides _ _ (λ name. any_decides _ _ (matches_some_decides header.comparator header.matching header.keys) (texts_of mail name)) header.fields
+    counts_decides (is_count header.matching) _ _ _ _
+    (matches_some_decides header.comparator header.matching header.keys (decimal (fields_counted mail header.fields)))
+    (any_decides _ _ (λ name. any_decides _ _ (matches_some_decides header.comparator header.matching header.keys) (texts_of mail name)) header.fields)
 truth_decides mail (Address address) =
-    any_decides _ _ (λ name. some_decides _ _ (λ one.
-    part_decides address.comparator address.matching address.keys (part_of address.part one) (IsPartOf address.part one) (part_of_is address.part one) (part_of_only address.part one)) mail name) address.fields
+    counts_decides (is_count address.matching) _ _ _ _
+    (matches_some_decides address.comparator address.matching address.keys (decimal (addresses_counted mail address.part address.fields)))
+    (any_decides _ _ (λ name. some_decides _ _ (λ one.
+    part_decides address.comparator address.matching address.keys (part_of address.part one) (IsPartOf address.part one) (part_of_is address.part one) (part_of_only address.part one)) mail name) address.fields)
 truth_decides mail (MailboxExists names) = all_decides is_mailbox IsMailbox mailbox_decides names
 truth_decides mail (Envelope test) =
-    decides_as _ (named mail test) (λ (one, part, name, is, matches). asked_for mail test one part name is matches)
+    counts_decides (is_count test.matching) _ _ _ _
+    (matches_some_decides test.comparator test.matching test.keys (decimal (envelope_counted mail test)))
+    (decides_as _ (named mail test) (λ (one, part, name, is, matches). asked_for mail test one part name is matches)
     (Decides-or _ _
     (Decides-and _ _ (is_asked test.parts.from) (matching_decides test mail.from))
-    (Decides-and _ _ (is_asked test.parts.to) (matching_decides test mail.to)))
+    (Decides-and _ _ (is_asked test.parts.to) (matching_decides test mail.to))))
+
+-- ---- a test that counts, and one that doesn't
+
+module _ {E : Type 0} (r : Result Bool E) (counts one other : Bool) where
+  pub each_asked : counts ≡ false → IfOk r (λ holds. holds ≡ other) → IfOk r (λ holds. holds ≡ cond counts one other)
+  each_asked off h = subst (λ b. IfOk r (λ holds. holds ≡ cond b one other)) (sym off) h
+
+pub number_asked : (counts one other : Bool) → counts ≡ true → one ≡ cond counts one other
+number_asked counts one other on = subst (λ b. one ≡ cond b one other) (sym on) refl

@@ -1,5 +1,5 @@
--- Which tests hold of a mail (RFC 5228, 5).
-use Rattle.std.specs.Prelude.{◌≡◌, ◌≢◌, ◌<◌, ◌⊎◌, ℕ, true, List, []}
+-- Which tests hold of a mail (RFC 5228, 5; RFC 5231).
+use Rattle.std.specs.Prelude.{◌≡◌, ◌≢◌, ◌<◌, ◌⊎◌, ℕ, true, List, [], decimal, MatchBool}
 use Rattle.std.specs.List.{All, Any}
 use Rattle.sievesyntax.specs.declared.tree.checks.Bound.{Bound}
 use Rattle.sievesyntax.specs.declared.tree.checks.Bound.TheVariants.{Over, Under}
@@ -12,6 +12,7 @@ use Rattle.addrparts.specs.Parts.{AreAddresses}
 use Rattle.sieveexec.specs.Mails.{MailSpec, values_of, texts_of, has_addresses}
 use Rattle.sieveexec.specs.Matches.{MatchesSome}
 use Rattle.sieveexec.specs.Parts.{IsPart, IsPartOf}
+use Rattle.sieveexec.specs.Counts.{is_count, fields_counted, addresses_counted, envelope_counted}
 
 -- a size over or under a limit; one that is the limit is neither (RFC 5228, 5.9)
 abbrev pub IsBeyond : Bound → ℕ → ℕ → Type 0
@@ -28,16 +29,22 @@ pub record SomeAddress (mail : MailSpec) (name : List ℕ) (P : Addr → Type 0)
   pub fields : has_addresses name ≡ true
   pub there : Any (λ value. (found : List Addr) × AreAddresses value found × Any P found) (values_of mail name)
 
--- a test that looks at the message, its envelope or mailboxes holds (RFC 5228, 5.1, 5.4, 5.5, 5.7, 5.9). Each mailbox is there, for a
--- message can be filed into it (RFC 5490, 3.1)
+-- a test that looks at the message, its envelope or mailboxes holds (RFC 5228, 5.1, 5.4, 5.5, 5.7, 5.9). Where values are counted, their
+-- number in decimal matches a key (RFC 5231, 4.2). Each mailbox is there, for a message can be filed into it (RFC 5490, 3.1)
 abbrev pub TestHolds : MailSpec → Check → Type 0
 TestHolds mail (Size size) = IsBeyond size.bound mail.size size.limit
 TestHolds mail (Exists names) = All (λ name. values_of mail name ≢ []) names
 TestHolds mail (Header header) =
-    Any (λ name. Any (MatchesSome header.comparator header.matching header.keys) (texts_of mail name)) header.fields
+    MatchBool (is_count header.matching)
+    (MatchesSome header.comparator header.matching header.keys (decimal (fields_counted mail header.fields)))
+    (Any (λ name. Any (MatchesSome header.comparator header.matching header.keys) (texts_of mail name)) header.fields)
 TestHolds mail (Address address) =
-    Any (λ name. SomeAddress mail name (λ one. (part : List ℕ) × IsPartOf address.part one part × MatchesSome address.comparator address.matching address.keys part)) address.fields
+    MatchBool (is_count address.matching)
+    (MatchesSome address.comparator address.matching address.keys (decimal (addresses_counted mail address.part address.fields)))
+    (Any (λ name. SomeAddress mail name (λ one. (part : List ℕ) × IsPartOf address.part one part × MatchesSome address.comparator address.matching address.keys part)) address.fields)
 TestHolds mail (MailboxExists names) = All IsMailbox names
 TestHolds mail (Envelope envelope) =
-    (one : List ℕ) × (part : List ℕ) × IsNamed envelope.parts mail one × IsPart envelope.part one part
-    × MatchesSome envelope.comparator envelope.matching envelope.keys part
+    MatchBool (is_count envelope.matching)
+    (MatchesSome envelope.comparator envelope.matching envelope.keys (decimal (envelope_counted mail envelope)))
+    ((one : List ℕ) × (part : List ℕ) × IsNamed envelope.parts mail one × IsPart envelope.part one part
+    × MatchesSome envelope.comparator envelope.matching envelope.keys part)

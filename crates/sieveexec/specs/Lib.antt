@@ -1,6 +1,7 @@
 pub mod Mails
 pub mod Matches
 pub mod Parts
+pub mod Counts
 pub mod Holding
 pub mod Truth
 pub mod Indexes

@@ -1,31 +1,77 @@
--- Whether a value matches a key (RFC 5228, 2.7.1), by a comparator (RFC 4790).
-use Rattle.std.specs.Prelude.{◌==◌, ℕ, Bool, true, false, ◌&&◌, ◌||◌, nat_eq, List, [], ◌∷◌, map}
+-- Whether a value matches a key (RFC 5228, 2.7.1; RFC 5231), by a comparator (RFC 4790).
+use Rattle.std.specs.Prelude.{◌==◌, ◌⊎◌, ℕ, Bool, true, false, ◌&&◌, ◌||◌, nat_eq, List, [], ◌∷◌, map, Option, Some, None}
 use Rattle.std.specs.List.{list_any, Any}
 use Rattle.std.specs.Char.{to_ascii_uppercase}
-use Rattle.std.specs.Cmp.Lexicographic.{pointwise}
+use Rattle.std.specs.Cmp.Lexicographic.{pointwise, slice_cmp}
+use Rattle.std.specs.declared.cmp.Ordering.{Ordering}
+use Rattle.std.specs.declared.cmp.Ordering.TheVariants.{Less, Equal, Greater}
+use Rattle.std.specs.Ordering.{nat_cmp, is_gt, is_ge, is_lt, is_le, is_eq, is_ne}
 use Rattle.collation.specs.Comparators.{EqualBy, ContainsBy}
+use Rattle.collation.specs.Sorting.{ComesBefore}
+use Rattle.collation.specs.Numbers.{IsBelow, EqualNumbers, number_at}
 use Rattle.globmatch.specs.Glob.{items, Glob}
 use Rattle.globmatch.specs.declared.pattern.Item.{Item}
 use Rattle.globmatch.specs.declared.pattern.Item.TheVariants.{Star, One, Exact}
 use Rattle.sievesyntax.specs.declared.tree.checks.Collation.{Collation}
-use Rattle.sievesyntax.specs.declared.tree.checks.Collation.TheVariants.{Octet, AsciiCasemap}
+use Rattle.sievesyntax.specs.declared.tree.checks.Collation.TheVariants.{Octet, AsciiCasemap, AsciiNumeric}
 use Rattle.sievesyntax.specs.declared.tree.checks.Matching.{Matching}
-use Rattle.sievesyntax.specs.declared.tree.checks.Matching.TheVariants.{Is, Contains, Matches}
+use Rattle.sievesyntax.specs.declared.tree.checks.Matching.TheVariants.{Is, Contains, Matches, Value, Count}
+use Rattle.sievesyntax.specs.declared.tree.checks.Relation.{Relation}
+use Rattle.sievesyntax.specs.declared.tree.checks.Relation.TheVariants as R
 
--- the image of an octet: octets are the same where their images are
-abbrev pub image_by : Collation → (ℕ → ℕ)
-image_by Octet = λ octet. octet
-image_by AsciiCasemap = to_ascii_uppercase
+-- a value stands in a relation to a key, where an order and equality are given (RFC 5231, 4)
+abbrev pub Relates : Relation → (List ℕ → List ℕ → Type 0) → (List ℕ → List ℕ → Type 0) → List ℕ → List ℕ → Type 0
+Relates R.Greater Before Same value key = Before key value
+Relates R.GreaterOrEqual Before Same value key = Before key value ⊎ Same value key
+Relates R.Less Before Same value key = Before value key
+Relates R.LessOrEqual Before Same value key = Before value key ⊎ Same value key
+Relates R.Equal Before Same value key = Same value key
+Relates R.NotEqual Before Same value key = Same value key → ⊥
 
--- a value matches a key
-abbrev pub MatchesKey : (ℕ → ℕ) → Matching → List ℕ → List ℕ → Type 0
-MatchesKey image Is key value = EqualBy image key value
-MatchesKey image Contains key value = ContainsBy image key value
-MatchesKey image Matches key value = Glob image (items key) value
+-- a value matches a key by the images of octets; where values are counted, the value is their number
+abbrev pub MatchesByImage : (ℕ → ℕ) → Matching → List ℕ → List ℕ → Type 0
+MatchesByImage image Is key value = EqualBy image key value
+MatchesByImage image Contains key value = ContainsBy image key value
+MatchesByImage image Matches key value = Glob image (items key) value
+MatchesByImage image (Value relation) key value = Relates relation (ComesBefore image) (EqualBy image) value key
+MatchesByImage image (Count relation) key value = Relates relation (ComesBefore image) (EqualBy image) value key
+
+-- the same by the numbers that they begin with, which have no parts
+abbrev pub MatchesByNumber : Matching → List ℕ → List ℕ → Type 0
+MatchesByNumber Is key value = EqualNumbers key value
+MatchesByNumber Contains key value = ⊥
+MatchesByNumber Matches key value = ⊥
+MatchesByNumber (Value relation) key value = Relates relation IsBelow EqualNumbers value key
+MatchesByNumber (Count relation) key value = Relates relation IsBelow EqualNumbers value key
+
+-- a value matches a key by a comparator
+abbrev pub MatchesKey : Collation → Matching → List ℕ → List ℕ → Type 0
+MatchesKey Octet = MatchesByImage (λ octet. octet)
+MatchesKey AsciiCasemap = MatchesByImage to_ascii_uppercase
+MatchesKey AsciiNumeric = MatchesByNumber
 
 -- a value matches some key
 abbrev pub MatchesSome : Collation → Matching → List (List ℕ) → List ℕ → Type 0
-MatchesSome collation matching keys value = Any (λ key. MatchesKey (image_by collation) matching key value) keys
+MatchesSome collation matching keys value = Any (λ key. MatchesKey collation matching key value) keys
+
+-- how a value stands to a key by images, and by numbers, of which None is infinity
+abbrev pub order_by : (ℕ → ℕ) → List ℕ → List ℕ → Ordering
+order_by image value key = slice_cmp nat_cmp (map image value) (map image key)
+
+abbrev pub number_order : Option ℕ → Option ℕ → Ordering
+number_order (Some one) (Some other) = nat_cmp one other
+number_order (Some one) None = Less
+number_order None (Some other) = Greater
+number_order None None = Equal
+
+-- whether what stands so is in a relation
+abbrev pub relates : Relation → Ordering → Bool
+relates R.Greater order = is_gt order
+relates R.GreaterOrEqual order = is_ge order
+relates R.Less order = is_lt order
+relates R.LessOrEqual order = is_le order
+relates R.Equal order = is_eq order
+relates R.NotEqual order = is_ne order
 
 -- whether the images of two texts are the same
 abbrev pub is_equal : (ℕ → ℕ) → List ℕ → List ℕ → Bool
@@ -56,12 +102,26 @@ is_globbed image (One ∷ more) (octet ∷ rest) = is_globbed image more rest
 is_globbed image (Exact one ∷ more) [] = false
 is_globbed image (Exact one ∷ more) (other ∷ rest) = (image one == image other) && is_globbed image more rest
 
--- whether a value matches a key
-abbrev pub matches_key : (ℕ → ℕ) → Matching → List ℕ → List ℕ → Bool
-matches_key image Is key value = is_equal image key value
-matches_key image Contains key value = is_contained image key value
-matches_key image Matches key value = is_globbed image (items key) value
+-- whether a value matches a key: by images, by numbers, by a comparator
+abbrev pub matches_by_image : (ℕ → ℕ) → Matching → List ℕ → List ℕ → Bool
+matches_by_image image Is key value = is_equal image key value
+matches_by_image image Contains key value = is_contained image key value
+matches_by_image image Matches key value = is_globbed image (items key) value
+matches_by_image image (Value relation) key value = relates relation (order_by image value key)
+matches_by_image image (Count relation) key value = relates relation (order_by image value key)
+
+abbrev pub matches_by_number : Matching → List ℕ → List ℕ → Bool
+matches_by_number Is key value = is_eq (number_order (number_at key) (number_at value))
+matches_by_number Contains key value = false
+matches_by_number Matches key value = false
+matches_by_number (Value relation) key value = relates relation (number_order (number_at value) (number_at key))
+matches_by_number (Count relation) key value = relates relation (number_order (number_at value) (number_at key))
+
+abbrev pub matches_key : Collation → Matching → List ℕ → List ℕ → Bool
+matches_key Octet = matches_by_image (λ octet. octet)
+matches_key AsciiCasemap = matches_by_image to_ascii_uppercase
+matches_key AsciiNumeric = matches_by_number
 
 -- whether a value matches some key
 abbrev pub matches_some : Collation → Matching → List (List ℕ) → List ℕ → Bool
-matches_some collation matching keys value = list_any (λ key. matches_key (image_by collation) matching key value) keys
+matches_some collation matching keys value = list_any (λ key. matches_key collation matching key value) keys

@@ -1,5 +1,5 @@
 -- The truth of tests at a mail: true exactly where the test holds (`truth_of_a_check` of laws.rt).
-use Rattle.std.specs.Prelude.{◌==◌, ℕ, Bool, true, false, not, ◌&&◌, ◌||◌, nat_lt, length, List, [], ◌∷◌, Option, Some, None}
+use Rattle.std.specs.Prelude.{◌==◌, ℕ, Bool, true, false, cond, not, ◌&&◌, ◌||◌, nat_lt, length, decimal, List, [], ◌∷◌, Option, Some, None}
 use Rattle.std.specs.List.{list_any, list_all}
 use Rattle.sievesyntax.specs.declared.tree.checks.Bound.{Bound}
 use Rattle.sievesyntax.specs.declared.tree.checks.Bound.TheVariants.{Over, Under}
@@ -14,16 +14,12 @@ use Rattle.addrparts.specs.declared.address.Addr.{Addr}
 use Rattle.sieveexec.specs.Mails.{MailSpec, values_of, texts_of, addresses_of}
 use Rattle.sieveexec.specs.Matches.{matches_some}
 use Rattle.sieveexec.specs.Parts.{part_of, part_in}
+use Rattle.sieveexec.specs.Counts.{is_count, is_some_of, fields_counted, addresses_counted, envelope_counted}
 
 -- whether a size is over or under a limit
 abbrev pub is_beyond : Bound → ℕ → ℕ → Bool
 is_beyond Over size limit = nat_lt limit size
 is_beyond Under size limit = nat_lt size limit
-
--- whether a text isn't empty
-abbrev pub is_some_of : List ℕ → Bool
-is_some_of [] = false
-is_some_of (octet ∷ rest) = true
 
 -- whether a text is the name of a mailbox
 abbrev pub is_mailbox : List ℕ → Bool
@@ -42,9 +38,20 @@ all_exist mail names = list_all (λ name. is_some_there (values_of mail name)) n
 abbrev pub text_matches : HeaderTest → List ℕ → Bool
 text_matches header text = matches_some header.comparator header.matching header.keys text
 
+-- whether some text matches a key of `header`
+abbrev pub some_text_matches : MailSpec → HeaderTest → Bool
+some_text_matches mail header = list_any (λ name. list_any (text_matches header) (texts_of mail name)) header.fields
+
+-- whether a number in decimal matches a key
+abbrev pub count_matches : Collation → Matching → List (List ℕ) → ℕ → Bool
+count_matches collation matching keys count = matches_some collation matching keys (decimal count)
+
 -- whether `header` holds
 abbrev pub header_holds : MailSpec → HeaderTest → Bool
-header_holds mail header = list_any (λ name. list_any (text_matches header) (texts_of mail name)) header.fields
+header_holds mail header =
+    cond (is_count header.matching)
+    (count_matches header.comparator header.matching header.keys (fields_counted mail header.fields))
+    (some_text_matches mail header)
 
 -- whether there is a part and it matches a key
 abbrev pub part_matches : Collation → Matching → List (List ℕ) → Option (List ℕ) → Bool
@@ -55,18 +62,32 @@ part_matches collation matching keys (Some part) = matches_some collation matchi
 abbrev pub address_matches : AddressTest → Addr → Bool
 address_matches address one = part_matches address.comparator address.matching address.keys (part_of address.part one)
 
+-- whether some address matches a key of `address`
+abbrev pub some_address_matches : MailSpec → AddressTest → Bool
+some_address_matches mail address = list_any (λ name. list_any (address_matches address) (addresses_of mail name)) address.fields
+
 -- whether `address` holds
 abbrev pub address_holds : MailSpec → AddressTest → Bool
-address_holds mail address = list_any (λ name. list_any (address_matches address) (addresses_of mail name)) address.fields
+address_holds mail address =
+    cond (is_count address.matching)
+    (count_matches address.comparator address.matching address.keys (addresses_counted mail address.part address.fields))
+    (some_address_matches mail address)
 
 -- whether a part of an address of the envelope matches a key of the test
 abbrev pub envelope_matches : EnvelopeTest → List ℕ → Bool
 envelope_matches test address = part_matches test.comparator test.matching test.keys (part_in test.part address)
 
+-- whether an address of the envelope that the test names matches a key
+abbrev pub some_named_matches : MailSpec → EnvelopeTest → Bool
+some_named_matches mail test =
+    (test.parts.from && envelope_matches test mail.from) || (test.parts.to && envelope_matches test mail.to)
+
 -- whether `envelope` holds
 abbrev pub envelope_holds : MailSpec → EnvelopeTest → Bool
 envelope_holds mail test =
-    (test.parts.from && envelope_matches test mail.from) || (test.parts.to && envelope_matches test mail.to)
+    cond (is_count test.matching)
+    (count_matches test.comparator test.matching test.keys (envelope_counted mail test))
+    (some_named_matches mail test)
 
 -- whether a test that looks at the message or its envelope holds
 abbrev pub truth_at : MailSpec → Check → Bool

@@ -1,8 +1,9 @@
 //! What `address` looks at: the addresses of fields (RFC 5228, 5.1).
-ghost use Rattle.std.specs.Prelude.{◌≡◌, IfOk, map};
+ghost use Rattle.std.specs.Prelude.{◌≡◌, ◌≤◌, IfOk, cond, map, count_by};
 ghost use Rattle.std.specs.List.{list_any, flat_map};
 ghost use Rattle.mailhead.specs.Heads.{unfold_of};
 ghost use Rattle.addrparts.specs.Reading.{addrs};
+ghost use Rattle.sieveexec.specs.Counts.{has_part};
 ghost use Rattle.sieveexec.specs.Indexes.{is_address_key};
 ghost use Rattle.sieveexec.specs.Truth.{address_matches};
 
@@ -13,7 +14,7 @@ use crate::matching::matches_some;
 use addrparts::addresses;
 use mailhead::unfolded;
 use octets::{List, Octets};
-use sievesyntax::Address;
+use sievesyntax::{Address, AddressPart};
 use std::alloc::{AllocError, Global};
 
 /// The names of the fields that have addresses, in lower case.
@@ -56,12 +57,16 @@ impl FieldValues for List<JoinedAddress> {
 }
 
 impl FieldTest<List<JoinedAddress>> for Address {
+    ghost use Rattle.std.specs.Prelude.{count_by};
     ghost use Rattle.std.specs.List.{list_any};
+    ghost use Rattle.sieveexec.specs.Counts.{has_part};
     ghost use Rattle.sieveexec.specs.Truth.{address_matches};
 
     ghost names = { λ address. address.fields };
 
     ghost passes = { λ address found. list_any (address_matches address) found };
+
+    ghost counted = { λ address found. count_by (has_part address.part) found };
 
     fn fields(&self) -> &[Octets] {
         self.fields.as_slice()
@@ -69,6 +74,10 @@ impl FieldTest<List<JoinedAddress>> for Address {
 
     fn holds_of(&self, values: &List<JoinedAddress>) -> bool {
         address_matches(self, values.as_slice())
+    }
+
+    fn count_of(&self, values: &List<JoinedAddress>) -> usize {
+        count_parts(self.part, values.as_slice())
     }
 }
 
@@ -90,6 +99,28 @@ fn addresses_in(alloc: Global, raws: &[&[u8]]) -> Result<List<JoinedAddress>, Al
         push_joined(alloc, &mut found, more.as_slice())?;
     }
     Ok(found)
+}
+
+/// How many addresses have this part.
+fn count_parts(part: AddressPart, found: &[JoinedAddress]) -> usize
+    ensures { result ≡ count_by (has_part part) found.now }
+{
+    let mut count = 0;
+    for one in found {
+        count += count_part(part, one);
+    }
+    count
+}
+
+/// One where an address has this part.
+fn count_part(part: AddressPart, one: &JoinedAddress) -> usize
+    ensures count { result ≡ cond (has_part part one.now) 1 0 }
+    ensures small { result ≤ 1 }
+{
+    match one.part(part) {
+        Some(_) => 1,
+        None => 0,
+    }
 }
 
 /// Whether the part of some address matches some key.

@@ -1,15 +1,16 @@
 //! What the tests of a run look at.
-ghost use Rattle.std.specs.Prelude.{◌≡◌, ◌↔◌, All, IsTrue, IfOk};
+ghost use Rattle.std.specs.Prelude.{◌≡◌, ◌↔◌, ◌≤◌, ◌&&◌, All, IsTrue, IfOk, cond};
 ghost use Rattle.sievesyntax.specs.Valid.{IsMailbox};
-ghost use Rattle.sieveexec.specs.Truth.{truth_at, envelope_holds, envelope_matches};
+ghost use Rattle.sieveexec.specs.Counts.{is_counted, envelope_counted};
+ghost use Rattle.sieveexec.specs.Truth.{truth_at, header_holds, address_holds, envelope_holds, some_named_matches, envelope_matches};
 
 use crate::envelope::part_in;
 use crate::field_cache::FieldCache;
 use crate::joined_address::JoinedAddress;
 use crate::mail::Mail;
-use crate::matching::matches_some;
+use crate::matching::{count_matches, is_count, matches_some};
 use octets::{List, Octets, Texts};
-use sievesyntax::{Check, EnvelopeTest, is_mailbox};
+use sievesyntax::{Address, AddressPart, Check, EnvelopeTest, Header, is_mailbox};
 use std::alloc::{AllocError, Global};
 use std::marker::Model;
 
@@ -45,10 +46,10 @@ impl<'m, 'a> CachedMail<'m, 'a> {
         }
     }
 
-    /// Whether a test that looks at the message or its envelope holds (RFC 5228, 5.1, 5.4, 5.5, 5.7, 5.9; RFC 5490, 3.1).
+    /// Whether a test that looks at the message or its envelope holds (RFC 5228, 5.1, 5.4, 5.5, 5.7, 5.9; RFC 5231; RFC 5490, 3.1).
     ///
-    /// A value is compared with each key: the time is that of `is`, `contains` or `matches` for each pair, and where a
-    /// test is the first to ask for a field, linear in the field's values besides.
+    /// A value is compared with each key: the time is that of `is`, `contains` or `matches` or one pass over both for each pair, and
+    /// where a test is the first to ask for a field, linear in the field's values besides.
     pub fn evaluate(&mut self, alloc: Global, check: &Check) -> Result<bool, AllocError>
         ensures truth { IfOk result (λ holds. holds ≡ truth_at self.old check.now) }
         ensures kept { self.new ≡ self.old }
@@ -56,11 +57,45 @@ impl<'m, 'a> CachedMail<'m, 'a> {
         match check {
             Check::Size(size) => Ok(self.mail.is_beyond(*size)),
             Check::Exists(names) => self.mail.all_exist(alloc, names.as_slice()),
-            Check::Header(header) => self.texts.holds(alloc, header),
-            Check::Address(address) => self.addresses.holds(alloc, address),
+            Check::Header(header) => self.header_holds(alloc, header),
+            Check::Address(address) => self.address_holds(alloc, address),
             Check::Envelope(test) => Ok(envelope_holds(self.mail, test)),
             Check::MailboxExists(names) => Ok(are_mailboxes(names.as_slice())),
         }
+    }
+
+    /// Whether `header` holds (RFC 5228, 5.7; RFC 5231, 4.2).
+    fn header_holds(&mut self, alloc: Global, header: &Header) -> Result<bool, AllocError>
+        ensures truth { IfOk result (λ holds. holds ≡ header_holds self.old header.now) }
+        ensures kept { self.new ≡ self.old }
+    {
+        if !is_count(header.matching) {
+            return self.texts.holds(alloc, header);
+        }
+        let count = self.texts.count(alloc, header)?;
+        Ok(count_matches(
+            header.comparator,
+            header.matching,
+            header.keys.as_slice(),
+            count,
+        ))
+    }
+
+    /// Whether `address` holds (RFC 5228, 5.1; RFC 5231, 4.2).
+    fn address_holds(&mut self, alloc: Global, address: &Address) -> Result<bool, AllocError>
+        ensures truth { IfOk result (λ holds. holds ≡ address_holds self.old address.now) }
+        ensures kept { self.new ≡ self.old }
+    {
+        if !is_count(address.matching) {
+            return self.addresses.holds(alloc, address);
+        }
+        let count = self.addresses.count(alloc, address)?;
+        Ok(count_matches(
+            address.comparator,
+            address.matching,
+            address.keys.as_slice(),
+            count,
+        ))
     }
 }
 
@@ -71,9 +106,41 @@ fn are_mailboxes(names: &[Octets]) -> bool
     names.iter().all(|name| is_mailbox(name.as_slice()))
 }
 
-/// Whether `envelope` holds (RFC 5228, 5.4).
+/// Whether `envelope` holds (RFC 5228, 5.4; RFC 5231, 4.2).
 fn envelope_holds(mail: &Mail<'_>, test: &EnvelopeTest) -> bool
     ensures { result ≡ envelope_holds mail.now test.now }
+{
+    if !is_count(test.matching) {
+        return some_named_matches(mail, test);
+    }
+    let count = count_named(mail, test);
+    count_matches(test.comparator, test.matching, test.keys.as_slice(), count)
+}
+
+/// How many addresses of the envelope a test counts.
+fn count_named(mail: &Mail<'_>, test: &EnvelopeTest) -> u128
+    ensures { result ≡ envelope_counted mail.now test.now }
+{
+    let sender = count_one(test.parts.from, test.part, mail.from());
+    let recipient = count_one(test.parts.to, test.part, mail.to());
+    sender + recipient
+}
+
+/// One where an address of the envelope is asked for and counted.
+fn count_one(asked: bool, part: AddressPart, address: &[u8]) -> u128
+    ensures count { result ≡ cond (asked && is_counted part address.now) 1 0 }
+    ensures small { result ≤ 1 }
+{
+    if asked && !address.is_empty() && part_in(part, address).is_some() {
+        1
+    } else {
+        0
+    }
+}
+
+/// Whether an address of the envelope that a test names matches some key.
+fn some_named_matches(mail: &Mail<'_>, test: &EnvelopeTest) -> bool
+    ensures { result ≡ some_named_matches mail.now test.now }
 {
     (test.parts.from && address_matches(test, mail.from()))
         || (test.parts.to && address_matches(test, mail.to()))

@@ -1,5 +1,5 @@
 //! What tests look at in the fields of a mail, kept from test to test.
-ghost use Rattle.std.specs.Prelude.{◌≡◌, IfOk};
+ghost use Rattle.std.specs.Prelude.{◌≡◌, IfOk, sum_by};
 ghost use Rattle.std.specs.List.{list_any};
 ghost use Rattle.octets.specs.Ascii.{lowered};
 
@@ -29,6 +29,8 @@ pub trait FieldTest<V: FieldValues> {
 
     ghost passes: { Self → V → Bool };
 
+    ghost counted: { Self → V → ℕ };
+
     /// The names of the fields, as they were written.
     fn fields(&self) -> &[Octets]
         ensures { result.now ≡ names self.now };
@@ -36,6 +38,10 @@ pub trait FieldTest<V: FieldValues> {
     /// Whether the test holds of what was read of the fields of one name.
     fn holds_of(&self, values: &V) -> bool
         ensures { result ≡ passes self.now values.now };
+
+    /// How many values the test counts in what was read of the fields of one name.
+    fn count_of(&self, values: &V) -> usize
+        ensures { result ≡ counted self.now values.now };
 }
 
 /// What is read of the fields of a mail that some test asked for. Contracts see the mail.
@@ -82,6 +88,42 @@ impl<'m, 'a, V: FieldValues> FieldCache<'m, 'a, V> {
             }
         }
         Ok(false)
+    }
+
+    /// How many values a test counts in the fields of all its names.
+    pub(crate) fn count<T: FieldTest<V>>(
+        &mut self,
+        alloc: Global,
+        test: &T,
+    ) -> Result<u128, AllocError>
+        ensures count { IfOk result (λ count. count ≡ sum_by (λ name. T.counted test.now (V.keyed self.old (lowered name))) (T.names test.now)) }
+        ensures kept { self.new ≡ self.old }
+    {
+        let mut total: u128 = 0;
+        for name in test.fields() {
+            total += self.count_at(alloc, name.as_slice(), test)? as u128;
+        }
+        Ok(total)
+    }
+
+    /// How many values a test counts in the fields of a name, whose ASCII case is ignored.
+    fn count_at<T: FieldTest<V>>(
+        &mut self,
+        alloc: Global,
+        name: &[u8],
+        test: &T,
+    ) -> Result<usize, AllocError>
+        ensures count { IfOk result (λ count. count ≡ T.counted test.now (V.keyed self.old (lowered name.now))) }
+        ensures kept { self.new ≡ self.old }
+    {
+        let key = lowered(alloc, name)?;
+        if let Some(values) = self.known.get(&key) {
+            return Ok(test.count_of(values));
+        }
+        let values = V::read(alloc, self.mail, &key)?;
+        let count = test.count_of(&values);
+        self.known.insert(key, values)?;
+        Ok(count)
     }
 
     /// Whether a test holds of the fields of a name, whose ASCII case is ignored.

@@ -28,6 +28,7 @@ impl FieldValues for Texts {
 }
 
 impl FieldTest<Texts> for Header {
+    ghost use Rattle.std.specs.Prelude.{length};
     ghost use Rattle.std.specs.List.{list_any};
     ghost use Rattle.sieveexec.specs.Truth.{text_matches};
 
@@ -35,12 +36,18 @@ impl FieldTest<Texts> for Header {
 
     ghost passes = { λ header texts. list_any (text_matches header) texts };
 
+    ghost counted = { λ header texts. length texts };
+
     fn fields(&self) -> &[Octets] {
         self.fields.as_slice()
     }
 
     fn holds_of(&self, values: &Texts) -> bool {
         text_matches(self, values.as_slice())
+    }
+
+    fn count_of(&self, values: &Texts) -> usize {
+        values.len()
     }
 }
 

@@ -1,14 +1,39 @@
-//! Whether a value matches keys (RFC 5228, 2.7.1).
+//! Whether a value matches keys (RFC 5228, 2.7.1; RFC 5231).
 ghost use Rattle.std.specs.Prelude.{◌≡◌};
-ghost use Rattle.std.specs.List.{list_any};
-ghost use Rattle.sieveexec.specs.Matches.{matches_key, matches_some};
+ghost use Rattle.sieveexec.specs.Counts.{is_count};
+ghost use Rattle.sieveexec.specs.Matches.{relates, matches_by_image, matches_by_number, matches_key, matches_some};
+ghost use Rattle.sieveexec.specs.Truth.{count_matches};
 
-use collation::{AsciiCasemap, Comparator, Octet, contains, is};
+use collation::{
+    AsciiCasemap, Comparator, Octet, are_equal_numbers, compare, compare_numbers, contains, is,
+};
 use globmatch::matches;
+use itoa::Buffer;
 use octets::Octets;
-use sievesyntax::{Collation, Matching};
+use sievesyntax::{Collation, Matching, Relation};
+use std::cmp::Ordering;
 
-/// Whether a value matches some key. For each key the time is that of `is`, `contains` or `matches`; no memory.
+/// Whether values are counted.
+pub(crate) fn is_count(matching: Matching) -> bool
+    ensures { result ≡ is_count matching }
+{
+    matches!(matching, Matching::Count(_))
+}
+
+/// Whether a number, in decimal, matches some key.
+pub(crate) fn count_matches(
+    collation: Collation,
+    matching: Matching,
+    keys: &[Octets],
+    count: u128,
+) -> bool
+    ensures { result ≡ count_matches collation matching keys.now count }
+{
+    let mut buffer = Buffer::new();
+    matches_some(collation, matching, keys, buffer.format(count).as_bytes())
+}
+
+/// Whether a value matches some key. For each key the time is that of `is`, `contains`, `matches` or one pass over both; no memory.
 pub(crate) fn matches_some(
     collation: Collation,
     matching: Matching,
@@ -17,29 +42,59 @@ pub(crate) fn matches_some(
 ) -> bool
     ensures { result ≡ matches_some collation matching keys.now value.now }
 {
-    match collation {
-        Collation::Octet => matches_key_of::<Octet>(matching, keys, value),
-        Collation::AsciiCasemap => matches_key_of::<AsciiCasemap>(matching, keys, value),
-    }
-}
-
-fn matches_key_of<C: Comparator>(matching: Matching, keys: &[Octets], value: &[u8]) -> bool
-    ensures { result ≡ list_any (λ key. matches_key C.image_of matching key value.now) keys.now }
-{
     for key in keys {
-        if matches_key::<C>(matching, key.as_slice(), value) {
+        if matches_key(collation, matching, key.as_slice(), value) {
             return true;
         }
     }
     false
 }
 
-fn matches_key<C: Comparator>(matching: Matching, key: &[u8], value: &[u8]) -> bool
-    ensures { result ≡ matches_key C.image_of matching key.now value.now }
+fn matches_key(collation: Collation, matching: Matching, key: &[u8], value: &[u8]) -> bool
+    ensures { result ≡ matches_key collation matching key.now value.now }
+{
+    match collation {
+        Collation::Octet => matches_by_image::<Octet>(matching, key, value),
+        Collation::AsciiCasemap => matches_by_image::<AsciiCasemap>(matching, key, value),
+        Collation::AsciiNumeric => matches_by_number(matching, key, value),
+    }
+}
+
+fn matches_by_image<C: Comparator>(matching: Matching, key: &[u8], value: &[u8]) -> bool
+    ensures { result ≡ matches_by_image C.image_of matching key.now value.now }
 {
     match matching {
         Matching::Is => is::<C>(key, value),
         Matching::Contains => contains::<C>(key, value),
         Matching::Matches => matches::<C>(key, value),
+        Matching::Value(relation) => relates(relation, compare::<C>(value, key)),
+        Matching::Count(relation) => relates(relation, compare::<C>(value, key)),
+    }
+}
+
+/// A number has no parts, and no valid script looks for one.
+fn matches_by_number(matching: Matching, key: &[u8], value: &[u8]) -> bool
+    ensures { result ≡ matches_by_number matching key.now value.now }
+{
+    match matching {
+        Matching::Is => are_equal_numbers(key, value),
+        Matching::Contains => false,
+        Matching::Matches => false,
+        Matching::Value(relation) => relates(relation, compare_numbers(value, key)),
+        Matching::Count(relation) => relates(relation, compare_numbers(value, key)),
+    }
+}
+
+/// Whether what stands so is in a relation (RFC 5231, 4).
+fn relates(relation: Relation, ordering: Ordering) -> bool
+    ensures { result ≡ relates relation ordering }
+{
+    match relation {
+        Relation::Greater => ordering.is_gt(),
+        Relation::GreaterOrEqual => ordering.is_ge(),
+        Relation::Less => ordering.is_lt(),
+        Relation::LessOrEqual => ordering.is_le(),
+        Relation::Equal => ordering.is_eq(),
+        Relation::NotEqual => ordering.is_ne(),
     }
 }

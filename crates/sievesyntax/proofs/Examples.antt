@@ -1,5 +1,5 @@
 -- Examples of the definitions: a right one and a near miss each.
-use Rattle.std.proofs.Common.{◌≡◌, ℕ, Bool, true, false, List, [], ◌∷◌, Some, None, refl, sym, arith, subst, inl, inr}
+use Rattle.std.proofs.Common.{◌≡◌, ℕ, Bool, true, false, List, [], ◌∷◌, Some, None, refl, sym, ap, get_or, arith, subst, inl, inr}
 use Rattle.std.specs.Prelude.{codes}
 use Rattle.std.specs.List.{list_all}
 use Rattle.octets.proofs.Lists.{some_pair}
@@ -12,6 +12,8 @@ use Rattle.sievesyntax.specs.declared.table.tag_group.TagValue.TheVariants as S
 use Rattle.sievesyntax.specs.declared.table.tag_group.TagGroup.TheVariants as P
 use Rattle.sievesyntax.specs.declared.parser.argument.Argument.{Argument}
 use Rattle.sievesyntax.specs.declared.tree.checks.Matching.TheVariants as M
+use Rattle.sievesyntax.specs.declared.tree.checks.Relation.{Relation}
+use Rattle.sievesyntax.specs.declared.tree.checks.Relation.TheVariants as R
 use Rattle.sievesyntax.specs.declared.tree.checks.Collation.TheVariants as C
 use Rattle.sievesyntax.specs.declared.tree.checks.Check.TheVariants as L
 use Rattle.sievesyntax.specs.declared.tree.checks.Check.{Check}
@@ -27,7 +29,7 @@ use Rattle.sievesyntax.specs.Lexemes.{Lexeme, keyword, tag, number, text, mark}
 use Rattle.sievesyntax.specs.Arguments.{AreStrings, AreArguments}
 use Rattle.std.proofs.lemmas.List.Elements.{Contains-push, Contains-push_cases}
 use Rattle.sievesyntax.proofs.TagLemmas.{none_there, first_there}
-use Rattle.sievesyntax.specs.Tags.{group_of, IsPlain, IsSplit}
+use Rattle.sievesyntax.specs.Tags.{group_of, relation_name, IsTagValue, IsPlain, IsSplit}
 use Rattle.sievesyntax.specs.Table.{SaysSize, SaysAddress, SaysEnvelope, NamesParts, is_part, IsPlainTest, IsPlainCommand}
 use Rattle.sievesyntax.specs.Tests.{IsTest, ReadsTest}
 use Rattle.sievesyntax.specs.Grammar.{ReadsScript}
@@ -183,3 +185,15 @@ apart a b p q e = omega arith
 -- a CR alone means nothing
 no_meaning : (tree : Commands) → Means (13 ∷ []) tree → ⊥
 no_meaning tree m = apart 0 10 refl refl (m.spelled.written.octets.no_lone_cr 0 refl)
+
+-- a relation is written in lower case
+greater_written : IsTagValue (S.Matching (M.Value R.Greater)) (A.Tag T.Value ∷ (A.Text (codes "gt") ∷ [])) []
+greater_written = refl
+
+not_in_capitals : (relation : Relation) → relation_name relation ≡ codes "GT" → ⊥
+not_in_capitals R.Greater e = omega (arith, ap (λ l. get_or l 0 0) e)
+not_in_capitals R.GreaterOrEqual e = omega (arith, ap (λ l. get_or l 0 0) e)
+not_in_capitals R.Less e = omega (arith, ap (λ l. get_or l 0 0) e)
+not_in_capitals R.LessOrEqual e = omega (arith, ap (λ l. get_or l 0 0) e)
+not_in_capitals R.Equal e = omega (arith, ap (λ l. get_or l 0 0) e)
+not_in_capitals R.NotEqual e = omega (arith, ap (λ l. get_or l 0 0) e)

@@ -65,6 +65,13 @@ user_formerly = (refl, refl)
 detail_formerly : (lexeme_in former (C.Tag (codes "detail")) ≡ tag T.Other) × (lexeme_in former (C.Tag (codes "copy")) ≡ tag T.Copy)
 detail_formerly = (refl, refl)
 
+-- nor were `:value` and `:count`
+value_formerly : (lexeme_in former (C.Tag (codes "Value")) ≡ tag T.Other) × (lexeme_in today (C.Tag (codes "Value")) ≡ tag T.Value)
+value_formerly = (refl, refl)
+
+count_formerly : (lexeme_in former (C.Tag (codes "count")) ≡ tag T.Other) × (lexeme_in today (C.Tag (codes "count")) ≡ tag T.Count)
+count_formerly = (refl, refl)
+
 create_formerly : (lexeme_in former (C.Tag (codes "create")) ≡ tag T.Other) × (lexeme_in today (C.Tag (codes "create")) ≡ tag T.Create)
 create_formerly = (refl, refl)
 
@@ -121,10 +128,10 @@ asking part =
     command (choose (branch (looks (Q.Address (record { comparator = L.Octet; part = part; matching = M.Is; fields = []; keys = [] }))) no_commands no_branches)) no_commands
 
 whole_asked : EachAsksIn IsFormerCheck (asking H.LocalPart)
-whole_asked = ((refl, (tt, tt)), tt)
+whole_asked = (((refl, (refl, refl)), (tt, tt)), tt)
 
 part_asked : EachAsksIn IsFormerCheck (asking H.Detail) → ⊥
-part_asked each = let e : true ≡ false = each.0.0 in absurd (cc e)
+part_asked each = let e : true ≡ false = each.0.0.0 in absurd (cc e)
 
 -- ---- texts
 

@@ -10,17 +10,19 @@ use Rattle.sievesyntax.specs.declared.table.capability.Capabilities.{Capabilitie
 use Rattle.sievesyntax.specs.declared.tree.action.Action.{Action}
 use Rattle.sievesyntax.specs.declared.tree.action.Action.TheVariants.{Keep, Discard, FileInto, Redirect, Vacation}
 use Rattle.sievesyntax.specs.declared.tree.checks.AddressPart.{AddressPart}
+use Rattle.sievesyntax.specs.declared.tree.checks.Collation.{Collation}
+use Rattle.sievesyntax.specs.declared.tree.checks.Matching.{Matching}
 use Rattle.sievesyntax.specs.declared.tree.checks.Check.{Check}
 use Rattle.sievesyntax.specs.declared.tree.checks.Check.TheVariants.{Size, Exists, Header, Address, Envelope, MailboxExists}
 use Rattle.sievesyntax.specs.declared.tree.vacation.VacArgs.{VacArgs}
-use Rattle.sievesyntax.specs.Before.{with_cancelled, performed_in, outcome_in, IsOfBefore, EachAction, EachInBranches, EachIn, StillMeans, IsFormerCheck, IsFormerAction, EachCheck, EachCheckOf, EachAsks, EachAsksInBranches, EachAsksIn, MeansFormerly}
+use Rattle.sievesyntax.specs.Before.{with_cancelled, performed_in, outcome_in, IsOfBefore, EachAction, EachInBranches, EachIn, StillMeans, IsFormerMatch, IsFormerCheck, IsFormerAction, EachCheck, EachCheckOf, EachAsks, EachAsksInBranches, EachAsksIn, MeansFormerly}
 use Rattle.sievesyntax.specs.Languages.{Language, is_capability_before, is_former_capability, today, before, former}
 use Rattle.sievesyntax.specs.Meaning.{holds, ended, outcome}
 use Rattle.sievesyntax.specs.Means.{MeansIn}
 use Rattle.sievesyntax.specs.RunState.{RunState, at_first, max_targets, TwoVacations, Flow, Going, Stopped, Failed, and_then, cancelled_after, same_target, sent_to, replied_by, performed}
 use Rattle.sievesyntax.specs.Trace.{Trace, then_runs, runs, runs_branch, runs_all, actions_run, in_turn_by, in_turn}
 use Rattle.sievesyntax.specs.Tree.{TestTree, yes, no, looks, not_of, all_of, any_of, Tests, no_tests, test, CommandTree, require, choose, stop, act, Branches, no_branches, branch, Commands, no_commands, command}
-use Rattle.sievesyntax.specs.Valid.{is_named, is_capability, granted_by, is_subaddress, MayPart, MayCheck, MayTest, MayAllTest, MayAct, MayStand, MayBranch, MayAllStand, required, after_requires, IsValid, IsValidIn}
+use Rattle.sievesyntax.specs.Valid.{is_named, is_capability, granted_by, is_subaddress, is_relational, is_numeric, MayPart, MayMatch, MayCheck, MayTest, MayAllTest, MayAct, MayStand, MayBranch, MayAllStand, required, after_requires, IsValid, IsValidIn}
 use Rattle.sievesyntax.proofs.LanguageLemmas.{read_today}
 use Rattle.sievesyntax.proofs.TraceLemmas.{outcome_in_turn}
 
@@ -73,7 +75,7 @@ seven_more false false c d e f g h is = five_more c d e f g h is
 known_formerly : (name : List ℕ) → is_former_capability name ≡ true → is_capability name ≡ true
 known_formerly name =
     seven_more (is_named (codes "fileinto") name) (is_named (codes "envelope") name) (is_named (codes "vacation") name) (is_named (codes "comparator-i;octet") name) (is_named (codes "comparator-i;ascii-casemap") name)
-    (is_named (codes "copy") name) (is_named (codes "vacation-seconds") name) (is_named (codes "subaddress") name || is_named (codes "mailbox") name)
+    (is_named (codes "copy") name) (is_named (codes "vacation-seconds") name) (is_named (codes "subaddress") name || (is_named (codes "relational") name || (is_named (codes "comparator-i;ascii-numeric") name || is_named (codes "mailbox") name)))
 
 still_known : (name : List ℕ) → is_capability_before name ≡ true → is_capability name ≡ true
 still_known name is = known_formerly name
@@ -162,20 +164,32 @@ module _ (word name : List ℕ)
 no_subaddress : (name : List ℕ) → is_former_capability name ≡ true → is_named (codes "subaddress") name ≡ false
 no_subaddress name = apart_formerly (codes "subaddress") name refl refl refl refl refl refl refl
 
+no_relational : (name : List ℕ) → is_former_capability name ≡ true → is_named (codes "relational") name ≡ false
+no_relational name = apart_formerly (codes "relational") name refl refl refl refl refl refl refl
+
+no_numeric : (name : List ℕ) → is_former_capability name ≡ true → is_named (codes "comparator-i;ascii-numeric") name ≡ false
+no_numeric name = apart_formerly (codes "comparator-i;ascii-numeric") name refl refl refl refl refl refl refl
+
 no_mailbox : (name : List ℕ) → is_former_capability name ≡ true → is_named (codes "mailbox") name ≡ false
 no_mailbox name = apart_formerly (codes "mailbox") name refl refl refl refl refl refl refl
 
--- where neither `subaddress` nor `mailbox` is granted
-module _ (granted : Capabilities) (none : granted.subaddress ≡ false) (no_box : granted.mailbox ≡ false) where
+-- where none of the new ones is granted
+module _ (granted : Capabilities) (none : granted.subaddress ≡ false) (no_relation : granted.relational ≡ false) (no_number : granted.numeric ≡ false) (no_box : granted.mailbox ≡ false) where
   former_part : (part : AddressPart) → MayPart granted part → is_subaddress part ≡ false
   former_part part may = not_true (is_subaddress part) (unused granted.subaddress (is_subaddress part) none may)
+
+  former_match : (comparator : Collation) (matching : Matching) → MayMatch granted comparator matching → IsFormerMatch comparator matching
+  former_match comparator matching may = (
+    not_true (is_relational matching) (unused granted.relational (is_relational matching) no_relation may.0),
+    not_true (is_numeric comparator) (unused granted.numeric (is_numeric comparator) no_number may.1),
+  )
 
   former_check : (check : Check) → MayCheck granted check → IsFormerCheck check
   former_check (Size size) may = tt
   former_check (Exists fields) may = tt
-  former_check (Header header) may = tt
-  former_check (Address address) may = former_part address.part may
-  former_check (Envelope envelope) may = former_part envelope.part may.1
+  former_check (Header header) may = former_match header.comparator header.matching may
+  former_check (Address address) may = (former_part address.part may.0, former_match address.comparator address.matching may.1)
+  former_check (Envelope envelope) may = (former_part envelope.part may.1, former_match envelope.comparator envelope.matching may.2)
   former_check (MailboxExists names) may = let bad : false ≡ true = sym no_box ∙ may in absurd (cc bad)
 
   former_action : (action : Action) → MayAct granted action → IsFormerAction action
@@ -225,9 +239,11 @@ valid_former : (tree : Commands) → IsValidIn is_former_capability tree → Eac
 valid_former tree valid =
     let names = required tree in
     let none = none_named (codes "subaddress") names (of_all _ _ no_subaddress names valid.known) in
+    let no_relation = none_named (codes "relational") names (of_all _ _ no_relational names valid.known) in
+    let no_number = none_named (codes "comparator-i;ascii-numeric") names (of_all _ _ no_numeric names valid.known) in
     let no_box = none_named (codes "mailbox") names (of_all _ _ no_mailbox names valid.known) in (
-      after_former tree (former_commands (granted_by names) none no_box (after_requires tree) valid.stand),
-      after_each IsFormerAction tree (each_act IsFormerAction (granted_by names) (former_action (granted_by names) none no_box) (after_requires tree) valid.stand),
+      after_former tree (former_commands (granted_by names) none no_relation no_number no_box (after_requires tree) valid.stand),
+      after_each IsFormerAction tree (each_act IsFormerAction (granted_by names) (former_action (granted_by names) none no_relation no_number no_box) (after_requires tree) valid.stand),
     )
 
 -- ---- the outcome

@@ -117,7 +117,7 @@ granted_push old new each names was made =
     let also : (keyword : List ℕ) → list_any (is_named keyword) (all_names each) || list_any (is_named keyword) names ≡ list_any (is_named keyword) (all_names (each ++ names ∷ [])) =
     λ keyword. sym (list_any-append (is_named keyword) (all_names each) names) ∙ ap (list_any (is_named keyword)) (sym (all_names-push each names)) in
     let now : granted_too (granted_by (all_names each)) names ≡ granted_by (all_names (each ++ names ∷ [])) =
-    λ i. record { fileinto = also (codes "fileinto") i; envelope = also (codes "envelope") i; vacation = also (codes "vacation") i; copy = also (codes "copy") i; seconds = also (codes "vacation-seconds") i; subaddress = also (codes "subaddress") i; mailbox = also (codes "mailbox") i } in
+    λ i. record { fileinto = also (codes "fileinto") i; envelope = also (codes "envelope") i; vacation = also (codes "vacation") i; copy = also (codes "copy") i; seconds = also (codes "vacation-seconds") i; subaddress = also (codes "subaddress") i; relational = also (codes "relational") i; numeric = also (codes "comparator-i;ascii-numeric") i; mailbox = also (codes "mailbox") i } in
     made ∙ ap (λ g. granted_too g names) was ∙ now
 
 module _ (whole : List Lexeme) (each : List (List (List ℕ))) (rest : List Lexeme) (so : IsSoFar TakesRequire IsPastRequires whole each rest) where

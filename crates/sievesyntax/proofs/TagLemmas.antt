@@ -7,6 +7,8 @@ use Rattle.octets.proofs.Lists.{some_pair}
 use Rattle.sievesyntax.specs.declared.table.tag.Tag.TheVariants as T
 use Rattle.sievesyntax.specs.declared.tree.checks.Bound.TheVariants as B
 use Rattle.sievesyntax.specs.declared.tree.checks.Matching.TheVariants as M
+use Rattle.sievesyntax.specs.declared.tree.checks.Relation.{Relation}
+use Rattle.sievesyntax.specs.declared.tree.checks.Relation.TheVariants as R
 use Rattle.sievesyntax.specs.declared.tree.checks.AddressPart.TheVariants as H
 use Rattle.sievesyntax.specs.declared.tree.checks.Collation.{Collation}
 use Rattle.sievesyntax.specs.declared.tree.checks.Collation.TheVariants as C
@@ -20,7 +22,16 @@ use Rattle.sievesyntax.specs.Tags.{strings_of, IsTagValue, group_of, AreApart, I
 use Rattle.sievesyntax.proofs.Chains.{IsSoFar, chain_more, chain_ends}
 
 abbrev collation_named : List ℕ → Option Collation
-collation_named name = cond (pointwise nat_eq name (codes "i;octet")) (Some C.Octet) (cond (pointwise nat_eq name (codes "i;ascii-casemap")) (Some C.AsciiCasemap) None)
+collation_named name = cond (pointwise nat_eq name (codes "i;octet")) (Some C.Octet) (cond (pointwise nat_eq name (codes "i;ascii-casemap")) (Some C.AsciiCasemap) (cond (pointwise nat_eq name (codes "i;ascii-numeric")) (Some C.AsciiNumeric) None))
+
+abbrev relation_named : List ℕ → Option Relation
+relation_named name =
+    cond (pointwise nat_eq name (codes "gt")) (Some R.Greater)
+    (cond (pointwise nat_eq name (codes "ge")) (Some R.GreaterOrEqual)
+    (cond (pointwise nat_eq name (codes "lt")) (Some R.Less)
+    (cond (pointwise nat_eq name (codes "le")) (Some R.LessOrEqual)
+    (cond (pointwise nat_eq name (codes "eq")) (Some R.Equal)
+    (cond (pointwise nat_eq name (codes "ne")) (Some R.NotEqual) None)))))
 
 -- the tag at the front, read
 abbrev tag_value_read : List Argument → Option (TagValue × List Argument)
@@ -29,6 +40,8 @@ tag_value_read (A.Tag T.Under ∷ to) = Some (S.Bound B.Under, to)
 tag_value_read (A.Tag T.Is ∷ to) = Some (S.Matching M.Is, to)
 tag_value_read (A.Tag T.Contains ∷ to) = Some (S.Matching M.Contains, to)
 tag_value_read (A.Tag T.Matches ∷ to) = Some (S.Matching M.Matches, to)
+tag_value_read (A.Tag T.Value ∷ (A.Text name ∷ to)) = option_map (λ r. (S.Matching (M.Value r), to)) (relation_named name)
+tag_value_read (A.Tag T.Count ∷ (A.Text name ∷ to)) = option_map (λ r. (S.Matching (M.Count r), to)) (relation_named name)
 tag_value_read (A.Tag T.All ∷ to) = Some (S.Part H.All, to)
 tag_value_read (A.Tag T.LocalPart ∷ to) = Some (S.Part H.LocalPart, to)
 tag_value_read (A.Tag T.Domain ∷ to) = Some (S.Part H.Domain, to)
@@ -51,9 +64,22 @@ tag_value_again (S.Bound B.Over) from to at = ap tag_value_read at
 tag_value_again (S.Bound B.Under) from to at = ap tag_value_read at
 tag_value_again (S.Comparator C.Octet) from to at = ap tag_value_read at
 tag_value_again (S.Comparator C.AsciiCasemap) from to at = ap tag_value_read at
+tag_value_again (S.Comparator C.AsciiNumeric) from to at = ap tag_value_read at
 tag_value_again (S.Matching M.Is) from to at = ap tag_value_read at
 tag_value_again (S.Matching M.Contains) from to at = ap tag_value_read at
 tag_value_again (S.Matching M.Matches) from to at = ap tag_value_read at
+tag_value_again (S.Matching (M.Value R.Greater)) from to at = ap tag_value_read at
+tag_value_again (S.Matching (M.Value R.GreaterOrEqual)) from to at = ap tag_value_read at
+tag_value_again (S.Matching (M.Value R.Less)) from to at = ap tag_value_read at
+tag_value_again (S.Matching (M.Value R.LessOrEqual)) from to at = ap tag_value_read at
+tag_value_again (S.Matching (M.Value R.Equal)) from to at = ap tag_value_read at
+tag_value_again (S.Matching (M.Value R.NotEqual)) from to at = ap tag_value_read at
+tag_value_again (S.Matching (M.Count R.Greater)) from to at = ap tag_value_read at
+tag_value_again (S.Matching (M.Count R.GreaterOrEqual)) from to at = ap tag_value_read at
+tag_value_again (S.Matching (M.Count R.Less)) from to at = ap tag_value_read at
+tag_value_again (S.Matching (M.Count R.LessOrEqual)) from to at = ap tag_value_read at
+tag_value_again (S.Matching (M.Count R.Equal)) from to at = ap tag_value_read at
+tag_value_again (S.Matching (M.Count R.NotEqual)) from to at = ap tag_value_read at
 tag_value_again (S.Part H.All) from to at = ap tag_value_read at
 tag_value_again (S.Part H.LocalPart) from to at = ap tag_value_read at
 tag_value_again (S.Part H.Domain) from to at = ap tag_value_read at
@@ -87,7 +113,11 @@ not_there allowed taken from none s to is free = none s to is.0
 pub plain_none : (s : TagValue) (from to : List Argument) → IsTagValue s from to → IsPlain from → ⊥
 plain_none (S.Bound bound) from to at plain = subst IsPlain at plain
 plain_none (S.Comparator c) from to at plain = subst IsPlain at plain
-plain_none (S.Matching m) from to at plain = subst IsPlain at plain
+plain_none (S.Matching M.Is) from to at plain = subst IsPlain at plain
+plain_none (S.Matching M.Contains) from to at plain = subst IsPlain at plain
+plain_none (S.Matching M.Matches) from to at plain = subst IsPlain at plain
+plain_none (S.Matching (M.Value r)) from to at plain = subst IsPlain at plain
+plain_none (S.Matching (M.Count r)) from to at plain = subst IsPlain at plain
 plain_none (S.Part p) from to at plain = subst IsPlain at plain
 plain_none (S.Days n) from to at plain = subst IsPlain at plain
 plain_none (S.Seconds n) from to at plain = subst IsPlain at plain

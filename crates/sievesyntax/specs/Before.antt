@@ -2,15 +2,17 @@
 use Rattle.std.specs.Prelude.{◌≡◌, ℕ, Bool, false, ◌||◌, List, None}
 use Rattle.sievesyntax.specs.declared.tree.action.Action.{Action}
 use Rattle.sievesyntax.specs.declared.tree.action.Action.TheVariants.{Keep, Discard, FileInto, Redirect, Vacation}
+use Rattle.sievesyntax.specs.declared.tree.checks.Collation.{Collation}
+use Rattle.sievesyntax.specs.declared.tree.checks.Matching.{Matching}
 use Rattle.sievesyntax.specs.declared.tree.checks.Check.{Check}
-use Rattle.sievesyntax.specs.declared.tree.checks.Check.TheVariants.{Address, Envelope, MailboxExists}
+use Rattle.sievesyntax.specs.declared.tree.checks.Check.TheVariants.{Header, Address, Envelope, MailboxExists}
 use Rattle.sievesyntax.specs.Languages.{Language, before, former}
 use Rattle.sievesyntax.specs.Means.{Means}
 use Rattle.sievesyntax.specs.Meaning.{Outcome, ended, outcome}
 use Rattle.sievesyntax.specs.RunState.{RunState, at_first, Flow, Going, Stopped, Failed, performed}
 use Rattle.sievesyntax.specs.Trace.{actions_run, in_turn_by}
 use Rattle.sievesyntax.specs.Tree.{TestTree, yes, no, looks, not_of, all_of, any_of, Tests, no_tests, test, CommandTree, require, choose, stop, act, Branches, no_branches, branch, Commands, no_commands, command}
-use Rattle.sievesyntax.specs.Valid.{is_subaddress}
+use Rattle.sievesyntax.specs.Valid.{is_subaddress, is_relational, is_numeric}
 
 -- the same run with the implicit keep cancelled or not
 abbrev pub with_cancelled : Bool → Flow → Flow
@@ -50,10 +52,15 @@ abbrev mutual
   EachIn P no_commands = Unit {0}
   EachIn P (command first more) = EachAction P first × EachIn P more
 
--- a test that the former language had: it looks at no part of a local part (RFC 5233, 4), and asks for no mailbox (RFC 5490, 3.1)
+-- a way to match that the former language had: no relation (RFC 5231), and no numbers (RFC 4790, 9.1)
+abbrev pub IsFormerMatch : Collation → Matching → Type 0
+IsFormerMatch comparator matching = (is_relational matching ≡ false) × (is_numeric comparator ≡ false)
+
+-- a test that it had: it looks at no part of a local part (RFC 5233, 4), and asks for no mailbox (RFC 5490, 3.1)
 abbrev pub IsFormerCheck : Check → Type 0
-IsFormerCheck (Address address) = is_subaddress address.part ≡ false
-IsFormerCheck (Envelope envelope) = is_subaddress envelope.part ≡ false
+IsFormerCheck (Header header) = IsFormerMatch header.comparator header.matching
+IsFormerCheck (Address address) = (is_subaddress address.part ≡ false) × IsFormerMatch address.comparator address.matching
+IsFormerCheck (Envelope envelope) = (is_subaddress envelope.part ≡ false) × IsFormerMatch envelope.comparator envelope.matching
 IsFormerCheck (MailboxExists names) = ⊥
 IsFormerCheck _ = Unit {0}
 

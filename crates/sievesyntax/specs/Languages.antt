@@ -84,11 +84,14 @@ cancels_before (D.Vacation args) = false
 abbrev pub before : Language
 before = record { has = is_tag_before; knows = is_capability_before; cancels = cancels_before }
 
--- ---- the language before `subaddress` (RFC 5233) and `mailbox` (RFC 5490)
+-- ---- the language before `subaddress` (RFC 5233), `relational` (RFC 5231), `comparator-i;ascii-numeric` (RFC 4790, 9.1) and `mailbox`
+-- (RFC 5490)
 
 abbrev pub is_former_tag : Tag → Bool
 is_former_tag T.User = false
 is_former_tag T.Detail = false
+is_former_tag T.Value = false
+is_former_tag T.Count = false
 is_former_tag T.Create = false
 is_former_tag _ = true
 

@@ -51,6 +51,8 @@ tag_of name =
     (cond (same_name name (codes "is")) T.Is
     (cond (same_name name (codes "contains")) T.Contains
     (cond (same_name name (codes "matches")) T.Matches
+    (cond (same_name name (codes "value")) T.Value
+    (cond (same_name name (codes "count")) T.Count
     (cond (same_name name (codes "all")) T.All
     (cond (same_name name (codes "localpart")) T.LocalPart
     (cond (same_name name (codes "domain")) T.Domain
@@ -65,7 +67,7 @@ tag_of name =
     (cond (same_name name (codes "handle")) T.Handle
     (cond (same_name name (codes "copy")) T.Copy
     (cond (same_name name (codes "create")) T.Create
-    T.Other)))))))))))))))))))
+    T.Other)))))))))))))))))))))
 
 -- a word of the grammar (RFC 5228, 8.2)
 pub data Lexeme : Type 0 where

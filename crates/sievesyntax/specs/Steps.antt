@@ -106,6 +106,8 @@ granted_too granted names = record {
   copy = granted.copy || (granted_by names).copy;
   seconds = granted.seconds || (granted_by names).seconds;
   subaddress = granted.subaddress || (granted_by names).subaddress;
+  relational = granted.relational || (granted_by names).relational;
+  numeric = granted.numeric || (granted_by names).numeric;
   mailbox = granted.mailbox || (granted_by names).mailbox;
 }
 

@@ -7,6 +7,8 @@ use Rattle.sievesyntax.specs.declared.tree.checks.Bound.{Bound}
 use Rattle.sievesyntax.specs.declared.tree.checks.Bound.TheVariants as B
 use Rattle.sievesyntax.specs.declared.tree.checks.Matching.{Matching}
 use Rattle.sievesyntax.specs.declared.tree.checks.Matching.TheVariants as M
+use Rattle.sievesyntax.specs.declared.tree.checks.Relation.{Relation}
+use Rattle.sievesyntax.specs.declared.tree.checks.Relation.TheVariants as R
 use Rattle.sievesyntax.specs.declared.tree.checks.AddressPart.{AddressPart}
 use Rattle.sievesyntax.specs.declared.tree.checks.AddressPart.TheVariants as H
 use Rattle.sievesyntax.specs.declared.tree.checks.Collation.{Collation}
@@ -24,11 +26,22 @@ abbrev pub bound_tag : Bound → Tag
 bound_tag B.Over = T.Over
 bound_tag B.Under = T.Under
 
--- the tag of a way to match
-abbrev pub matching_tag : Matching → Tag
-matching_tag M.Is = T.Is
-matching_tag M.Contains = T.Contains
-matching_tag M.Matches = T.Matches
+-- the name of a relation, by octets (RFC 5231, 4)
+abbrev pub relation_name : Relation → List ℕ
+relation_name R.Greater = codes "gt"
+relation_name R.GreaterOrEqual = codes "ge"
+relation_name R.Less = codes "lt"
+relation_name R.LessOrEqual = codes "le"
+relation_name R.Equal = codes "eq"
+relation_name R.NotEqual = codes "ne"
+
+-- how a way to match is written (RFC 5228, 2.7.1; RFC 5231, 4)
+abbrev pub IsMatchType : Matching → List Argument → List Argument → Type 0
+IsMatchType M.Is from to = from ≡ A.Tag T.Is ∷ to
+IsMatchType M.Contains from to = from ≡ A.Tag T.Contains ∷ to
+IsMatchType M.Matches from to = from ≡ A.Tag T.Matches ∷ to
+IsMatchType (M.Value relation) from to = from ≡ A.Tag T.Value ∷ (A.Text (relation_name relation) ∷ to)
+IsMatchType (M.Count relation) from to = from ≡ A.Tag T.Count ∷ (A.Text (relation_name relation) ∷ to)
 
 -- the tag of a part of an address
 abbrev pub part_tag : AddressPart → Tag
@@ -38,10 +51,11 @@ part_tag H.Domain = T.Domain
 part_tag H.User = T.User
 part_tag H.Detail = T.Detail
 
--- the name of a comparator, by octets (RFC 4790, 9.2 and 9.3)
+-- the name of a comparator, by octets (RFC 4790, 9.1 to 9.3)
 abbrev pub name_of : Collation → List ℕ
 name_of C.Octet = codes "i;octet"
 name_of C.AsciiCasemap = codes "i;ascii-casemap"
+name_of C.AsciiNumeric = codes "i;ascii-numeric"
 
 -- the strings of an argument: a string stands for the list of it alone (RFC 5228, 2.4.2.1)
 abbrev pub strings_of : Argument → Option (List (List ℕ))
@@ -53,7 +67,7 @@ strings_of _ = None
 abbrev pub IsTagValue : TagValue → List Argument → List Argument → Type 0
 IsTagValue (S.Bound bound) from to = from ≡ A.Tag (bound_tag bound) ∷ to
 IsTagValue (S.Comparator collation) from to = from ≡ A.Tag T.Comparator ∷ (A.Text (name_of collation) ∷ to)
-IsTagValue (S.Matching matching) from to = from ≡ A.Tag (matching_tag matching) ∷ to
+IsTagValue (S.Matching matching) from to = IsMatchType matching from to
 IsTagValue (S.Part part) from to = from ≡ A.Tag (part_tag part) ∷ to
 IsTagValue (S.Days days) from to = from ≡ A.Tag T.Days ∷ (A.Number days ∷ to)
 IsTagValue (S.Seconds seconds) from to = from ≡ A.Tag T.Seconds ∷ (A.Number seconds ∷ to)

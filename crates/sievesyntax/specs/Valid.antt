@@ -1,11 +1,15 @@
 -- What a tree may be besides what the grammar asks.
-use Rattle.std.specs.Prelude.{◌≡◌, ◌≢◌, ◌≤◌, ◌||◌, ℕ, Bool, true, false, is_some, List, [], ◌++◌, codes, length, All, nat_eq}
+use Rattle.std.specs.Prelude.{◌≡◌, ◌≢◌, ◌≤◌, ◌||◌, ℕ, Bool, true, false, not, is_some, List, [], ◌++◌, codes, length, All, nat_eq}
 use Rattle.std.specs.List.{list_any}
 use Rattle.std.specs.Cmp.Lexicographic.{pointwise}
 use Rattle.sievesyntax.specs.declared.tree.action.Action.{Action}
 use Rattle.sievesyntax.specs.declared.tree.action.Action.TheVariants.{Keep, Discard, FileInto, Redirect, Vacation}
 use Rattle.sievesyntax.specs.declared.tree.checks.AddressPart.{AddressPart}
 use Rattle.sievesyntax.specs.declared.tree.checks.AddressPart.TheVariants.{User, Detail}
+use Rattle.sievesyntax.specs.declared.tree.checks.Collation.{Collation}
+use Rattle.sievesyntax.specs.declared.tree.checks.Collation.TheVariants.{AsciiNumeric}
+use Rattle.sievesyntax.specs.declared.tree.checks.Matching.{Matching}
+use Rattle.sievesyntax.specs.declared.tree.checks.Matching.TheVariants.{Contains, Matches, Value, Count}
 use Rattle.sievesyntax.specs.declared.tree.checks.Check.{Check}
 use Rattle.sievesyntax.specs.declared.tree.checks.Check.TheVariants.{Size, Exists, Header, Address, Envelope, MailboxExists}
 use Rattle.sievesyntax.specs.declared.table.capability.Capabilities.{Capabilities}
@@ -33,12 +37,14 @@ is_capability name =
     || (is_named (codes "copy") name
     || (is_named (codes "vacation-seconds") name
     || (is_named (codes "subaddress") name
-    || is_named (codes "mailbox") name)))))))
+    || (is_named (codes "relational") name
+    || (is_named (codes "comparator-i;ascii-numeric") name
+    || is_named (codes "mailbox") name)))))))))
 
 abbrev pub IsCapability : List ℕ → Type 0
 IsCapability name = is_capability name ≡ true
 
--- what these names of capabilities grant (RFC 5228, 3.2); both comparators may be used without
+-- what these names of capabilities grant (RFC 5228, 3.2); `i;octet` and `i;ascii-casemap` may be used without
 abbrev pub granted_by : List (List ℕ) → Capabilities
 granted_by names = record {
   fileinto = list_any (is_named (codes "fileinto")) names;
@@ -47,6 +53,8 @@ granted_by names = record {
   copy = list_any (is_named (codes "copy")) names;
   seconds = list_any (is_named (codes "vacation-seconds")) names;
   subaddress = list_any (is_named (codes "subaddress")) names;
+  relational = list_any (is_named (codes "relational")) names;
+  numeric = list_any (is_named (codes "comparator-i;ascii-numeric")) names;
   mailbox = list_any (is_named (codes "mailbox")) names;
 }
 
@@ -68,6 +76,29 @@ is_subaddress _ = false
 abbrev pub MayPart : Capabilities → AddressPart → Type 0
 MayPart granted part = Permits granted.subaddress (is_subaddress part)
 
+-- a way to match that only `relational` names (RFC 5231)
+abbrev pub is_relational : Matching → Bool
+is_relational (Value _) = true
+is_relational (Count _) = true
+is_relational _ = false
+
+-- the comparator that has to be required (RFC 5228, 2.7.3)
+abbrev pub is_numeric : Collation → Bool
+is_numeric AsciiNumeric = true
+is_numeric _ = false
+
+-- a way to match that looks for a part of the value
+abbrev pub seeks_part : Matching → Bool
+seeks_part Contains = true
+seeks_part Matches = true
+seeks_part _ = false
+
+-- how values may be matched where this is granted: a number has no parts (RFC 4790, 9.1)
+abbrev pub MayMatch : Capabilities → Collation → Matching → Type 0
+MayMatch granted comparator matching =
+    Permits granted.relational (is_relational matching) × Permits granted.numeric (is_numeric comparator)
+    × Permits (not (is_numeric comparator)) (seeks_part matching)
+
 -- an action that may stand where this is granted
 abbrev pub MayAct : Capabilities → Action → Type 0
 MayAct granted Keep = Unit {0}
@@ -80,9 +111,10 @@ MayAct granted (Vacation args) = (may_answer granted ≡ true) × Permits grante
 abbrev pub MayCheck : Capabilities → Check → Type 0
 MayCheck granted (Size size) = Unit {0}
 MayCheck granted (Exists fields) = Unit {0}
-MayCheck granted (Header header) = Unit {0}
-MayCheck granted (Address address) = MayPart granted address.part
-MayCheck granted (Envelope envelope) = (granted.envelope ≡ true) × MayPart granted envelope.part
+MayCheck granted (Header header) = MayMatch granted header.comparator header.matching
+MayCheck granted (Address address) = MayPart granted address.part × MayMatch granted address.comparator address.matching
+MayCheck granted (Envelope envelope) =
+    (granted.envelope ≡ true) × MayPart granted envelope.part × MayMatch granted envelope.comparator envelope.matching
 MayCheck granted (MailboxExists names) = granted.mailbox ≡ true
 
 -- a test that may stand where this is granted

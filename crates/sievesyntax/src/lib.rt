@@ -14,7 +14,7 @@ pub use table::command::is_mailbox;
 pub use tree::action::{Action, FileInto, Redirect};
 pub use tree::checks::{
     Address, AddressPart, Bound, Check, Collation, EnvelopeParts, EnvelopeTest, Header, Matching,
-    Size,
+    Relation, Size,
 };
 pub use tree::command::{Branch, Command};
 pub use tree::test::Test;

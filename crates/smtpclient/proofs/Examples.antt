@@ -1,14 +1,18 @@
 -- What the definitions say of a few messages, and of what is near them.
-use Rattle.std.proofs.Common.{◌≡◌, true, false, [], ◌∷◌, refl, inl, inr, arith, codes, Some, None, zero, suc, lit<}
+use Rattle.std.proofs.Common.{◌≡◌, ◌++◌, ◌+◌, ◌≤◌, ◌==◌, ◌∙◌, ap, sym, not, ℕ, List, true, false, [], ◌∷◌, refl, inl, inr, arith, codes, Some, None, zero, suc, lit<}
+use Rattle.std.specs.List.{list_all}
 use Rattle.std.specs.Str.{IsAscii}
 use Rattle.std.proofs.lemmas.Str.{IsUtf8-from_ascii, is_utf8-from_IsUtf8}
 use Rattle.smtpclient.specs.Dialogues.{turn_of}
 use Rattle.smtpclient.specs.Extensions.{extensions_of}
-use Rattle.smtpclient.specs.Mailboxes.{IsMailbox, is_dot_string, is_domain, is_ipv4, behind_quotes}
+use Rattle.smtpclient.specs.Addresses.{IsIpv6, groups_of, is_group, is_ipv4, some_groups_of}
+use Rattle.smtpclient.specs.Mailboxes.{IsInner, IsLiteral, IsMailbox, Says, is_dot_string, is_domain, behind_quotes}
 use Rattle.smtpclient.specs.declared.dialogue.Ending.TheVariants.{Sent, Refused, Delayed, OutOfPlace}
 use Rattle.smtpclient.specs.declared.dialogue.Stage.TheVariants.{Recipient, Data, Text}
 use Rattle.smtpclient.specs.declared.dialogue.Turn.TheVariants.{Goes, Ends}
 use Rattle.smtpclient.specs.Replies.{IsReplyLine}
+use Rattle.smtpclient.proofs.AddressLemmas.{at_doubled, at_last, groups_doubled, no_mark}
+use Rattle.smtpclient.proofs.MailboxLemmas.{one_tagged}
 use Rattle.smtpclient.specs.Sent.{mended, chomped, is_folded, sent_from, text_from}
 use Rattle.smtpclient.specs.declared.sent.Place.TheVariants.{Start}
 
@@ -120,6 +124,97 @@ too_great = refl
 
 three : is_ipv4 (codes "1.2.3") ≡ false
 three = refl
+
+-- `ffFF` is a group of digits; near misses: `12345`, `g`, nothing
+group : is_group (codes "ffFF") ≡ true
+group = refl
+
+long_group : is_group (codes "12345") ≡ false
+long_group = refl
+
+no_digit : is_group (codes "g") ≡ false
+no_digit = refl
+
+no_group : is_group [] ≡ false
+no_group = refl
+
+-- how many groups these are; near misses: `1::2`, `1:`, `:1`
+three_groups : groups_of (codes "1:2:3") ≡ Some 3
+three_groups = refl
+
+doubled : groups_of (codes "1::2") ≡ None
+doubled = refl
+
+colon_last : groups_of (codes "1:") ≡ None
+colon_last = refl
+
+colon_first : groups_of (codes ":1") ≡ None
+colon_first = refl
+
+-- an IPv6 address of each form: eight groups; six and an IPv4 address; with `::` six at most; with that and an IPv4 address four at most
+full : IsIpv6 (codes "1:2:3:4:5:6:7:8")
+full = inl refl
+
+full_ipv4 : IsIpv6 (codes "1:2:3:4:5:6:1.2.3.4")
+full_ipv4 = inr (inr (inl (record { groups = codes "1:2:3:4:5:6"; address = codes "1.2.3.4"; written = refl; counted = refl; is = refl })))
+
+compressed : IsIpv6 (codes "1:2:3::4:5:6")
+compressed = inr (inl (record { front = codes "1:2:3"; rest = codes "4:5:6"; before = 3; behind = 3; written = refl; ahead = refl; after = refl; most = omega arith }))
+
+nothing_else : IsIpv6 (codes "::")
+nothing_else = inr (inl (record { front = []; rest = []; before = 0; behind = 0; written = refl; ahead = refl; after = refl; most = omega arith }))
+
+compressed_ipv4 : IsIpv6 (codes "::ffff:1.2.3.4")
+compressed_ipv4 = inr (inr (inr (record {
+  front = [];
+  rest = codes "ffff:1.2.3.4";
+  before = 0;
+  behind = 1;
+  written = refl;
+  ahead = refl;
+  after = inr (record { groups = codes "ffff"; address = codes "1.2.3.4"; written = refl; counted = refl; is = refl });
+  most = omega arith;
+})))
+
+-- near misses: `junk`; seven groups and `::`
+junk_apart : (front rest : List ℕ) (before : ℕ) → codes "junk" ≡ front ++ 58 ∷ 58 ∷ rest → some_groups_of front ≡ Some before → ⊥
+junk_apart front rest before written ahead =
+    let at = at_doubled (codes "junk") front rest 4 refl (groups_doubled (codes "junk") front rest before written ahead) in
+    let no = at.1 in cc
+
+junk : IsIpv6 (codes "junk") → ⊥
+junk (inl is) = let no = is in cc
+junk (inr (inl is)) = junk_apart is.front is.rest is.before is.written is.ahead
+junk (inr (inr (inl is))) = no_mark 58 is.groups is.address (ap (list_all (λ octet. not (octet == 58))) (sym is.written))
+junk (inr (inr (inr is))) = junk_apart is.front is.rest is.before is.written is.ahead
+
+seven_ahead : (front rest : List ℕ) (before behind : ℕ) → codes "1:2:3:4:5:6:7::" ≡ front ++ 58 ∷ 58 ∷ rest → some_groups_of front ≡ Some before → before + behind ≤ 6 → ⊥
+seven_ahead front rest before behind written ahead most =
+    let at = at_doubled (codes "1:2:3:4:5:6:7::") front rest 13 refl (groups_doubled (codes "1:2:3:4:5:6:7::") front rest before written ahead) in
+    let counted : Some 7 ≡ Some before = ap some_groups_of at.0 ∙ ahead in
+    let same : 7 ≡ before = (let h = counted in cc) in
+    absurd (omega (arith, same, most))
+
+seven : IsIpv6 (codes "1:2:3:4:5:6:7::") → ⊥
+seven (inl is) = let no = is in cc
+seven (inr (inl is)) = seven_ahead is.front is.rest is.before is.behind is.written is.ahead (omega (arith, is.most))
+seven (inr (inr (inl is))) = let at = at_last (codes "1:2:3:4:5:6:7::") (codes "1:2:3:4:5:6:7:") [] 6 (record { written = refl; last = refl }) is in let no = at.0 in cc
+seven (inr (inr (inr is))) = seven_ahead is.front is.rest is.before is.behind is.written is.ahead (omega (arith, is.most))
+
+-- a literal with an address, and one with another tag; near miss: that of IPv6 with what is no address
+literal : IsLiteral (codes "[ipv6:::]")
+literal = record { inner = codes "ipv6:::"; written = refl; is = inr (inl (record { tag = codes "ipv6"; address = codes "::"; written = refl; named = refl; is = nothing_else })) }
+
+other_tag : IsLiteral (codes "[x:junk]")
+other_tag = record { inner = codes "x:junk"; written = refl; is = inr (inr (record { tag = codes "x"; content = codes "junk"; written = refl; other = refl; named = refl; each = refl })) }
+
+no_tag : IsInner (codes "IPv6:junk") → ⊥
+no_tag (inl is) = let no = is in cc
+no_tag (inr is) = by_says (one_tagged (codes "IPv6:junk") (codes "IPv6") (codes "junk") (record { written = refl; first = refl }) is)
+  where
+    by_says : Says (codes "IPv6") (codes "junk") → ⊥
+    by_says (inl says) = junk says.1
+    by_says (inr says) = let no = says.0 in cc
 
 -- `"a\""@b` and what stands behind its quoted string; near miss: one that isn't closed
 closed : behind_quotes false (97 ∷ 92 ∷ 34 ∷ 34 ∷ 64 ∷ 98 ∷ []) ≡ Some (64 ∷ 98 ∷ [])

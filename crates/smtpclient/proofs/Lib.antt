@@ -1,3 +1,4 @@
+mod AddressLemmas
 pub mod DialogueLemmas
 pub mod Examples
 pub mod ExtensionLemmas
@@ -7,3 +8,4 @@ pub mod ReplyLemmas
 pub mod RunLemmas
 pub mod SentLemmas
 mod ShownLemmas
+mod SplitLemmas

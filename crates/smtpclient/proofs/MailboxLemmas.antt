@@ -1,7 +1,7 @@
 -- Mailboxes, octet by octet.
-use Rattle.std.proofs.Common.{◌≡◌, ℕ, suc, ◌-◌, ◌<◌, ◌≤◌, ◌==◌, ◌&&◌, ◌||◌, not, Bool, true, false, List, [], ◌∷◌, ◌++◌, length, take, drop, get_or, Option, Some, None, Result, Ok, Err, is_ok, Bor, inl, inr, refl, sym, ap, ◌∙◌, subst, append-nil, append_assoc, arith}
+use Rattle.std.proofs.Common.{codes, ◌⊎◌, ◌≡◌, ℕ, suc, ◌-◌, ◌<◌, ◌≤◌, ◌==◌, ◌&&◌, ◌||◌, not, Bool, true, false, List, [], ◌∷◌, ◌++◌, length, take, drop, get_or, Option, Some, None, Result, Ok, Err, is_ok, Bor, inl, inr, refl, sym, ap, ◌∙◌, subst, append-nil, append_assoc, arith}
 use Rattle.std.proofs.lemmas.Bool.{false_from_ne_true}
-use Rattle.std.specs.Prelude.{MatchResult, IsUtf8, IfSome, IfNone}
+use Rattle.std.specs.Prelude.{nat_eq, MatchResult, IsUtf8, IfSome, IfNone}
 use Rattle.std.specs.Str.{is_utf8, IsValidUpTo}
 use Rattle.std.proofs.lemmas.Str.{IsUtf8-from_is_utf8, is_utf8-from_IsUtf8}
 use Rattle.std.specs.List.{list_all, slice_split, onto_first, prefix_len}
@@ -10,8 +10,11 @@ use Rattle.std.proofs.Math.Seq.{drop-cons}
 use Rattle.std.proofs.lemmas.List.{take-append-drop, length-drop}
 use Rattle.std.proofs.lemmas.List.Folds.{list_all-append}
 use Rattle.std.proofs.lemmas.List.Sums.{passes_at_first}
-use Rattle.octets.specs.Ascii.{is_printable}
-use Rattle.smtpclient.specs.Mailboxes.{CutsAt, HasNone, CutsLocal, CutsDotted, Closes, IsLocal, IsHost, IsMailbox, IsTagged, is_atom, is_atext, is_high, is_dot, is_dot_string, is_qcontent, is_end, is_tag_octet, is_tag, is_content, ends_well, joined, behind_quotes}
+use Rattle.octets.specs.Ascii.{is_printable, lowered}
+use Rattle.std.specs.Char.{to_ascii_lowercase}
+use Rattle.std.specs.Cmp.Lexicographic.{pointwise}
+use Rattle.smtpclient.specs.Addresses.{IsIpv6, is_dot}
+use Rattle.smtpclient.specs.Mailboxes.{CutsAt, HasNone, CutsLocal, CutsDotted, Closes, IsLocal, IsHost, IsMailbox, IsIpv6Tagged, IsTagged, Says, is_ipv6_tag, is_atom, is_atext, is_high, is_dot_string, is_qcontent, is_end, is_tag_octet, is_tag, is_content, ends_well, joined, behind_quotes}
 
 -- ---- truth values
 
@@ -29,10 +32,10 @@ own a = grind arith
 
 -- ---- lists
 
-head_of : (a b : ℕ) (xs ys : List ℕ) → a ∷ xs ≡ b ∷ ys → a ≡ b
+pub head_of : (a b : ℕ) (xs ys : List ℕ) → a ∷ xs ≡ b ∷ ys → a ≡ b
 head_of a b xs ys same = grind (arith, same)
 
-tail_of : (a b : ℕ) (xs ys : List ℕ) → a ∷ xs ≡ b ∷ ys → xs ≡ ys
+pub tail_of : (a b : ℕ) (xs ys : List ℕ) → a ∷ xs ≡ b ∷ ys → xs ≡ ys
 tail_of a b xs ys same = grind (arith, same)
 
 pub no_octets : (text : List ℕ) → length text ≡ 0 → text ≡ []
@@ -174,10 +177,32 @@ no_dotted inner host cut = by_local cut.local cut.written cut.is
 no_colon : (tag : List ℕ) → is_tag tag ≡ true → list_all (other 58) tag ≡ true
 no_colon tag named = all_other is_tag_octet 58 refl tag (both (list_all is_tag_octet tag) (ends_well tag) named).0
 
-pub one_tagged : (text front rest : List ℕ) → CutsAt 58 text front rest → IsTagged text → (is_tag front ≡ true) × (is_content rest ≡ true)
-one_tagged text front rest cut is_one =
-    let same = one_cut 58 is_one.tag front is_one.content rest (sym is_one.written ∙ cut.written) (no_colon is_one.tag is_one.named) cut.first in
-    (ap is_tag (sym same.0) ∙ is_one.named, ap is_content (sym same.1) ∙ is_one.each)
+-- a word in upper or lower case has no colon where the word has none
+word_octet : (octet letter : ℕ) → other 58 letter ≡ true → nat_eq (to_ascii_lowercase octet) letter ≡ true → other 58 octet ≡ true
+word_octet octet letter apart is = grind (arith, apart, is)
+
+word_colon : (word tag : List ℕ) → list_all (other 58) word ≡ true → pointwise nat_eq (lowered tag) word ≡ true → list_all (other 58) tag ≡ true
+word_colon word [] apart is = refl
+word_colon [] (octet ∷ tag) apart is = absurd (cc is)
+word_colon (letter ∷ word) (octet ∷ tag) apart is =
+    let here = both (nat_eq (to_ascii_lowercase octet) letter) (pointwise nat_eq (lowered tag) word) is in
+    let all = both (other 58 letter) (list_all (other 58) word) apart in
+    rw (word_octet octet letter all.0 here.0) (word_colon word tag all.1 here.1)
+
+ipv6_colon : (tag : List ℕ) → is_ipv6_tag tag ≡ true → list_all (other 58) tag ≡ true
+ipv6_colon tag named = word_colon (codes "ipv6") tag refl named
+
+pub one_tagged : (text front rest : List ℕ) → CutsAt 58 text front rest → IsIpv6Tagged text ⊎ IsTagged text → Says front rest
+one_tagged text front rest cut (inl is) =
+    let same = one_cut 58 is.tag front is.address rest (sym is.written ∙ cut.written) (ipv6_colon is.tag is.named) cut.first in
+    inl (ap is_ipv6_tag (sym same.0) ∙ is.named, subst IsIpv6 same.1 is.is)
+one_tagged text front rest cut (inr is) =
+    let same = one_cut 58 is.tag front is.content rest (sym is.written ∙ cut.written) (no_colon is.tag is.named) cut.first in
+    inr (ap is_ipv6_tag (sym same.0) ∙ is.other, ap is_tag (sym same.0) ∙ is.named, ap is_content (sym same.1) ∙ is.each)
+
+pub is_tagged : (text front rest : List ℕ) → CutsAt 58 text front rest → Says front rest → IsIpv6Tagged text ⊎ IsTagged text
+is_tagged text front rest cut (inl says) = inl (record { tag = front; address = rest; written = cut.written; named = says.0; is = says.1 })
+is_tagged text front rest cut (inr says) = inr (record { tag = front; content = rest; written = cut.written; other = says.0; named = says.1; each = says.2 })
 
 -- ---- a quoted string
 

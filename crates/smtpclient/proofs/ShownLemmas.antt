@@ -1,12 +1,17 @@
 -- A mailbox has no controls.
-use Rattle.std.proofs.Common.{◌≡◌, ℕ, ◌<◌, ◌≤◌, ◌==◌, ◌&&◌, ◌||◌, Bool, true, false, List, [], ◌∷◌, ◌++◌, inl, inr, length, refl, ap, ◌∙◌, arith}
-use Rattle.std.specs.List.{list_all, slice_split, onto_first}
+use Rattle.std.proofs.Common.{codes, Some, ◌≡◌, ℕ, ◌<◌, ◌≤◌, ◌==◌, ◌&&◌, ◌||◌, Bool, true, false, List, [], ◌∷◌, ◌++◌, inl, inr, length, refl, ap, ◌∙◌, arith}
+use Rattle.std.specs.Char.{is_ascii_hexdigit, to_ascii_lowercase}
+use Rattle.std.specs.Cmp.Lexicographic.{pointwise}
+use Rattle.std.specs.List.{list_all, slice_split}
 use Rattle.std.proofs.lemmas.List.Folds.{list_all-append}
-use Rattle.std.specs.Prelude.{nat_le}
-use Rattle.octets.specs.Ascii.{is_printable, is_digit}
+use Rattle.std.specs.Prelude.{nat_le, nat_eq}
+use Rattle.octets.specs.Ascii.{is_printable, is_digit, lowered}
 use Rattle.octets.specs.Decimal.{number_of}
-use Rattle.smtpclient.specs.Mailboxes.{Closes, IsLocal, IsHost, IsInner, IsTagged, MailboxStands, is_shown, is_atom, is_atext, is_let_dig, is_high, is_mark, is_between, is_dot, is_qcontent, is_qtext, is_label, is_label_octet, is_number, is_tag_octet, is_dcontent, begins_well, ends_well, is_filled, joined}
+use Rattle.smtpclient.specs.Addresses.{AreGroupsAndIpv4, EndsInIpv4, IsIpv6, between_colons, groups_of, is_colon, is_group, is_ipv4, some_groups_of, is_dot, is_number, is_filled}
+use Rattle.smtpclient.specs.Mailboxes.{Closes, IsLocal, IsHost, IsInner, IsIpv6Tagged, IsTagged, MailboxStands, is_shown, is_atom, is_atext, is_let_dig, is_high, is_mark, is_between, is_qcontent, is_qtext, is_label, is_label_octet, is_tag_octet, is_dcontent, begins_well, ends_well, joined}
+use Rattle.smtpclient.proofs.AddressLemmas.{are_groups}
 use Rattle.smtpclient.proofs.MailboxLemmas.{both, same_octet}
+use Rattle.smtpclient.proofs.SplitLemmas.{all_by, each_by, split_all}
 
 abbrev are_shown : List ℕ → Bool
 are_shown text = list_all is_shown text
@@ -62,46 +67,18 @@ digit octet is = grind (arith, is)
 
 -- ---- lists
 
-all_by : (p q : ℕ → Bool) → ((octet : ℕ) → p octet ≡ true → q octet ≡ true) → (text : List ℕ) → list_all p text ≡ true → list_all q text ≡ true
-all_by p q by [] each = refl
-all_by p q by (octet ∷ text) each =
-    let here = both (p octet) (list_all p text) each in
-    rw (by octet here.0) (all_by p q by text here.1)
-
-each_by : (A : List ℕ → Bool) → ((part : List ℕ) → A part ≡ true → are_shown part ≡ true) → (parts : List (List ℕ)) → list_all A parts ≡ true → list_all are_shown parts ≡ true
-each_by A by [] each = refl
-each_by A by (part ∷ parts) each =
-    let here = both (A part) (list_all A parts) each in
-    rw (by part here.0) (each_by A by parts here.1)
-
 append : (front rest : List ℕ) → are_shown front ≡ true → are_shown rest ≡ true → are_shown (front ++ rest) ≡ true
 append front rest one two = list_all-append is_shown front rest ∙ rw one two
-
-joins : (octet : ℕ) (parts : List (List ℕ)) → list_all are_shown (onto_first octet parts) ≡ true → (is_shown octet ≡ true) × (list_all are_shown parts ≡ true)
-joins octet [] each = let here = both (are_shown (octet ∷ [])) true each in ((both (is_shown octet) true here.0).0, refl)
-joins octet (part ∷ parts) each =
-    let here = both (are_shown (octet ∷ part)) (list_all are_shown parts) each in
-    let first = both (is_shown octet) (are_shown part) here.0 in
-    (first.0, rw first.1 here.1)
 
 dot_shown : (octet : ℕ) → is_dot octet ≡ true → is_shown octet ≡ true
 dot_shown octet is = grind (arith, is)
 
-split_by : (octet : ℕ) (text : List ℕ) (dot : Bool) → is_dot octet ≡ dot → list_all are_shown (slice_split is_dot (octet ∷ text)) ≡ true
-    → (is_shown octet ≡ true) × (list_all are_shown (slice_split is_dot text) ≡ true)
-split_by octet text true test each =
-    let here : list_all are_shown ([] ∷ slice_split is_dot text) ≡ true = rw test at each in
-    (dot_shown octet test, here)
-split_by octet text false test each =
-    let here : list_all are_shown (onto_first octet (slice_split is_dot text)) ≡ true = rw test at each in
-    joins octet (slice_split is_dot text) here
-
 -- parts between dots
-split_shown : (text : List ℕ) → list_all are_shown (slice_split is_dot text) ≡ true → are_shown text ≡ true
-split_shown [] each = refl
-split_shown (octet ∷ text) each =
-    let here = split_by octet text (is_dot octet) refl each in
-    rw here.0 (split_shown text here.1)
+dots_shown : (text : List ℕ) → list_all are_shown (slice_split is_dot text) ≡ true → are_shown text ≡ true
+dots_shown = split_all is_dot is_shown dot_shown
+
+colon_shown : (octet : ℕ) → is_colon octet ≡ true → is_shown octet ≡ true
+colon_shown octet is = grind (arith, is)
 
 -- ---- local parts
 
@@ -125,10 +102,10 @@ joined_shown (part ∷ parts) each =
 
 closed : (text : List ℕ) → Closes text [] → are_shown text ≡ true
 closed text closes =
-    ap are_shown closes.written ∙ append (joined closes.parts) (34 ∷ []) (joined_shown closes.parts (each_by is_qcontent quoted_part closes.parts closes.each)) refl
+    ap are_shown closes.written ∙ append (joined closes.parts) (34 ∷ []) (joined_shown closes.parts (each_by is_shown is_qcontent quoted_part closes.parts closes.each)) refl
 
 local_shown : (local : List ℕ) → IsLocal local → are_shown local ≡ true
-local_shown local (inl is) = split_shown local (each_by is_atom atom (slice_split is_dot local) is)
+local_shown local (inl is) = dots_shown local (each_by is_shown is_atom atom (slice_split is_dot local) is)
 local_shown local (inr (text, is, closes)) = ap are_shown is ∙ closed text closes
 
 -- ---- hosts
@@ -149,12 +126,60 @@ tagged_shown text is =
     ap are_shown is.written ∙ append is.tag (58 ∷ is.content)
     (all_by is_tag_octet is_shown tag is.tag (both (list_all is_tag_octet is.tag) (ends_well is.tag) is.named).0) (all_by is_dcontent is_shown dcontent is.content content.1)
 
+-- ---- IPv6
+
+hex_shown : (octet : ℕ) → is_ascii_hexdigit octet ≡ true → is_shown octet ≡ true
+hex_shown octet is = grind (arith, is)
+
+group_shown : (part : List ℕ) → is_group part ≡ true → are_shown part ≡ true
+group_shown part is = all_by is_ascii_hexdigit is_shown hex_shown part (both (is_filled part && nat_le (length part) 4) (list_all is_ascii_hexdigit part) is).1
+
+groups_shown : (text : List ℕ) (n : ℕ) → groups_of text ≡ Some n → are_shown text ≡ true
+groups_shown text n is = split_all is_colon is_shown colon_shown text (each_by is_shown is_group group_shown (between_colons text) (are_groups text n is))
+
+some_shown : (text : List ℕ) (n : ℕ) → some_groups_of text ≡ Some n → are_shown text ≡ true
+some_shown [] n is = refl
+some_shown (octet ∷ text) n is = groups_shown (octet ∷ text) n is
+
+ipv4_shown : (text : List ℕ) → is_ipv4 text ≡ true → are_shown text ≡ true
+ipv4_shown text is = dots_shown text (each_by is_shown is_number number_shown (slice_split is_dot text) (both (length (slice_split is_dot text) == 4) (list_all is_number (slice_split is_dot text)) is).1)
+
+mixed_shown : (text : List ℕ) (n : ℕ) → AreGroupsAndIpv4 text n → are_shown text ≡ true
+mixed_shown text n is = ap are_shown is.written ∙ append is.groups (58 ∷ is.address) (groups_shown is.groups n is.counted) (ipv4_shown is.address is.is)
+
+ends_shown : (text : List ℕ) (n : ℕ) → EndsInIpv4 text n → are_shown text ≡ true
+ends_shown text n (inl is) = ipv4_shown text is.0
+ends_shown text n (inr is) = mixed_shown text n is
+
+ipv6_shown : (text : List ℕ) → IsIpv6 text → are_shown text ≡ true
+ipv6_shown text (inl is) = groups_shown text 8 is
+ipv6_shown text (inr (inl is)) = ap are_shown is.written ∙ append is.front (58 ∷ 58 ∷ is.rest) (some_shown is.front is.before is.ahead) (some_shown is.rest is.behind is.after)
+ipv6_shown text (inr (inr (inl is))) = mixed_shown text 6 is
+ipv6_shown text (inr (inr (inr is))) = ap are_shown is.written ∙ append is.front (58 ∷ 58 ∷ is.rest) (some_shown is.front is.before is.ahead) (ends_shown is.rest is.behind is.after)
+
+-- the tag of one
+ipv6_tag_shown : (word tag : List ℕ) → are_shown word ≡ true → pointwise nat_eq (lowered tag) word ≡ true → are_shown tag ≡ true
+ipv6_tag_shown word [] shown is = refl
+ipv6_tag_shown [] (octet ∷ tag) shown is = absurd (cc is)
+ipv6_tag_shown (letter ∷ word) (octet ∷ tag) shown is =
+    let here = both (nat_eq (to_ascii_lowercase octet) letter) (pointwise nat_eq (lowered tag) word) is in
+    let all = both (is_shown letter) (are_shown word) shown in
+    rw (lower_shown octet letter all.0 here.0) (ipv6_tag_shown word tag all.1 here.1)
+  where
+    lower_shown : (octet letter : ℕ) → is_shown letter ≡ true → nat_eq (to_ascii_lowercase octet) letter ≡ true → is_shown octet ≡ true
+    lower_shown octet letter shown is = grind (arith, shown, is)
+
+ipv6_tagged_shown : (text : List ℕ) → IsIpv6Tagged text → are_shown text ≡ true
+ipv6_tagged_shown text is =
+    ap are_shown is.written ∙ append is.tag (58 ∷ is.address) (ipv6_tag_shown (codes "ipv6") is.tag refl is.named) (ipv6_shown is.address is.is)
+
 inner_shown : (text : List ℕ) → IsInner text → are_shown text ≡ true
-inner_shown text (inl is) = split_shown text (each_by is_number number_shown (slice_split is_dot text) (both (length (slice_split is_dot text) == 4) (list_all is_number (slice_split is_dot text)) is).1)
-inner_shown text (inr is) = tagged_shown text is
+inner_shown text (inl is) = ipv4_shown text is
+inner_shown text (inr (inl is)) = ipv6_tagged_shown text is
+inner_shown text (inr (inr is)) = tagged_shown text is
 
 host_shown : (text : List ℕ) → IsHost text → are_shown text ≡ true
-host_shown text (inl is) = split_shown text (each_by is_label label_shown (slice_split is_dot text) is)
+host_shown text (inl is) = dots_shown text (each_by is_shown is_label label_shown (slice_split is_dot text) is)
 host_shown text (inr is) = ap are_shown is.written ∙ append (91 ∷ is.inner) (93 ∷ []) (inner_shown is.inner is.is) refl
 
 pub mailbox_stands : MailboxStands

@@ -1,10 +1,11 @@
 -- Mailboxes: the addresses of senders and recipients (RFC 5321, section 4.1.2; octets over 127 as RFC 6531, section 3.3, has them).
 -- How long one may be isn't looked at.
-use Rattle.std.specs.Prelude.{◌≡◌, ◌⊎◌, ℕ, nat_le, ◌==◌, ◌&&◌, ◌||◌, not, Bool, true, false, if◌then◌else◌, List, [], ◌∷◌, ◌++◌, length, Option, Some, None}
+use Rattle.std.specs.Prelude.{codes, ◌≡◌, ◌⊎◌, ℕ, nat_le, ◌==◌, ◌&&◌, ◌||◌, not, Bool, true, false, if◌then◌else◌, List, [], ◌∷◌, ◌++◌, length, Option, Some, None}
 use Rattle.std.specs.List.{list_all, flat_map, slice_split}
 use Rattle.std.specs.Str.{is_utf8}
 use Rattle.octets.specs.Ascii.{is_letter, is_digit, is_printable}
-use Rattle.octets.specs.Decimal.{number_of}
+use Rattle.smtpclient.specs.Addresses.{IsIpv6, is_dot, is_filled, is_ipv4}
+use Rattle.smtpclient.specs.Extensions.{is_word}
 
 abbrev pub is_between : ℕ → ℕ → ℕ → Bool
 is_between low high octet = nat_le low octet && nat_le octet high
@@ -39,13 +40,6 @@ is_dcontent octet = is_between 33 90 octet || is_between 94 126 octet
 -- one that begins or ends a sub-domain: Let-dig, or of another character (U-label)
 abbrev pub is_end : ℕ → Bool
 is_end octet = is_let_dig octet || is_high octet
-
-abbrev pub is_dot : ℕ → Bool
-is_dot octet = octet == 46
-
-abbrev pub is_filled : List ℕ → Bool
-is_filled [] = false
-is_filled (octet ∷ rest) = true
 
 -- ---- local parts
 
@@ -98,14 +92,6 @@ is_label text = begins_well text && list_all is_label_octet text && ends_well te
 abbrev pub is_domain : List ℕ → Bool
 is_domain text = list_all is_label (slice_split is_dot text)
 
--- Snum: one to three digits, of at most 255
-abbrev pub is_number : List ℕ → Bool
-is_number text = is_filled text && nat_le (length text) 3 && list_all is_digit text && nat_le (number_of text) 255
-
--- IPv4-address-literal: four of them, with dots between
-abbrev pub is_ipv4 : List ℕ → Bool
-is_ipv4 text = length (slice_split is_dot text) == 4 && list_all is_number (slice_split is_dot text)
-
 -- Standardized-tag
 abbrev pub is_tag_octet : ℕ → Bool
 is_tag_octet octet = is_let_dig octet || octet == 45
@@ -116,16 +102,29 @@ is_tag text = list_all is_tag_octet text && ends_well text
 abbrev pub is_content : List ℕ → Bool
 is_content text = is_filled text && list_all is_dcontent text
 
--- General-address-literal, as that of IPv6 is one: a tag, a colon, and what the tag says. That isn't looked into
+-- the tag of an IPv6 address, in upper or lower case
+abbrev pub is_ipv6_tag : List ℕ → Bool
+is_ipv6_tag tag = is_word (codes "ipv6") tag
+
+-- IPv6-address-literal: the tag, a colon and an address
+pub record IsIpv6Tagged (text : List ℕ) : Type 0 where
+  pub tag : List ℕ
+  pub address : List ℕ
+  pub written : text ≡ tag ++ 58 ∷ address
+  pub named : is_ipv6_tag tag ≡ true
+  pub is : IsIpv6 address
+
+-- General-address-literal: another tag, a colon, and what the tag says. That isn't looked into
 pub record IsTagged (text : List ℕ) : Type 0 where
   pub tag : List ℕ
   pub content : List ℕ
   pub written : text ≡ tag ++ 58 ∷ content
+  pub other : is_ipv6_tag tag ≡ false
   pub named : is_tag tag ≡ true
   pub each : is_content content ≡ true
 
 abbrev pub IsInner : List ℕ → Type 0
-IsInner text = (is_ipv4 text ≡ true) ⊎ IsTagged text
+IsInner text = (is_ipv4 text ≡ true) ⊎ IsIpv6Tagged text ⊎ IsTagged text
 
 -- address-literal
 pub record IsLiteral (text : List ℕ) : Type 0 where
@@ -175,6 +174,11 @@ behind_quotes escaped [] = None
 behind_quotes true (octet ∷ rest) = if is_printable octet then behind_quotes false rest else None
 behind_quotes false (octet ∷ rest) =
     if octet == 34 then Some rest else (if octet == 92 then behind_quotes true rest else (if is_qtext octet then behind_quotes false rest else None))
+
+-- what a tag may have behind it
+abbrev pub Says : List ℕ → List ℕ → Type 0
+Says tag content =
+    ((is_ipv6_tag tag ≡ true) × IsIpv6 content) ⊎ ((is_ipv6_tag tag ≡ false) × (is_tag tag ≡ true) × (is_content content ≡ true))
 
 -- the first such octet, what stands before it and what behind it
 pub record CutsAt (mark : ℕ) (text front rest : List ℕ) : Type 0 where

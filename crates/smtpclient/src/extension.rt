@@ -101,7 +101,7 @@ fn word_of(text: &[u8]) -> &[u8]
     &text[..count]
 }
 
-fn names(keyword: &[u8], word: &[u8]) -> bool
+pub(crate) fn names(keyword: &[u8], word: &[u8]) -> bool
     ensures { result ≡ s.is_word word.now keyword.now }
 {
     keyword.eq_ignore_ascii_case(word)

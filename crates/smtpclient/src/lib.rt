@@ -1,6 +1,7 @@
 //! The client's side of SMTP (RFC 5321): what is sent of a message, and what a server answers.
 #![tactic(auto)]
 
+mod address;
 pub mod command;
 pub mod dialogue;
 pub mod extension;

@@ -1,13 +1,16 @@
 //! Mailboxes: the addresses of senders and recipients.
-ghost use Rattle.std.specs.Prelude.{◌≡◌, ◌↔◌, ◌≤◌, ◌==◌, [], ◌∷◌, ◌++◌, not, false, ℕ, List, IsTrue, IfSome, IfNone, length, option_copied};
+ghost use Rattle.std.specs.Prelude.{◌≡◌, ◌⊎◌, ◌↔◌, ◌≤◌, ◌==◌, [], ◌∷◌, ◌++◌, not, false, ℕ, List, IsTrue, IfSome, IfNone, length, option_copied};
 ghost use Rattle.std.specs.List.{list_all, prefix_len, slice_split};
 ghost use Rattle.std.specs.Str as text;
 ghost use Rattle.smtpclient.specs.Mailboxes as s;
 
-use octets::{is_printable, parse_decimal};
+use crate::address::{is_ipv4, is_ipv6};
+use crate::extension::names;
+use octets::is_printable;
 
 /// Whether a text is a Mailbox (RFC 5321, section 4.1.2; RFC 6531, section 3.3): a local part, `@`, and a domain or an address
-/// literal. How long it is isn't looked at, nor what an address literal has behind a tag and its colon.
+/// literal: one in brackets that has four numbers, an IPv6 address behind its tag, or what another tag says, which isn't looked into.
+/// How long a mailbox is isn't looked at.
 ///
 /// Time is linear in its octets; no memory is taken.
 pub fn is_mailbox(text: &[u8]) -> bool
@@ -206,33 +209,6 @@ fn is_domain(text: &[u8]) -> bool
     text.split(|octet| *octet == b'.').all(is_label)
 }
 
-fn is_number(text: &[u8]) -> bool
-    ensures { result ≡ s.is_number text.now }
-{
-    match parse_decimal(text) {
-        Some(number) => text.len() <= 3 && number <= 255,
-        None => false,
-    }
-}
-
-fn count_parts(text: &[u8]) -> usize
-    ensures { result ≡ length (slice_split s.is_dot text.now) }
-{
-    text.split(|octet| *octet == b'.').count()
-}
-
-fn are_numbers(text: &[u8]) -> bool
-    ensures { result ≡ list_all s.is_number (slice_split s.is_dot text.now) }
-{
-    text.split(|octet| *octet == b'.').all(is_number)
-}
-
-fn is_ipv4(text: &[u8]) -> bool
-    ensures { result ≡ s.is_ipv4 text.now }
-{
-    count_parts(text) == 4 && are_numbers(text)
-}
-
 fn all_tag(text: &[u8]) -> bool
     ensures { result ≡ list_all s.is_tag_octet text.now }
 {
@@ -257,14 +233,29 @@ fn is_content(text: &[u8]) -> bool
     !text.is_empty() && all_content(text)
 }
 
-// A tag, a colon, and what the tag says.
+fn is_ipv6_tag(text: &[u8]) -> bool
+    ensures { result ≡ s.is_ipv6_tag text.now }
+{
+    names(text, b"ipv6")
+}
+
+// What stands behind a tag and its colon: an IPv6 address behind its own tag, and behind another one what that says.
 fn is_tagged(text: &[u8]) -> bool
-    ensures { IsTrue result ↔ s.IsTagged text.now }
+    ensures { IsTrue result ↔ (s.IsIpv6Tagged text.now ⊎ s.IsTagged text.now) }
 {
     match cut_at(text, b':') {
-        Some(cut) => is_tag(cut.front) && is_content(cut.rest),
+        Some(cut) => says(cut.front, cut.rest),
         None => false,
     }
+}
+
+fn says(tag: &[u8], content: &[u8]) -> bool
+    ensures { IsTrue result ↔ s.Says tag.now content.now }
+{
+    if is_ipv6_tag(tag) {
+        return is_ipv6(content);
+    }
+    is_tag(tag) && is_content(content)
 }
 
 fn is_inner(text: &[u8]) -> bool
@@ -305,7 +296,7 @@ fn is_host(text: &[u8]) -> bool
 // ---- cuts
 
 // What stands behind that octet in front.
-fn strip(text: &[u8], mark: u8) -> Option<&[u8]>
+pub(crate) fn strip(text: &[u8], mark: u8) -> Option<&[u8]>
     ensures found { IfSome result (λ rest. text.now ≡ mark ∷ rest.now) }
     ensures none { IfNone result ((rest : List ℕ) → text.now ≡ mark ∷ rest → ⊥) }
 {

@@ -11,6 +11,7 @@ pub static DAEMON: Row = Row {
     more: "At least one of --managesieve, --lmtp and --mail. Ports are of the loopback address; a PATH of digits alone is a port.
 --mail: INBOX moves into DIR/USER, another folder into its directory there (folders --maildir --separator), one message after ten events.
 Prints `listening on 127.0.0.1:P`, `listening on PATH` or `listening on -` for each once all listen. Ends by a signal alone.
+--memory: of what isn't answered and of mail that comes in; from 1 to 65536. A client waits for room, mail without it is told 452.
 Status 0: all is right (--check). 64: wrong words or numbers, or no socket at PATH. 65: no store, no DIR. 75: can't listen, another daemon, or try again later.",
     arguments: &[
         Argument::Db,
@@ -20,6 +21,7 @@ Status 0: all is right (--check). 64: wrong words or numbers, or no socket at PA
         Argument::Mail,
         Argument::Separator,
         Argument::Host,
+        Argument::Memory,
         Argument::Quiet,
         Argument::Check,
     ],
@@ -42,6 +44,8 @@ pub struct Daemon<'a> {
     pub separator: Option<&'a str>,
     /// The name with which clients of LMTP are greeted.
     pub host: Option<&'a str>,
+    /// How much all connections may hold, in MiB, in decimal: of ManageSieve what isn't answered yet, of LMTP lines and texts.
+    pub memory: Option<&'a str>,
     /// Whether no delivery that was made is told of.
     pub quiet: bool,
     /// Whether it is only to be said what would go wrong.
@@ -60,6 +64,7 @@ impl<'a> Daemon<'a> {
             mail: given.value(Argument::Mail),
             separator: given.value(Argument::Separator),
             host: given.value(Argument::Host),
+            memory: given.value(Argument::Memory),
             quiet: given.flag(Argument::Quiet),
             check: given.flag(Argument::Check),
         }

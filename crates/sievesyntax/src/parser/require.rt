@@ -54,6 +54,8 @@ fn read_requires(
         copy: false,
         seconds: false,
         subaddress: false,
+        relational: false,
+        numeric: false,
         mailbox: false,
     };
     'found: while take_require(reader) {

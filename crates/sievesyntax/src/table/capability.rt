@@ -1,5 +1,5 @@
 //! Capabilities, and what `require` grants (RFC 5228, 3.2).
-ghost use Rattle.std.specs.Prelude.{◌≡◌, ◌↔◌, IfOk, OnOk, IsTrue, All};
+ghost use Rattle.std.specs.Prelude.{◌≡◌, ◌↔◌, ◌||◌, IfOk, OnOk, IsTrue, All};
 ghost use Rattle.std.specs.List.{list_any};
 ghost use Rattle.sievesyntax.specs.Parsing.{IfFault};
 ghost use Rattle.sievesyntax.specs.Valid.{IsCapability, Permits, is_named};
@@ -25,6 +25,10 @@ pub struct Capabilities {
     pub seconds: bool,
     /// `subaddress` (RFC 5233).
     pub subaddress: bool,
+    /// `relational` (RFC 5231).
+    pub relational: bool,
+    /// `comparator-i;ascii-numeric` (RFC 4790, 9.1; RFC 5228, 2.7.3).
+    pub numeric: bool,
     /// `mailbox` (RFC 5490).
     pub mailbox: bool,
 }
@@ -59,14 +63,23 @@ pub(crate) fn grant(granted: Capabilities, names: &[Octets]) -> Result<Capabilit
         return Err(ReadError::Fault(FaultKind::UnknownCapability));
     }
     Ok(Capabilities {
-        fileinto: granted.fileinto || is_there(names, b"fileinto"),
-        envelope: granted.envelope || is_there(names, b"envelope"),
-        vacation: granted.vacation || is_there(names, b"vacation"),
-        copy: granted.copy || is_there(names, b"copy"),
-        seconds: granted.seconds || is_there(names, b"vacation-seconds"),
-        subaddress: granted.subaddress || is_there(names, b"subaddress"),
-        mailbox: granted.mailbox || is_there(names, b"mailbox"),
+        fileinto: also(granted.fileinto, names, b"fileinto"),
+        envelope: also(granted.envelope, names, b"envelope"),
+        vacation: also(granted.vacation, names, b"vacation"),
+        copy: also(granted.copy, names, b"copy"),
+        seconds: also(granted.seconds, names, b"vacation-seconds"),
+        subaddress: also(granted.subaddress, names, b"subaddress"),
+        relational: also(granted.relational, names, b"relational"),
+        numeric: also(granted.numeric, names, b"comparator-i;ascii-numeric"),
+        mailbox: also(granted.mailbox, names, b"mailbox"),
     })
+}
+
+/// Whether a capability was granted before, or is now.
+fn also(granted: bool, names: &[Octets], capability: &[u8]) -> bool
+    ensures { result ≡ (granted || list_any (is_named capability.now) names.now) }
+{
+    granted || is_there(names, capability)
 }
 
 /// Capabilities are compared by octets (RFC 5228, 6.1).
@@ -93,5 +106,7 @@ fn is_capability(name: &[u8]) -> bool
         || name == b"copy".as_slice()
         || name == b"vacation-seconds".as_slice()
         || name == b"subaddress".as_slice()
+        || name == b"relational".as_slice()
+        || name == b"comparator-i;ascii-numeric".as_slice()
         || name == b"mailbox".as_slice()
 }

@@ -13,6 +13,8 @@ pub enum Tag {
     Is,
     Contains,
     Matches,
+    Value,
+    Count,
     All,
     LocalPart,
     Domain,
@@ -47,6 +49,10 @@ pub(crate) fn tag_named(name: &[u8]) -> Tag
         Tag::Contains
     } else if is_name(name, b"matches") {
         Tag::Matches
+    } else if is_name(name, b"value") {
+        Tag::Value
+    } else if is_name(name, b"count") {
+        Tag::Count
     } else if is_name(name, b"all") {
         Tag::All
     } else if is_name(name, b"localpart") {

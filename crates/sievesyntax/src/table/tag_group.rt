@@ -8,7 +8,7 @@ ghost use Rattle.sievesyntax.specs.Tags.{IsTagValue, group_of, IsAllowed, IsPlai
 use crate::error::ReadError;
 use crate::parser::argument::Argument;
 use crate::table::tag::Tag;
-use crate::table::tagged::{collation_at, number_at, text_at, texts_at};
+use crate::table::tagged::{collation_at, number_at, relation_at, text_at, texts_at};
 use crate::tree::checks::{AddressPart, Bound, Collation, Matching};
 use octets::{Octets, Texts};
 use sievelex::FaultKind;
@@ -21,7 +21,7 @@ pub enum TagValue {
     Bound(Bound),
     /// `:comparator`.
     Comparator(Collation),
-    /// `:is`, `:contains`, `:matches`.
+    /// `:is`, `:contains`, `:matches`, `:value`, `:count`.
     Matching(Matching),
     /// `:all`, `:localpart`, `:domain`, `:user`, `:detail`.
     Part(AddressPart),
@@ -161,6 +161,14 @@ fn tag_value_at<'a>(
         Tag::Mime => Ok((TagValue::Mime, args)),
         Tag::Copy => Ok((TagValue::Copy, args)),
         Tag::Create => Ok((TagValue::Create, args)),
+        Tag::Value => {
+            let (relation, rest) = relation_at(args)?;
+            Ok((TagValue::Matching(Matching::Value(relation)), rest))
+        }
+        Tag::Count => {
+            let (relation, rest) = relation_at(args)?;
+            Ok((TagValue::Matching(Matching::Count(relation)), rest))
+        }
         Tag::Comparator => {
             let (collation, rest) = collation_at(args)?;
             Ok((TagValue::Comparator(collation), rest))

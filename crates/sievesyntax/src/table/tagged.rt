@@ -3,12 +3,13 @@ ghost use Rattle.std.specs.Prelude.{◌≡◌, ℕ, List, ◌∷◌, IfOk, Some,
 ghost use Rattle.sievesyntax.specs.declared.parser.argument.Argument.{Argument};
 ghost use Rattle.sievesyntax.specs.declared.parser.argument.Argument.TheVariants as A;
 ghost use Rattle.sievesyntax.specs.declared.tree.checks.Collation.{Collation};
+ghost use Rattle.sievesyntax.specs.declared.tree.checks.Relation.{Relation};
 ghost use Rattle.sievesyntax.specs.Parsing.{IfFault};
-ghost use Rattle.sievesyntax.specs.Tags.{name_of, strings_of};
+ghost use Rattle.sievesyntax.specs.Tags.{name_of, relation_name, strings_of};
 
 use crate::error::ReadError;
 use crate::parser::argument::Argument;
-use crate::tree::checks::Collation;
+use crate::tree::checks::{Collation, Relation};
 use octets::{Octets, Texts};
 use sievelex::FaultKind;
 use std::alloc::Global;
@@ -83,8 +84,43 @@ fn collation_named(name: &[u8]) -> Result<Collation, ReadError>
         Ok(Collation::Octet)
     } else if name == b"i;ascii-casemap".as_slice() {
         Ok(Collation::AsciiCasemap)
+    } else if name == b"i;ascii-numeric".as_slice() {
+        Ok(Collation::AsciiNumeric)
     } else {
         Err(ReadError::Fault(FaultKind::NotRequired))
+    }
+}
+
+/// The relation of this name, compared by octets.
+pub(crate) fn relation_at(args: &[Argument]) -> Result<(Relation, &[Argument]), ReadError>
+    ensures found { IfOk result (λ r. args.now ≡ A.Text (relation_name r.0) ∷ r.1.now) }
+    ensures fault { IfFault result ((relation : Relation) (to : List Argument) → args.now ≡ A.Text (relation_name relation) ∷ to → ⊥) }
+{
+    let (value, rest) = value_at(args)?;
+    match value {
+        Argument::Text(name) => Ok((relation_named(name.as_slice())?, rest)),
+        _ => Err(ReadError::Fault(FaultKind::WrongArgument)),
+    }
+}
+
+fn relation_named(name: &[u8]) -> Result<Relation, ReadError>
+    ensures found { IfOk result (λ relation. name.now ≡ relation_name relation) }
+    ensures fault { IfFault result ((relation : Relation) → name.now ≡ relation_name relation → ⊥) }
+{
+    if name == b"gt".as_slice() {
+        Ok(Relation::Greater)
+    } else if name == b"ge".as_slice() {
+        Ok(Relation::GreaterOrEqual)
+    } else if name == b"lt".as_slice() {
+        Ok(Relation::Less)
+    } else if name == b"le".as_slice() {
+        Ok(Relation::LessOrEqual)
+    } else if name == b"eq".as_slice() {
+        Ok(Relation::Equal)
+    } else if name == b"ne".as_slice() {
+        Ok(Relation::NotEqual)
+    } else {
+        Err(ReadError::Fault(FaultKind::WrongArgument))
     }
 }
 

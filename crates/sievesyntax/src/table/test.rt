@@ -1,11 +1,11 @@
 //! The table of tests without a test in them: what may stand after each name (RFC 5228, 5).
-ghost use Rattle.std.specs.Prelude.{◌≡◌, IfOk};
+ghost use Rattle.std.specs.Prelude.{◌≡◌, IfOk, OnOk};
 ghost use Rattle.sievesyntax.specs.Parsing.{IfFault, FindsFit};
 ghost use Rattle.sievesyntax.specs.declared.tree.checks.Check.TheVariants as C;
 ghost use Rattle.sievesyntax.specs.Tree.{TestTree};
 ghost use Rattle.sievesyntax.specs.View.{test_view};
-ghost use Rattle.sievesyntax.specs.Table.{IsPlainTest, IsList, IsAddress, IsEnvelope};
-ghost use Rattle.sievesyntax.specs.Valid.{MayCheck, MayTest};
+ghost use Rattle.sievesyntax.specs.Table.{IsPlainTest, IsList, IsHeader, IsAddress, IsEnvelope};
+ghost use Rattle.sievesyntax.specs.Valid.{MayCheck, MayMatch, MayTest};
 
 use crate::error::ReadError;
 use crate::parser::argument::Argument;
@@ -13,7 +13,7 @@ use crate::table::capability::{Capabilities, require};
 use crate::table::keyword::Keyword;
 use crate::table::positional::{no_arguments, read_list};
 use crate::table::test_arguments::{read_address, read_envelope, read_header, read_size};
-use crate::tree::checks::{Address, Check, EnvelopeTest};
+use crate::tree::checks::{Address, Check, Collation, EnvelopeTest, Header, Matching};
 use crate::tree::test::Test;
 use octets::Texts;
 use sievelex::FaultKind;
@@ -46,7 +46,10 @@ pub(crate) fn plain_test(
         // Syntax: exists <header-names: string-list> (RFC 5228, 5.5)
         Keyword::Exists => Ok(Test::Check(Check::Exists(read_list(alloc, args)?))),
         // Syntax: header [COMPARATOR] [MATCH-TYPE] <header-names: string-list> <key-list: string-list> (RFC 5228, 5.7)
-        Keyword::Header => Ok(Test::Check(Check::Header(read_header(alloc, args)?))),
+        Keyword::Header => {
+            let header = permitted_header(alloc, args, granted)?;
+            Ok(Test::Check(Check::Header(header)))
+        }
         // Syntax: address [COMPARATOR] [ADDRESS-PART] [MATCH-TYPE] <header-list: string-list> <key-list: string-list>, where `subaddress`
         // is required for its parts (RFC 5228, 5.1; RFC 5233)
         Keyword::Address => {
@@ -68,6 +71,37 @@ pub(crate) fn plain_test(
     }
 }
 
+/// A fault where values may not be matched so: `relational` and `comparator-i;ascii-numeric` have to be required where they are used
+/// (RFC 5231; RFC 5228, 2.7.3), and a number has no parts (RFC 4790, 9.1).
+fn require_match(
+    granted: Capabilities,
+    comparator: Collation,
+    matching: Matching,
+) -> Result<(), ReadError>
+    ensures granted { OnOk result (MayMatch granted comparator matching) }
+    ensures fault { IfFault result (MayMatch granted comparator matching → ⊥) }
+{
+    require(granted.relational, matching.is_relational())?;
+    require(granted.numeric, comparator.is_numeric())?;
+    if comparator.is_numeric() && matching.seeks_part() {
+        return Err(ReadError::Fault(FaultKind::WrongArgument));
+    }
+    Ok(())
+}
+
+/// The arguments of `header`, where it may stand.
+fn permitted_header(
+    alloc: Global,
+    args: &[Argument],
+    granted: Capabilities,
+) -> Result<Header, ReadError>
+    ensures { FindsFit (IsHeader args.now) (λ header. MayCheck granted (C.Header header)) result }
+{
+    let header = read_header(alloc, args)?;
+    require_match(granted, header.comparator, header.matching)?;
+    Ok(header)
+}
+
 /// The arguments of `address`, where it may stand.
 fn permitted_address(
     alloc: Global,
@@ -78,6 +112,7 @@ fn permitted_address(
 {
     let address = read_address(alloc, args)?;
     require(granted.subaddress, address.part.is_subaddress())?;
+    require_match(granted, address.comparator, address.matching)?;
     Ok(address)
 }
 
@@ -92,6 +127,7 @@ fn permitted_envelope(
     require(granted.envelope, true)?;
     let envelope = read_envelope(alloc, args)?;
     require(granted.subaddress, envelope.part.is_subaddress())?;
+    require_match(granted, envelope.comparator, envelope.matching)?;
     Ok(envelope)
 }
 

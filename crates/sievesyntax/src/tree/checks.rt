@@ -1,6 +1,6 @@
 //! The tests that look at a message or its envelope (RFC 5228, 5).
 ghost use Rattle.std.specs.Prelude.{◌≡◌};
-ghost use Rattle.sievesyntax.specs.Valid.{is_subaddress};
+ghost use Rattle.sievesyntax.specs.Valid.{is_subaddress, is_relational, is_numeric, seeks_part};
 
 use octets::Texts;
 
@@ -98,9 +98,20 @@ pub enum Collation {
     Octet,
     /// `i;ascii-casemap`: the same, without ASCII case (RFC 4790, 9.2).
     AsciiCasemap,
+    /// `i;ascii-numeric`: texts are compared by the numbers that they begin with (RFC 4790, 9.1).
+    AsciiNumeric,
 }
 
-/// How a value has to match a key (RFC 5228, 2.7.1).
+impl Collation {
+    /// Whether it has to be required (RFC 5228, 2.7.3).
+    pub(crate) fn is_numeric(self) -> bool
+        ensures { result ≡ is_numeric self }
+    {
+        matches!(self, Collation::AsciiNumeric)
+    }
+}
+
+/// How a value has to match a key (RFC 5228, 2.7.1; RFC 5231, 4).
 #[derive(Clone, Copy, Debug, PartialEq, Eq)]
 pub enum Matching {
     /// `:is`: the value is the key.
@@ -109,6 +120,43 @@ pub enum Matching {
     Contains,
     /// `:matches`: the key is a pattern, with `*` and `?`.
     Matches,
+    /// `:value`: the value stands in a relation to the key.
+    Value(Relation),
+    /// `:count`: the number of the values stands in a relation to the key.
+    Count(Relation),
+}
+
+impl Matching {
+    /// Whether only `relational` names it (RFC 5231).
+    pub(crate) fn is_relational(self) -> bool
+        ensures { result ≡ is_relational self }
+    {
+        matches!(self, Matching::Value(_) | Matching::Count(_))
+    }
+
+    /// Whether it looks for a part of the value, which not every comparator can (RFC 5228, 2.7.3).
+    pub(crate) fn seeks_part(self) -> bool
+        ensures { result ≡ seeks_part self }
+    {
+        matches!(self, Matching::Contains | Matching::Matches)
+    }
+}
+
+/// How the left side has to stand to the right side in a comparator's order (RFC 5231, 4).
+#[derive(Clone, Copy, Debug, PartialEq, Eq)]
+pub enum Relation {
+    /// `gt`: greater.
+    Greater,
+    /// `ge`: greater or equal.
+    GreaterOrEqual,
+    /// `lt`: less.
+    Less,
+    /// `le`: less or equal.
+    LessOrEqual,
+    /// `eq`: equal.
+    Equal,
+    /// `ne`: not equal.
+    NotEqual,
 }
 
 /// A part of an address (RFC 5228, 2.7.4; RFC 5233, 4).

@@ -8,6 +8,6 @@ returns-clause-headline g c tells new fresh start shown =
     let lives = c.serve.ensures.lives tells in (
       acts_of lives.moves,
       lives.grows,
-      headline g.O.Desk.shows (at g.O.Outside.seen g.O.Outside.rest c.args.outside.now c.args.daemon.now c.args.service.now) fresh new start shown lives.moves
+      headline g.O.Desk.shows g.O.Desk.leaves g.met.O.Desk.left (at g.O.Outside.seen g.O.Outside.rest c.args.outside.now c.args.daemon.now c.args.service.now) fresh new start shown lives.moves
           (at g.O.Outside.seen g.O.Outside.rest c.serve.new.outside c.serve.new.machine c.serve.new.service) lives.passes,
     )

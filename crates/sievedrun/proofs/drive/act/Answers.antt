@@ -30,6 +30,16 @@ pub returns-in-AddUser-clause-reaches : goal.returns-in-AddUser-clause-reaches
 returns-in-AddUser-clause-reaches g c =
     subst (λ asked. OnOk c.run_adduser.result (Reaches (HasGiven g.K.Keeper.gives g.K.Keeper.will_wait) (g.T.MailSink.is_at c.args.sink.now) asked)) (sym c.in-AddUser.is) (c.run_adduser.ensures.given)
 
+pub returns-in-Users-clause-does : goal.returns-in-Users-clause-does
+returns-in-Users-clause-does g c tells =
+    let kept = g.T.MailSink.kept c.args.sink.now in
+    subst (λ asked. Does (HasDenied g.K.Keeper.refuses g.K.Keeper.will_wait) (HasRefused g.T.MailSink.refuses) c.args.clock c.args.random (g.R.Read.remaining c.args.input.now) (g.R.Read.remaining c.args.input.now) g.T.MailSink.tells kept kept (g.W.Write.contents c.args.output.now) (g.W.Write.contents c.run_users.new.output) asked c.run_users.result
+    (g.K.Keeper.holds c.args.keeper.now) (g.K.Keeper.holds c.run_users.new.keeper)) (sym c.in-Users.is) (((λ told. refl), refl), c.run_users.ensures.does tells)
+
+pub returns-in-Users-clause-reaches : goal.returns-in-Users-clause-reaches
+returns-in-Users-clause-reaches g c =
+    subst (λ asked. OnOk c.run_users.result (Reaches (HasGiven g.K.Keeper.gives g.K.Keeper.will_wait) (g.T.MailSink.is_at c.args.sink.now) asked)) (sym c.in-Users.is) (c.run_users.ensures.given)
+
 pub returns-in-Passwd-clause-does : goal.returns-in-Passwd-clause-does
 returns-in-Passwd-clause-does g c tells =
     let kept = g.T.MailSink.kept c.args.sink.now in

@@ -10,4 +10,6 @@ returns-in-Ok g c = λ clean.
     (λ accounts shown. subst (λ o. ShowsBy g.K.S.Store g.K.Keeper.tells (g.K.Keeper.holds c.args.self.now.keeper) o accounts) c.in-Some.is shown)
     (λ accounts shown. shown)
     clean
+    (c.apply.ensures.shut clean)
+    c.apply.ensures.crash
     c.in-Ok.ensures.event

@@ -4,7 +4,7 @@ use Rattle.sqlite.specs.Held.{state}
 use Rattle.mailengine.specs.declared.answer.Answer.TheVariants.{Delivered, Refused}
 use Rattle.sieveddaemon.specs.Desk.{delivery_of}
 use Rattle.daemonhosts.specs.Held.{Shows, ShowsBy}
-use Rattle.daemonhosts.proofs.HeldLemmas.{done_alone, delivered_as}
+use Rattle.daemonhosts.proofs.HeldLemmas.{done_alone, delivered_as, delivered_crash}
 use Rattle.daemonhosts.proofs.held.HeldStore.deliver.Goals as goal
 
 pub returns-in-Ok-deliver : goal.returns-in-Ok-deliver
@@ -13,6 +13,9 @@ returns-in-Ok-deliver g c = λ kept clean.
     (λ accounts shown. subst (λ o. ShowsBy g.K.S.Store g.K.Keeper.tells (g.K.Keeper.holds c.args.self.now.keeper) o accounts) c.in-Some.is shown)
     (λ accounts shown. shown)
     clean
+    (c.in-Ok-deliver.ensures.acts.shut clean)
+    (delivered_crash c.args.parcel.now c.args.moment c.as_slice-user.result.now c.as_slice-message.result.now c.in-Ok.envelope (state g.K.S.Store c.in-Some.store) (state g.K.S.Store c.deliver.new.store) kept (Ok c.in-Ok-deliver.report)
+    c.as_slice-user.ensures c.in-Ok.ensures c.as_slice-message.ensures c.in-Ok-deliver.ensures.acts)
     (delivered_as c.args.parcel.now c.args.moment c.as_slice-user.result.now c.as_slice-message.result.now c.in-Ok.envelope (state g.K.S.Store c.in-Some.store) (state g.K.S.Store c.deliver.new.store) kept (Ok c.in-Ok-deliver.report)
     c.as_slice-user.ensures c.in-Ok.ensures c.as_slice-message.ensures c.in-Ok-deliver.ensures.acts)
 
@@ -22,5 +25,8 @@ returns-in-Err g c = λ kept clean.
     (λ accounts shown. subst (λ o. ShowsBy g.K.S.Store g.K.Keeper.tells (g.K.Keeper.holds c.args.self.now.keeper) o accounts) c.in-Some.is shown)
     (λ accounts shown. shown)
     clean
+    (c.in-Err.ensures.acts.shut clean)
+    (delivered_crash c.args.parcel.now c.args.moment c.as_slice-user.result.now c.as_slice-message.result.now c.in-Ok.envelope (state g.K.S.Store c.in-Some.store) (state g.K.S.Store c.deliver.new.store) kept (Err c.in-Err.refusal)
+    c.as_slice-user.ensures c.in-Ok.ensures c.as_slice-message.ensures c.in-Err.ensures.acts)
     (delivered_as c.args.parcel.now c.args.moment c.as_slice-user.result.now c.as_slice-message.result.now c.in-Ok.envelope (state g.K.S.Store c.in-Some.store) (state g.K.S.Store c.deliver.new.store) kept (Err c.in-Err.refusal)
     c.as_slice-user.ensures c.in-Ok.ensures c.as_slice-message.ensures c.in-Err.ensures.acts)

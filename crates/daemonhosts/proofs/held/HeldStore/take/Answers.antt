@@ -11,7 +11,7 @@ returns-clause-shown g c accounts shown =
     let asked = g.K.Keeper.holds c.wait_for_lock.new.self in
     let none : c.args.self.now.store ≡ None = search rules in
     let here = subst (λ o. ShowsBy g.K.S.Store tells held o accounts) none shown in
-    taken g.K.S.Store tells asked (g.K.Keeper.holds c.take.new.self) c.in_ok-store.store c.in_ok-store.ensures.taken accounts (kept g.K.S.Store tells held asked None c.wait_for_lock.ensures.same accounts here)
+    taken g.K.S.Store tells asked (g.K.Keeper.holds c.take.new.self) c.in_ok-store.store c.in_ok-store.ensures.taken c.in_ok-store.ensures.settled accounts (kept g.K.S.Store tells held asked None c.wait_for_lock.ensures.same accounts here)
 
 pub returns-clause-given : goal.returns-clause-given
 returns-clause-given g c none = (c.wait_for_lock.new.self, c.in_ok-store.ensures.given, c.wait_for_lock.ensures.asked)

@@ -3,13 +3,15 @@ use Rattle.std.proofs.Common.{[]}
 use Rattle.sieveddaemon.specs.Desk.{delivery_of}
 use Rattle.daemonhosts.specs.Held.{Shows}
 use Rattle.daemonhosts.proofs.HeldLemmas.{done_behind, nothing_behind}
+use Rattle.daemonhosts.proofs.RoomLemmas.{told_done}
 use Rattle.daemonhosts.proofs.host.Host.file.Goals as goal
 
 pub returns-in-Some : goal.returns-in-Some
 returns-in-Some g c = (
   c.seconds-moment.result,
-  λ kept clean. done_behind (Shows g.K.S.Store g.K.Keeper.tells g.K.Keeper.holds) c.args.self.now.held c.reach.new.self.held c.deliver.new.self [] (delivery_of c.args.parcel.now c.seconds-moment.result) c.in-Some.answer kept kept
-      (λ accounts shown. c.reach.ensures.shown accounts (c.may_ask.ensures.shown accounts shown)) (c.in-Some.ensures kept clean),
+  λ kept clean. told_done (Shows g.K.S.Store g.K.Keeper.tells g.K.Keeper.holds) c.args.parcel.now c.seconds-moment.result c.in-Some.answer c.told_as.result c.args.self.now.held _ kept c.told_as.ensures
+      (done_behind (Shows g.K.S.Store g.K.Keeper.tells g.K.Keeper.holds) c.args.self.now.held c.reach.new.self.held c.deliver.new.self [] (delivery_of c.args.parcel.now c.seconds-moment.result) c.in-Some.answer kept kept
+      (λ accounts shown. c.reach.ensures.shown accounts (c.may_ask.ensures.shown accounts shown)) (c.in-Some.ensures kept clean)),
 )
 
 pub returns-in-None : goal.returns-in-None

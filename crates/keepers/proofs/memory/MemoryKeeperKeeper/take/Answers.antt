@@ -21,6 +21,9 @@ returns-in-Ok-clause-taken c _ =
     (λ fresh. made.made clean fresh)
     (λ fresh. ap (λ o. (database_in o).schema) was ∙ made.blank fresh)
 
+pub returns-in-Ok-clause-settled : goal.returns-in-Ok-clause-settled
+returns-in-Ok-clause-settled c _ = c.in-Ok.ensures.settled (memory_is_clean c.in-Ok.store)
+
 pub returns-in-Err-clause-refused : goal.returns-in-Err-clause-refused
 returns-in-Err-clause-refused c _ =
     let was : c.args.self.now.conn ≡ Some c.in-Some.conn = search rules in

@@ -1,8 +1,8 @@
 use Rattle.std.proofs.lemmas.Result.{err_from_is_err_and}
 use Rattle.sievesyntax.specs.declared.tree.checks.Check.TheVariants as C
 use Rattle.sievesyntax.specs.Table.{IsAddress}
-use Rattle.sievesyntax.specs.Valid.{MayCheck}
-use Rattle.sievesyntax.proofs.FaultLemmas.{none_fits, one_unfit}
+use Rattle.sievesyntax.specs.Valid.{is_subaddress, Permits, MayMatch, MayCheck}
+use Rattle.sievesyntax.proofs.FaultLemmas.{fault_on, none_fits, one_unfit}
 use Rattle.sievesyntax.proofs.table.test.permitted_address.Goals as goal
 
 pub returns-in_err-address : goal.returns-in_err-address
@@ -13,4 +13,10 @@ returns-in_err-address c =
 pub returns-in_err-require : goal.returns-in_err-require
 returns-in_err-require c =
     let p = err_from_is_err_and c.from_residual-in_err-require.result c.from_residual-in_err-require.ensures.1 in
-    rw (p.1, p.2) (one_unfit (IsAddress c.args.args.now) (λ x. MayCheck c.args.granted (C.Address x)) _ c.in_ok-address.ensures.1 _ (rw c.is_subaddress.ensures at c.in_err-require.ensures.fault))
+    rw (p.1, p.2) (one_unfit (IsAddress c.args.args.now) (λ x. MayCheck c.args.granted (C.Address x)) _ c.in_ok-address.ensures.1 _ (fault_on _ (Permits c.args.granted.subaddress (is_subaddress c.in_ok-address.address.part) → ⊥) (MayCheck c.args.granted (C.Address c.in_ok-address.address) → ⊥) (λ bad fit. bad fit.0) (rw c.is_subaddress.ensures at c.in_err-require.ensures.fault)))
+
+pub returns-in_err-require_match : goal.returns-in_err-require_match
+returns-in_err-require_match c =
+    let p = err_from_is_err_and c.from_residual-in_err-require_match.result c.from_residual-in_err-require_match.ensures.1 in
+    let address = c.in_ok-address.address in
+    rw (p.1, p.2) (one_unfit (IsAddress c.args.args.now) (λ x. MayCheck c.args.granted (C.Address x)) _ c.in_ok-address.ensures.1 _ (fault_on _ (MayMatch c.args.granted address.comparator address.matching → ⊥) (MayCheck c.args.granted (C.Address address) → ⊥) (λ bad fit. bad fit.1) c.in_err-require_match.ensures.fault))

@@ -56,17 +56,17 @@ returns-in_ok-read_list-in-Exists-clause-found c = rw (view-Check, c.in-Exists.i
 pub returns-in_ok-read_list-in-Exists-clause-only : goal.returns-in_ok-read_list-in-Exists-clause-only
 returns-in_ok-read_list-in-Exists-clause-only c = rw (view-Check, c.in-Exists.is) (row_only IsList (λ x. looks (C.Exists x)) _ (MayTest c.args.granted) _ c.in_ok-read_list-in-Exists.ensures.1)
 
-pub returns-in_err-read_header-in-Header-clause-fault : goal.returns-in_err-read_header-in-Header-clause-fault
-returns-in_err-read_header-in-Header-clause-fault c =
-    let h = c.in_err-read_header-in-Header.ensures in
-    let p = err_from_is_err_and c.from_residual-in_err-read_header-in-Header.result c.from_residual-in_err-read_header-in-Header.ensures.1 in
-    rw (p.1, p.2, c.in-Header.is) (row_fault IsHeader (λ x. looks (C.Header x)) _ (MayTest c.args.granted) _ h)
+pub returns-in_err-header-in-Header-clause-fault : goal.returns-in_err-header-in-Header-clause-fault
+returns-in_err-header-in-Header-clause-fault c =
+    let h = c.in_err-header-in-Header.ensures in
+    let p = err_from_is_err_and c.from_residual-in_err-header-in-Header.result c.from_residual-in_err-header-in-Header.ensures.1 in
+    rw (p.1, p.2, c.in-Header.is) (fit_fault IsHeader (λ x. looks (C.Header x)) _ (MayTest c.args.granted) (λ x. MayCheck c.args.granted (C.Header x)) (λ x may. may) _ h)
 
-pub returns-in_ok-read_header-in-Header-clause-found : goal.returns-in_ok-read_header-in-Header-clause-found
-returns-in_ok-read_header-in-Header-clause-found c = rw (view-Check, c.in-Header.is) (record { value = _; is = c.in_ok-read_header-in-Header.ensures.0; tree_is = refl }, tt)
+pub returns-in_ok-header-in-Header-clause-found : goal.returns-in_ok-header-in-Header-clause-found
+returns-in_ok-header-in-Header-clause-found c = rw (view-Check, c.in-Header.is) (record { value = _; is = c.in_ok-header-in-Header.ensures.0; tree_is = refl }, c.in_ok-header-in-Header.ensures.1)
 
-pub returns-in_ok-read_header-in-Header-clause-only : goal.returns-in_ok-read_header-in-Header-clause-only
-returns-in_ok-read_header-in-Header-clause-only c = rw (view-Check, c.in-Header.is) (row_only IsHeader (λ x. looks (C.Header x)) _ (MayTest c.args.granted) _ c.in_ok-read_header-in-Header.ensures.1)
+pub returns-in_ok-header-in-Header-clause-only : goal.returns-in_ok-header-in-Header-clause-only
+returns-in_ok-header-in-Header-clause-only c = rw (view-Check, c.in-Header.is) (row_only IsHeader (λ x. looks (C.Header x)) _ (MayTest c.args.granted) _ c.in_ok-header-in-Header.ensures.2)
 
 pub returns-in_err-address-in-Address-clause-fault : goal.returns-in_err-address-in-Address-clause-fault
 returns-in_err-address-in-Address-clause-fault c =

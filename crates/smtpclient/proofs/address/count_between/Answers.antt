@@ -1,10 +1,10 @@
 use Rattle.std.proofs.Common.{rules}
 use Rattle.std.proofs.lemmas.Iterator.Consumers.{count_from_yields_List}
 use Rattle.std.proofs.lemmas.Iterator.Splits.{YieldsList-from_slice_split}
-use Rattle.smtpclient.specs.Mailboxes as s
-use Rattle.smtpclient.proofs.mailbox.count_parts.Goals as goal
+use Rattle.smtpclient.specs.Addresses as s
+use Rattle.smtpclient.proofs.address.count_between.Goals as goal
 
 pub returns : goal.returns
 returns c =
     count_from_yields_List _ _ c.count.ensures.ran
-    (YieldsList-from_slice_split _ s.is_dot c.args.text.now c.split.ensures.rest c.split.ensures.done c.split.ensures.closure (λ x b q k. search rules))
+    (YieldsList-from_slice_split _ s.is_colon c.args.text.now c.split.ensures.rest c.split.ensures.done c.split.ensures.closure (λ x b q k. search rules))

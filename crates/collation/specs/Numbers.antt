@@ -1,0 +1,65 @@
+-- The numbers that texts begin with, and their order (RFC 4790, 9.1).
+use Rattle.std.specs.Prelude.{◌≡◌, ℕ, ◌<◌, false, cond, List, [], ◌∷◌, ◌++◌, Option, Some, None}
+use Rattle.std.specs.List.{AllPass}
+use Rattle.octets.specs.Ascii.{is_digit}
+use Rattle.octets.specs.Decimal.{number_of, Writes}
+
+-- no digit stands first
+abbrev pub HasNoDigit : List ℕ → Type 0
+HasNoDigit [] = Unit {0}
+HasNoDigit (octet ∷ rest) = is_digit octet ≡ false
+
+-- a text begins with digits that write a number, and no digit follows them
+pub record BeginsWith (text : List ℕ) (number : ℕ) : Type 0 where
+  pub digits : List ℕ
+  pub rest : List ℕ
+  pub spelled : text ≡ digits ++ rest
+  pub writes : Writes digits number
+  pub ends : HasNoDigit rest
+
+-- what a text stands for: the number that it begins with; one that begins with no digit is positive infinity, which is None here
+abbrev pub StandsFor : List ℕ → Option ℕ → Type 0
+StandsFor text (Some number) = BeginsWith text number
+StandsFor text None = HasNoDigit text
+
+-- one is less than the other; infinity is less than nothing
+abbrev pub IsLessNumber : Option ℕ → Option ℕ → Type 0
+IsLessNumber (Some one) (Some other) = one < other
+IsLessNumber (Some one) None = Unit {0}
+IsLessNumber None _ = ⊥
+
+-- what a text stands for is less than what another does
+pub record IsBelow (text other : List ℕ) : Type 0 where
+  pub one : Option ℕ
+  pub two : Option ℕ
+  pub is : StandsFor text one
+  pub other_is : StandsFor other two
+  pub less : IsLessNumber one two
+
+-- two texts stand for the same
+abbrev pub EqualNumbers : List ℕ → List ℕ → Type 0
+EqualNumbers text other = (both : Option ℕ) × StandsFor text both × StandsFor other both
+
+-- the digits at the front of a text
+abbrev pub digits_of : List ℕ → List ℕ
+digits_of [] = []
+digits_of (octet ∷ rest) = cond (is_digit octet) (octet ∷ digits_of rest) []
+
+-- the number that digits write, if there are some
+abbrev pub number_in : List ℕ → Option ℕ
+number_in [] = None
+number_in (digit ∷ more) = Some (number_of (digit ∷ more))
+
+-- what a text stands for: the one that is in StandsFor with it
+abbrev pub number_at : List ℕ → Option ℕ
+number_at text = number_in (digits_of text)
+
+-- no zero stands first
+abbrev pub HasNoZero : List ℕ → Type 0
+HasNoZero [] = Unit {0}
+HasNoZero (digit ∷ more) = 48 < digit
+
+-- digits with no zero first
+pub record ArePlainDigits (digits : List ℕ) : Type 0 where
+  pub all : AllPass is_digit digits
+  pub first : HasNoZero digits

@@ -1,0 +1,77 @@
+-- A delivery that the store refused may be one that memory lacked for: neither has a visible cause, and nothing changes.
+use Rattle.std.proofs.Common.{◌≡◌, ℕ, List, [], Bool, true, false, cond, Option, Some, None, refl, sym, ◌∙◌, ap, subst, inl, inr}
+use Rattle.std.specs.FinMap.{get}
+use Rattle.mailstore.specs.Account.{Account, Accounts, open_of, is_removed}
+use Rattle.mailstore.specs.declared.refusal.Refusal.{Refusal}
+use Rattle.mailstore.specs.declared.refusal.Refusal.TheVariants.{Memory, Store, NoUser, AccountClosed, TooLarge, BadEnvelope, BadMoment}
+use Rattle.sieveexec.specs.declared.envelope.Envelope.{Envelope}
+use Rattle.mailengine.specs.AccountEvents.{absence, DeliversIn, DeliversUnder}
+use Rattle.mailengine.specs.Hosts.{Kept}
+use Rattle.mailengine.specs.Limits.{limit_refusal}
+use Rattle.mailengine.specs.World.{World, Next, MayRefuse}
+use Rattle.mailengine.specs.declared.answer.Answer.{Answer}
+use Rattle.mailengine.specs.declared.answer.Answer.TheVariants.{Refused}
+use Rattle.mailengine.specs.declared.event.Event.TheVariants.{Deliver}
+use Rattle.mailposts.specs.declared.demand.Parcel.{Parcel}
+use Rattle.sieveddaemon.specs.Desk.{IsDone, delivery_of}
+use Rattle.daemonhosts.specs.Held.{IsToldAs}
+
+-- no cause that is seen is the store's
+abbrev is_seen : Refusal → Bool
+is_seen Store = false
+is_seen other = true
+
+of_store : {C : Type 0} (refusal : Refusal) → is_seen refusal ≡ true → Refused Store ≡ Refused refusal → C
+of_store refusal seen is = let same : Store ≡ refusal = cc in let never : false ≡ true = ap is_seen same ∙ seen in let no : ⊥ = cc in absurd no
+
+seen_by : (b : Bool) (o : Option Refusal) (r : Refusal) → is_seen r ≡ true → ((e : Refusal) → o ≡ Some e → is_seen e ≡ true) → (e : Refusal) → cond b (Some r) o ≡ Some e → is_seen e ≡ true
+seen_by true o r seen more e is = let same : r ≡ e = cc in subst (λ x. is_seen x ≡ true) same seen
+seen_by false o r seen more e is = more e is
+
+limit_seen : (envelope : Envelope) (message : List ℕ) (moment : ℕ) (e : Refusal) → limit_refusal envelope message moment ≡ Some e → is_seen e ≡ true
+limit_seen envelope message moment =
+    seen_by _ _ TooLarge refl (seen_by _ _ BadEnvelope refl (seen_by _ None BadMoment refl (λ e is. let never : ⊥ = cc in absurd never)))
+
+absence_seen : (o : Option Account) → is_seen (absence o) ≡ true
+absence_seen None = refl
+absence_seen (Some a) = by_removed (is_removed a)
+  where
+    by_removed : (b : Bool) → is_seen (cond b NoUser AccountClosed) ≡ true
+    by_removed true = refl
+    by_removed false = refl
+
+module _ (accounts later : Accounts) (user : List ℕ) (moment : ℕ) (envelope : Envelope) (message : List ℕ) {C : Type 0} where
+  never_in : (o : Option Account) → DeliversIn accounts user moment envelope message o (Refused Store) later → C
+  never_in None it = of_store (absence (get accounts user)) (absence_seen (get accounts user)) it.refused
+  never_in (Some a) it = let is = it.reported in let no : ⊥ = cc in absurd no
+
+  never_under : (o : Option Refusal) → ((e : Refusal) → o ≡ Some e → is_seen e ≡ true) → DeliversUnder o accounts user moment envelope message (Refused Store) later → C
+  never_under None seen it = never_in (open_of accounts user) it
+  never_under (Some e) seen it = of_store e (seen e refl) it.refused
+
+lacks_next : (w next : World) (user : List ℕ) (moment : ℕ) (envelope : Envelope) (message : List ℕ) → Next w (Deliver user envelope message moment) (Refused Store) next → Next w (Deliver user envelope message moment) (Refused Memory) next
+lacks_next w next user moment envelope message (inl made) = never_under w.accounts made.0 user moment envelope message (limit_refusal envelope message moment) (limit_seen envelope message moment) made.1
+lacks_next w next user moment envelope message (inr refused) =
+    let same : refused.refusal ≡ Store = let is = refused.refused in cc in
+    inr (record { refusal = Memory; may = subst (λ r. MayRefuse w (Deliver user envelope message moment) r) same refused.may; refused = refl; stays = refused.stays })
+
+-- so what is told of it is an answer to the same event
+pub told_done : {R : Type 0} (shows : R → Accounts → Type 0) (parcel : Parcel) (moment : ℕ) (answer told : Answer) (r q : R) (kept : Kept) → IsToldAs answer told
+    → IsDone shows [] (delivery_of parcel moment) answer r kept q kept → IsDone shows [] (delivery_of parcel moment) told r kept q kept
+told_done shows parcel moment answer told r q kept (inl same) done = subst (λ a. IsDone shows [] (delivery_of parcel moment) a r kept q kept) (sym same) done
+told_done shows parcel moment answer told r q kept (inr (was, is)) done =
+    subst (λ a. IsDone shows [] (delivery_of parcel moment) a r kept q kept) (sym is) (λ w at.
+    let it = done w at in
+    let ours = subst (λ a. Next it.1.between (delivery_of parcel moment) a it.0) was it.1.ours in
+    let own : Envelope = record { from = parcel.sender; to = parcel.recipient } in (
+      it.0,
+      record {
+        strangers = it.1.strangers;
+        told = it.1.told;
+        between = it.1.between;
+        theirs = it.1.theirs;
+        apart = it.1.apart;
+        ours = lacks_next it.1.between it.0 parcel.user moment own parcel.message ours;
+      },
+      it.2,
+    ))

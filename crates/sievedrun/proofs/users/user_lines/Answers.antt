@@ -1,0 +1,46 @@
+-- One user more, until none is left.
+use Rattle.std.proofs.Common.{◌≡◌, [], Err, OnOk, subst, rules}
+use Rattle.sqlite.specs.Held.{state}
+use Rattle.mailstore.specs.Users.{FindsOver}
+use Rattle.mailstore.specs.declared.refusal.Refusal.TheVariants.{Store}
+use Rattle.sievedrun.specs.Words.{AddsUser}
+use Rattle.sievedrun.proofs.UserLemmas.{Listed, had, listed_all, listed_failed, listed_first, listed_more, listed_stopped}
+use Rattle.sievedrun.proofs.users.user_lines.Goals as goal
+
+pub returns-in_err-next-clause-lists : goal.returns-in_err-next-clause-lists
+returns-in_err-next-clause-lists g c =
+    let none : OnOk c.from_residual.result ⊥ = search rules in
+    listed_failed (AddsUser _ _ _) (state g.S.Store c.args.store.now) (state g.S.Store c.add_user.new.store) c.add_user.result c.add_user.ensures.adds c.from_residual.result none
+
+pub users-init : goal.users-init
+users-init g c =
+    let old = state g.S.Store c.args.store.now in
+    let new = state g.S.Store c.add_user.new.store in
+    let empty : c.new-text.result ≡ [] = search rules in
+    let adds = subst (λ t. FindsOver (AddsUser [] t c.add_user.new.text) old new c.add_user.result) empty c.add_user.ensures.adds in
+    listed_first c.add_user.new.text old new c.in_ok-next.next c.add_user.result c.in_ok-next.was adds
+
+pub returns-in_default-clause-lists : goal.returns-in_default-clause-lists
+returns-in_default-clause-lists g c =
+    let old = state g.S.Store c.args.store.now in
+    let mid = state g.S.Store c.users.store in
+    listed_all old mid c.users.text (subst (λ n. FindsOver (Listed c.users.text) old mid (had n)) c.in_default.is c.users.invariant)
+
+pub users-preserved : goal.users-preserved
+users-preserved g c =
+    let old = state g.S.Store c.args.store.now in
+    let mid = state g.S.Store c.users.store in
+    let new = state g.S.Store c.add_user-in-users.new.store in
+    let name = c.in-Some.name in
+    let same : c.as_slice.result.now ≡ name = search rules in
+    let adds = subst (λ n. FindsOver (AddsUser n c.users.text c.add_user-in-users.new.text) mid new c.add_user-in-users.result) same c.add_user-in-users.ensures.adds in
+    listed_more old mid new name c.users.text (subst (λ n. FindsOver (Listed c.users.text) old mid (had n)) c.in-Some.is c.users.invariant) c.add_user-in-users.new.text c.in_ok-next-2.next c.add_user-in-users.result c.in_ok-next-2.was adds
+
+pub returns-in_err-next-2-clause-lists : goal.returns-in_err-next-2-clause-lists
+returns-in_err-next-2-clause-lists g c =
+    let none : OnOk c.from_residual-in_err-next-2.result ⊥ = search rules in
+    listed_stopped c.users.text c.users.next (state g.S.Store c.args.store.now) (state g.S.Store c.users.store) (state g.S.Store c.add_user-in-users.new.store) c.users.invariant (AddsUser _ _ _) c.add_user-in-users.result c.add_user-in-users.ensures.adds
+    c.from_residual-in_err-next-2.result none
+
+pub returns-clause-lists : goal.returns-clause-lists
+returns-clause-lists g c = listed_failed (Listed c.users.text) (state g.S.Store c.args.store.now) (state g.S.Store c.users.store) (had c.users.next) c.users.invariant (Err Store) tt

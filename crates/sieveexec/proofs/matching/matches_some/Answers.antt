@@ -1,7 +1,0 @@
-use Rattle.sieveexec.proofs.matching.matches_some.Goals as goal
-
-pub returns-in-Octet : goal.returns-in-Octet
-returns-in-Octet c = rw c.in-Octet.is c.matches_key_of.ensures
-
-pub returns-in-AsciiCasemap : goal.returns-in-AsciiCasemap
-returns-in-AsciiCasemap c = rw c.in-AsciiCasemap.is c.matches_key_of-in-AsciiCasemap.ensures
