@@ -1,10 +1,11 @@
 //! The outside of the daemon, in memory.
 ghost use Rattle.std.specs.Prelude.{◌≡◌, [], ◌∷◌, ◌++◌, true, false, IsTrue, IfSome, not};
-ghost use Rattle.wires.specs.Told.{IsOwn};
+ghost use Rattle.wires.specs.Told.{IsOwn, TellsIf};
 ghost use Rattle.wires.specs.declared.act.Act.TheVariants.{Noted};
 ghost use Rattle.mailengine.specs.Hosts.{Kept, IsGivenUp};
 ghost use Rattle.sieveddaemon.specs.Desk.{Carries};
-ghost use Rattle.daemonfakes.specs.Shelves.{LetsOthers, StillHas, is_of_accounts};
+ghost use Rattle.daemonfakes.specs.Desks.{is_told, told_by, shelf_of};
+ghost use Rattle.daemonfakes.specs.Shelves.{LetsMore, LetsOthers, StillHas, is_of_accounts};
 
 use crate::copies::{copy_answer, copy_delivery, copy_event, is_of_accounts};
 use crate::shelf::Shelf;
@@ -48,8 +49,8 @@ impl<S: Shelf + Drop> DeskFake<S> {
 
     /// Notes what the daemon did with a connection; where there is no copy of it for the note nothing is told from now on.
     fn note_done(&mut self, id: u32, others: List<Event>, event: &Event, answer: &Answer)
-        ensures kept { IsTrue (not self.new.stage.fake.lost) → IsTrue (not self.old.stage.fake.lost) }
-        ensures told { IsTrue (not self.new.stage.fake.lost) → self.new.stage.fake.acts.items ≡ self.old.stage.fake.acts.items ++ Noted id (Note.Did others event.now answer.now) ∷ [] }
+        ensures kept { IsTrue (is_told self.new) → IsTrue (is_told self.old) }
+        ensures told { TellsIf is_told told_by self.old (Noted id (Note.Did others event.now answer.now)) self.new }
         ensures left { self.new.stage.fake.rest ≡ self.old.stage.fake.rest }
     {
         match copy_event(event) {
@@ -62,8 +63,8 @@ impl<S: Shelf + Drop> DeskFake<S> {
 
     /// The same, without a copy of the event.
     fn note_event(&mut self, id: u32, others: List<Event>, event: Event, answer: &Answer)
-        ensures kept { IsTrue (not self.new.stage.fake.lost) → IsTrue (not self.old.stage.fake.lost) }
-        ensures told { IsTrue (not self.new.stage.fake.lost) → self.new.stage.fake.acts.items ≡ self.old.stage.fake.acts.items ++ Noted id (Note.Did others event answer.now) ∷ [] }
+        ensures kept { IsTrue (is_told self.new) → IsTrue (is_told self.old) }
+        ensures told { TellsIf is_told told_by self.old (Noted id (Note.Did others event answer.now)) self.new }
         ensures left { self.new.stage.fake.rest ≡ self.old.stage.fake.rest }
     {
         match copy_answer(self.stage.fake.alloc, answer) {
@@ -83,8 +84,8 @@ impl<S: Shelf + Drop> DeskFake<S> {
 
     /// Notes what was found of an account.
     fn note_asked(&mut self, id: u32, others: List<Event>, user: &[u8], lookup: Lookup)
-        ensures kept { IsTrue (not self.new.stage.fake.lost) → IsTrue (not self.old.stage.fake.lost) }
-        ensures told { IsTrue (not self.new.stage.fake.lost) → self.new.stage.fake.acts.items ≡ self.old.stage.fake.acts.items ++ Noted id (Note.Asked others user.now lookup) ∷ [] }
+        ensures kept { IsTrue (is_told self.new) → IsTrue (is_told self.old) }
+        ensures told { TellsIf is_told told_by self.old (Noted id (Note.Asked others user.now lookup)) self.new }
         ensures left { self.new.stage.fake.rest ≡ self.old.stage.fake.rest }
     {
         match Octets::from_slice(self.stage.fake.alloc, user) {
@@ -104,8 +105,8 @@ impl<S: Shelf + Drop> DeskFake<S> {
 
     /// The same of an event that asks no store.
     fn note_freed(&mut self, id: u32, event: &Event, answer: &Answer)
-        ensures kept { IsTrue (not self.new.stage.fake.lost) → IsTrue (not self.old.stage.fake.lost) }
-        ensures told { IsTrue (not self.new.stage.fake.lost) → self.new.stage.fake.acts.items ≡ self.old.stage.fake.acts.items ++ Noted id (Note.Freed event.now answer.now) ∷ [] }
+        ensures kept { IsTrue (is_told self.new) → IsTrue (is_told self.old) }
+        ensures told { TellsIf is_told told_by self.old (Noted id (Note.Freed event.now answer.now)) self.new }
         ensures left { self.new.stage.fake.rest ≡ self.old.stage.fake.rest }
     {
         match copy_event(event) {
@@ -133,8 +134,8 @@ impl<S: Shelf + Drop> DeskFake<S> {
     /// Brings an event to the store, as `carry` does, without a copy of it.
     fn bring(&mut self, id: u32, clients: &mut Clients, event: Event) -> Option<Answer>
         requires { ¬ IsGivenUp event }
-        ensures kept { IsTrue (not self.new.stage.fake.lost) → IsTrue (not self.old.stage.fake.lost) }
-        ensures brings { Carries (λ desk. not desk.stage.fake.lost) (λ desk. desk.stage.fake.acts.items) (λ desk. desk.stage.fake.rest) S.holds (λ _. Unit {0}) id event self.old clients.old.sessions result self.new clients.new.sessions }
+        ensures kept { IsTrue (is_told self.new) → IsTrue (is_told self.old) }
+        ensures brings { Carries is_told told_by shelf_of S.holds (λ _. Unit {0}) id event self.old clients.old.sessions result self.new clients.new.sessions }
     {
         if self.is_away() {
             self.stage.keep(Act::Noted(id, Note::Away));
@@ -162,7 +163,7 @@ impl<S: Shelf + Drop> DeskFake<S> {
 
     /// Lets an event happen, where it is one of accounts and there is room to tell it, and tells it behind those before it.
     fn let_one(&mut self, clients: &mut Clients, event: Event, others: &mut Vec<Event>)
-        ensures lets { (s : S) (kept : Kept) → LetsOthers S.holds others.old.items s kept self.old.stage.fake.rest clients.old.sessions → LetsOthers S.holds others.new.items s kept self.new.stage.fake.rest clients.new.sessions }
+        ensures lets { LetsMore S.holds others.old.items (shelf_of self.old) clients.old.sessions others.new.items (shelf_of self.new) clients.new.sessions }
         ensures still { StillHas S.has self.old.stage.fake.rest self.new.stage.fake.rest }
         ensures acts { self.new.stage.fake.acts ≡ self.old.stage.fake.acts }
         ensures lost { self.new.stage.fake.lost ≡ self.old.stage.fake.lost }
@@ -183,7 +184,7 @@ fn change_other<S: Shelf + Drop>(
 )
     requires { is_of_accounts event ≡ true }
     ensures still { StillHas S.has shelf.old shelf.new }
-    ensures lets { (s : S) (kept : Kept) → LetsOthers S.holds others.old.items s kept shelf.old clients.old.sessions → LetsOthers S.holds others.new.items s kept shelf.new clients.new.sessions }
+    ensures lets { LetsMore S.holds others.old.items shelf.old clients.old.sessions others.new.items shelf.new clients.new.sessions }
 {
     if others.reserve(1).is_err() {
         return;
@@ -197,11 +198,11 @@ impl<S: Shelf + Drop> Outside for DeskFake<S> {
 
     type Rest = S;
 
-    ghost tells = { λ desk. not desk.stage.fake.lost };
+    ghost tells = { is_told };
 
-    ghost seen = { λ desk. desk.stage.fake.acts.items };
+    ghost seen = { told_by };
 
-    ghost rest = { λ desk. desk.stage.fake.rest };
+    ghost rest = { shelf_of };
 
     ghost broken = { λ _. false };
 }
@@ -255,9 +256,9 @@ impl<S: Shelf + Drop> Sockets for DeskFake<S> {
 
     fn note(&mut self, act: Act<Note>)
         requires { IsOwn act }
-        ensures seen { IsTrue (not self.new.stage.fake.lost) → self.new.stage.fake.acts.items ≡ self.old.stage.fake.acts.items ++ act ∷ [] }
+        ensures seen { TellsIf is_told told_by self.old act self.new }
         ensures left { self.new.stage.fake.rest ≡ self.old.stage.fake.rest }
-        ensures kept { IsTrue (not self.new.stage.fake.lost) → IsTrue (not self.old.stage.fake.lost) }
+        ensures kept { IsTrue (is_told self.new) → IsTrue (is_told self.old) }
     {
         self.stage.keep(act)
     }

@@ -25,7 +25,7 @@ impl Shelf for MemShelf {
     ghost use Rattle.std.specs.Prelude.{IsTrue};
     ghost use Rattle.mailmoves.specs.Enduring.{Endures};
 
-    ghost holds = { λ shelf accounts. Endures (state over_memory shelf.store) accounts };
+    ghost holds = { λ tried shelf accounts. Endures tried (state over_memory shelf.store) accounts };
 
     ghost leaves = { λ shelf trees. IsTrue (state over_memory shelf.store).is_open × (state over_memory shelf.store).may_leave trees };
 
@@ -46,5 +46,5 @@ impl Shelf for MemShelf {
         move_next(&mut self.store, &mut self.sink, &mut self.route, now, fresh)
     }
 
-    ghost left = { λ shelf accounts shown trees left. shown.left left.0 trees left.1 };
+    ghost left = { λ tried shelf accounts shown trees left. shown.left left.0 trees left.1 };
 }

@@ -15,8 +15,8 @@ use mailmoves::Moving;
 
 /// Accounts that events change, with the sessions beside them.
 pub trait Shelf {
-    /// Which accounts it has.
-    ghost holds: { Self → Accounts → Type 0 };
+    /// Which accounts it has, while these events were tried: their changes may be there, although they aren't shown.
+    ghost holds: { List Event → Self → Accounts → Type 0 };
 
     /// What an open after a crash at this moment may find.
     ghost leaves: { Self → Trees → Type 0 };
@@ -40,6 +40,6 @@ pub trait Shelf {
         ensures moves { IsMovedOn holds result self.old self.new }
         ensures keeps { HasKept has result self.old self.new };
 
-    // A crash leaves the accounts, or what one event makes of them, as a whole.
-    ghost left: { (shelf : Self) (accounts : Accounts) → holds shelf accounts → (trees : Trees) → leaves shelf trees → MayLeave accounts trees };
+    // A crash leaves the accounts, or what one of the events that were tried makes of them, as a whole.
+    ghost left: { (tried : List Event) (shelf : Self) (accounts : Accounts) → holds tried shelf accounts → (trees : Trees) → leaves shelf trees → MayLeave tried accounts trees };
 }

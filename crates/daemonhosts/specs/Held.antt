@@ -9,8 +9,8 @@ use Rattle.lmtp.specs.declared.receiver.Lookup.{Lookup}
 use Rattle.mailstore.specs.Account.{Accounts}
 use Rattle.mailstore.specs.Shows.{Offers}
 use Rattle.mailengine.specs.Hosts.{Kept}
-use Rattle.mailmoves.specs.Enduring.{Endures}
-use Rattle.mailmoves.specs.Moving.{Moves}
+use Rattle.mailmoves.specs.Enduring.{Endures, AreTried}
+use Rattle.mailmoves.specs.Moving.{Moves, refused_in}
 use Rattle.mailmoves.specs.declared.moving.Moving.{Moving}
 use Rattle.mailsinks.specs.declared.kept.KeptMail.{KeptMail}
 use Rattle.mailengine.specs.declared.answer.Answer.{Answer}
@@ -21,11 +21,11 @@ use Rattle.keepers.specs.declared.keeper.Unavailable.{Unavailable}
 use Rattle.sieveddaemon.specs.Desk.{StillShows, IsDone, NothingDone, IsFoundIn}
 use Rattle.daemonhosts.specs.declared.held.HeldStore.{HeldStore}
 
--- while it is had the store shows the accounts, and a crash leaves them, or as one event makes them (`Endures`); else they are those of its
--- keeper's tables, and none can be claimed where it doesn't tell these
-abbrev pub ShowsBy : {S : Type 0} → Ghosts S → Bool → Database → Option (Held S) → Accounts → Type 0
-ShowsBy g tells db (Some store) accounts = Endures (state g store) accounts
-ShowsBy g tells db None accounts = IsTrue tells × Offers db accounts
+-- while it is had the store shows the accounts, and a crash leaves them, or as one event that was tried makes them (`Endures`); else they
+-- are those of its keeper's tables, and none can be claimed where it doesn't tell these
+abbrev pub ShowsBy : {S : Type 0} → Ghosts S → Bool → List Event → Database → Option (Held S) → Accounts → Type 0
+ShowsBy g tells tried db (Some store) accounts = Endures tried (state g store) accounts
+ShowsBy g tells tried db None accounts = IsTrue tells × Offers db accounts
 
 -- what an open after a crash may find, while it is had and no fault of the disk has shut its connection
 abbrev pub LeavesBy : {S : Type 0} → Ghosts S → Option (Held S) → Trees → Type 0
@@ -38,8 +38,8 @@ IsCleanBy g tells (Some store) = HasCleanDisk (state g store)
 IsCleanBy g tells None = IsTrue tells
 
 -- of a keeper, and its store while it is had
-abbrev pub Shows : {K S T : Type 0} → Ghosts S → Bool → (K → Database) → HeldStore K T S → Accounts → Type 0
-Shows g tells holds held accounts = ShowsBy g tells (holds held.keeper) held.store accounts
+abbrev pub Shows : {K S T : Type 0} → Ghosts S → Bool → (K → Database) → List Event → HeldStore K T S → Accounts → Type 0
+Shows g tells holds tried held accounts = ShowsBy g tells tried (holds held.keeper) held.store accounts
 
 abbrev pub IsClean : {K S T : Type 0} → Ghosts S → Bool → HeldStore K T S → Type 0
 IsClean g tells held = IsCleanBy g tells held.store
@@ -52,7 +52,7 @@ abbrev pub StillShown : {K S T : Type 0} → Ghosts S → Bool → (K → Databa
 StillShown g tells holds held later = StillShows (Shows g tells holds) held later
 
 -- the event was done, and no other process came between; or nothing was
-abbrev pub Changes : {R : Type 0} → (R → Accounts → Type 0) → (R → Type 0) → Event → Option Answer → R → Kept → R → Kept → Type 0
+abbrev pub Changes : {R : Type 0} → (List Event → R → Accounts → Type 0) → (R → Type 0) → Event → Option Answer → R → Kept → R → Kept → Type 0
 Changes shows clean event (Some answer) r before q after = clean q → IsDone shows [] event answer r before q after
 Changes shows clean event None r before q after = NothingDone shows r before q after
 
@@ -72,16 +72,17 @@ abbrev pub GivesAtOnce : {K : Type 0} → (K → List ℕ → Type 0) → (K →
 GivesAtOnce gives waits path = (keeper : _) × gives keeper path × (waits keeper ≡ false)
 
 -- that was found of an account of that name, and the accounts are as they were; or nothing was asked
-abbrev pub Finds : {R : Type 0} → (R → Accounts → Type 0) → (R → Type 0) → List ℕ → Option Lookup → R → R → Type 0
-Finds shows clean user (Some lookup) r q = clean q → (accounts : Accounts) → shows r accounts → IsFoundIn accounts user lookup × shows q accounts
+abbrev pub Finds : {R : Type 0} → (List Event → R → Accounts → Type 0) → (R → Type 0) → List ℕ → Option Lookup → R → R → Type 0
+Finds shows clean user (Some lookup) r q = clean q → (tried : List Event) (accounts : Accounts) → shows tried r accounts → IsFoundIn accounts user lookup × shows tried q accounts
 Finds shows clean user None r q = StillShows shows r q
 
 abbrev pub Seeks : {K S T : Type 0} → Ghosts S → Bool → (K → Database) → List ℕ → Option Lookup → HeldStore K T S → HeldStore K T S → Type 0
 Seeks g tells holds user lookup held later = Finds (Shows g tells holds) (IsClean g tells) user lookup held later
 
 -- a message moved on so, whatever accounts were shown; or nothing was asked
-abbrev pub MovesBy : {R : Type 0} → (R → Accounts → Type 0) → (R → Type 0) → Option Moving → R → R → Type 0
-MovesBy shows clean (Some moving) r q = clean q → (accounts : Accounts) → shows r accounts → (later : Accounts) × Moves moving accounts later × shows q later
+abbrev pub MovesBy : {R : Type 0} → (List Event → R → Accounts → Type 0) → (R → Type 0) → Option Moving → R → R → Type 0
+MovesBy shows clean (Some moving) r q =
+    clean q → (tried : List Event) → AreTried tried (refused_in moving) → (accounts : Accounts) → shows tried r accounts → (later : Accounts) × Moves moving accounts later × shows tried q later
 MovesBy shows clean None r q = StillShows shows r q
 
 abbrev pub Goes : {K S T : Type 0} → Ghosts S → Bool → (K → Database) → Option Moving → HeldStore K T S → HeldStore K T S → Type 0

@@ -444,7 +444,7 @@ impl<N: Net + time::Clock, E: Write + Drop, K: Keeper + Drop, T: MailSink + Drop
         gives
     }
 
-    ghost left = { λ held accounts shown trees left. crash_leaves _ _ left shown };
+    ghost left = { λ tried held accounts shown trees left. crash_leaves _ _ left shown };
 
     ghost sure = { λ desk told. never_told told };
 }

@@ -1,5 +1,5 @@
 //! How long events took.
-ghost use Rattle.std.specs.Prelude.{◌<◌};
+ghost use Rattle.loglines.specs.Times.{IsSlotOf, IsFirstWith, IsWithin, HasNone, Counts};
 
 /// The longest time of each slot, in microseconds; the last has all that took longer, too.
 const BOUNDS: [u64; 32] = [
@@ -18,22 +18,29 @@ pub struct Times {
 
 impl Times {
     /// No event.
-    pub fn none() -> Times {
+    pub fn none() -> Times
+        ensures { HasNone result }
+    {
         Times {
             counts: [0; 32],
             total: 0,
         }
     }
 
-    /// One event took so many microseconds.
-    pub fn note(&mut self, micros: u64) {
+    /// One event took so many microseconds. Counts end at the greatest number of 32 bits.
+    pub fn note(&mut self, micros: u64)
+        ensures { Counts micros self.old self.new }
+    {
         let slot = slot_of(micros);
         self.counts[slot] = self.counts[slot].saturating_add(1);
         self.total = self.total.saturating_add(1);
     }
 
-    /// So many microseconds at most took so many of a hundred events: a bound of a slot, 0 where there were none.
-    pub fn within(&self, percent: u32) -> u64 {
+    /// So many microseconds at most took so many of a hundred events: a bound of a slot, 0 where there were none. Of more than a
+    /// hundred it is the longest.
+    pub fn within(&self, percent: u32) -> u64
+        ensures { IsWithin self.now percent result }
+    {
         if self.total == 0 {
             return 0;
         }
@@ -44,7 +51,7 @@ impl Times {
 
 /// The first slot whose bound isn't below; else the last.
 fn slot_of(micros: u64) -> usize
-    ensures { result < 32 }
+    ensures { IsSlotOf micros result }
 {
     for slot in 0..31 {
         if micros <= BOUNDS[slot] {
@@ -56,7 +63,7 @@ fn slot_of(micros: u64) -> usize
 
 /// The first slot up to which so many were counted; else the last.
 fn slot_at(counts: &[u32; 32], wanted: u64) -> usize
-    ensures { result < 32 }
+    ensures { IsFirstWith counts.now wanted result }
 {
     let mut left = wanted;
     for slot in 0..31 {

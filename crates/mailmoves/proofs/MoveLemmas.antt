@@ -10,7 +10,10 @@ use Rattle.mailstore.specs.declared.taking.NumberedMessage.{NumberedMessage}
 use Rattle.sessions.proofs.ActLemmas.{read_shows}
 use Rattle.mailengine.specs.Hosts.{ActsMailTaking, answer_by}
 use Rattle.mailengine.specs.declared.answer.Answer.TheVariants.{MailTaken}
-use Rattle.mailmoves.specs.Enduring.{Endures}
+use Rattle.mailengine.specs.declared.event.Event.{Event}
+use Rattle.mailengine.specs.declared.event.Event.TheVariants.{TakeMail}
+use Rattle.mailengine.specs.declared.answer.Answer.{Answer}
+use Rattle.mailmoves.specs.Enduring.{Endures, AreTried, refused_of}
 use Rattle.mailmoves.specs.Moving.{IsFirst, TakesFirst, MovesFirst, Moves, MovesOn, WasClean, IsStill}
 use Rattle.mailsinks.specs.declared.kept.KeptMail.{KeptMail}
 use Rattle.mailmoves.specs.declared.moving.Kept.{Kept}
@@ -26,7 +29,7 @@ read_clean a b r k = clean_before a b (λ _. HasOurTables a.now → ⊥) k.crash
 
 -- and nothing moved
 pub still_first : {X E : Type 0} (user folder : List ℕ) (why : Why) (a b : State) (r : Result X E) → Keeps a b r → MovesFirst user folder (Err why) a b
-still_first user folder why a b r k clean accounts shown = (accounts, refl, read_endures a b r k clean accounts shown)
+still_first user folder why a b r k clean tried are accounts shown = (accounts, refl, read_endures tried a b r k clean accounts shown)
 
 still_moves : (m : Moving) (accounts : Accounts) → IsStill m → Moves m accounts accounts
 still_moves moving.Nothing accounts is = refl
@@ -36,20 +39,20 @@ still_moves (moving.Stays stay) accounts is = refl
 still_moves (moving.Kept mail answer) accounts is = absurd is
 
 pub still_on : (m : Moving) (a : State) → IsStill m → MovesOn m a a
-still_on m a is clean accounts shown = (accounts, still_moves m accounts is, shown)
+still_on m a is clean tried are accounts shown = (accounts, still_moves m accounts is, shown)
 
 -- a move behind a read
 pub moves_behind : {X E : Type 0} (m : Moving) (a b c : State) (r : Result X E) → Keeps a b r → WasClean b c → MovesOn m b c → MovesOn m a c
-moves_behind m a b c r k was moves clean accounts shown = moves clean accounts (read_endures a b r k (was clean) accounts shown)
+moves_behind m a b c r k was moves clean tried are accounts shown = moves clean tried are accounts (read_endures tried a b r k (was clean) accounts shown)
 
 pub still_then : {X E : Type 0} (m : Moving) (a b : State) (r : Result X E) → Keeps a b r → IsStill m → MovesOn m a b
 still_then m a b r k is = moves_behind m a b b r k (λ clean. clean) (still_on m b is)
 
 -- a move that didn't come about is none, and what moved is
 pub failed_is : (user folder : List ℕ) (why : Why) (m : Moving) (a b : State) → IsStill m → MovesFirst user folder (Err why) a b → MovesOn m a b
-failed_is user folder why m a b is moves clean accounts shown =
-    let it = moves clean accounts shown in
-    (accounts, still_moves m accounts is, subst (Endures b) it.1 it.2)
+failed_is user folder why m a b is moves clean tried are accounts shown =
+    let it = moves clean tried tt accounts shown in
+    (accounts, still_moves m accounts is, subst (Endures tried b) it.1 it.2)
 
 -- ---- one message
 module _ (user folder : List ℕ) (a b : State) (r : Result (Option NumberedMessage) Refusal) (first : Option NumberedMessage) (was : r ≡ Ok first)
@@ -58,23 +61,25 @@ module _ (user folder : List ℕ) (a b : State) (r : Result (Option NumberedMess
   some_first [] has = absurd (let no = has in cc)
   some_first (other ∷ more) has = let same : message.message ≡ other = cc in ap (λ m. m ∷ more) (sym same)
 
-  is_first : HasCleanDisk b → (accounts : Accounts) → Endures a accounts → IsFirst accounts user folder message.message
-  is_first clean accounts shown =
+  is_first : HasCleanDisk b → (tried : List Event) (accounts : Accounts) → Endures tried a accounts → IsFirst accounts user folder message.message
+  is_first clean tried accounts shown =
       let own = subst (λ q. IfOk q (λ x. OfOpen accounts user (λ account. HasFirst x (messages_in account.folders folder)))) was (reads.found clean accounts (read_shows a b r first was reads.keeps clean accounts shown.shown).0) in
       (own.0, drop 1 (messages_in own.0.folders folder), own.1, some_first (messages_in own.0.folders folder) (subst (λ f. HasFirst f (messages_in own.0.folders folder)) is own.2))
 
   pub took_first : (c : State) (q : Result (Unit {0}) Refusal) (kept : Kept) → WasClean b c → ActsMailTaking user folder a c q → kept.message ≡ message.message → kept.answer ≡ answer_by (λ done. MailTaken) q → MovesFirst user folder (Ok kept) a c
-  took_first c q kept clean_then acts same answer clean accounts shown =
-      let it = taking_endures user folder a c q acts clean accounts shown q refl in (
+  took_first c q kept clean_then acts same answer clean tried are accounts shown =
+      let it = taking_endures tried user folder a c q acts clean accounts shown q refl (subst (λ o. AreTried tried (refused_of (TakeMail user folder) o)) answer are) in (
         it.0,
-        (subst (λ m. IsFirst accounts user folder m) (sym same) (is_first (clean_then clean) accounts shown), subst (λ o. TakesFirst accounts user folder o it.0) (sym answer) it.1),
+        (subst (λ m. IsFirst accounts user folder m) (sym same) (is_first (clean_then clean) tried accounts shown), subst (λ o. TakesFirst accounts user folder o it.0) (sym answer) it.1),
         it.2,
       )
 
 -- the same as what became of a message
 pub moved_is : (user folder : List ℕ) (kept : Kept) (mail : KeptMail) (m : Moving) (a b : State) → m ≡ moving.Kept mail kept.answer → mail.user ≡ user → mail.folder ≡ folder → mail.message ≡ kept.message → MovesFirst user folder (Ok kept) a b → MovesOn m a b
-moved_is user folder kept mail m a b is own_user own_folder own_message moves = subst (λ x. MovesOn x a b) (sym is) (λ clean accounts shown.
-    let it = moves clean accounts shown in (
+moved_is user folder kept mail m a b is own_user own_folder own_message moves = subst (λ x. MovesOn x a b) (sym is) (λ clean tried are accounts shown.
+    let taking : AreTried tried (refused_of (TakeMail user folder) kept.answer) =
+    subst (λ u. AreTried tried (refused_of (TakeMail u folder) kept.answer)) own_user (subst (λ f. AreTried tried (refused_of (TakeMail mail.user f) kept.answer)) own_folder are) in
+    let it = moves clean tried taking accounts shown in (
       it.0,
       (
         subst (λ u. IsFirst accounts u mail.folder mail.message) (sym own_user) (subst (λ f. IsFirst accounts user f mail.message) (sym own_folder) (subst (λ t. IsFirst accounts user folder t) (sym own_message) it.1.0)),

@@ -7,7 +7,9 @@ use Rattle.mailsinks.specs.declared.kept.KeptMail.{KeptMail}
 use Rattle.mailengine.specs.AccountEvents.{MailTaking}
 use Rattle.mailengine.specs.Hosts.{TurnsBy}
 use Rattle.mailengine.specs.declared.answer.Answer.{Answer}
-use Rattle.mailmoves.specs.Enduring.{Endures}
+use Rattle.mailengine.specs.declared.event.Event.{Event}
+use Rattle.mailengine.specs.declared.event.Event.TheVariants.{TakeMail}
+use Rattle.mailmoves.specs.Enduring.{Endures, AreTried, refused_of}
 use Rattle.mailmoves.specs.declared.moving.Kept.{Kept}
 use Rattle.mailmoves.specs.declared.moving.Moving.{Moving}
 use Rattle.mailmoves.specs.declared.moving.Moving.TheVariants as moving
@@ -27,10 +29,16 @@ abbrev pub FirstMoves : List ℕ → List ℕ → Result Kept Why → Accounts �
 FirstMoves user folder (Ok kept) accounts later = IsFirst accounts user folder kept.message × TakesFirst accounts user folder kept.answer later
 FirstMoves user folder (Err why) accounts later = later ≡ accounts
 
--- over a store, whatever accounts it showed; a crash leaves those that it shows, or as one event makes them (`Endures`)
+-- the event that takes it out, where that was refused
+abbrev pub refused_taking : List ℕ → List ℕ → Result Kept Why → List Event
+refused_taking user folder (Ok kept) = refused_of (TakeMail user folder) kept.answer
+refused_taking user folder (Err why) = []
+
+-- over a store, whatever accounts it showed; a crash leaves those that it shows, or as one event that was tried makes them (`Endures`)
 abbrev pub MovesFirst : List ℕ → List ℕ → Result Kept Why → State → State → Type 0
 MovesFirst user folder result old new =
-    HasCleanDisk new → (accounts : Accounts) → Endures old accounts → (later : Accounts) × FirstMoves user folder result accounts later × Endures new later
+    HasCleanDisk new → (tried : List Event) → AreTried tried (refused_taking user folder result) → (accounts : Accounts) → Endures tried old accounts
+    → (later : Accounts) × FirstMoves user folder result accounts later × Endures tried new later
 
 -- ---- whichever folder it is
 
@@ -38,9 +46,14 @@ abbrev pub Moves : Moving → Accounts → Accounts → Type 0
 Moves (moving.Kept mail answer) accounts later = IsFirst accounts mail.user mail.folder mail.message × TakesFirst accounts mail.user mail.folder answer later
 Moves other accounts later = later ≡ accounts
 
+abbrev pub refused_in : Moving → List Event
+refused_in (moving.Kept mail answer) = refused_of (TakeMail mail.user mail.folder) answer
+refused_in other = []
+
 abbrev pub MovesOn : Moving → State → State → Type 0
 MovesOn result old new =
-    HasCleanDisk new → (accounts : Accounts) → Endures old accounts → (later : Accounts) × Moves result accounts later × Endures new later
+    HasCleanDisk new → (tried : List Event) → AreTried tried (refused_in result) → (accounts : Accounts) → Endures tried old accounts
+    → (later : Accounts) × Moves result accounts later × Endures tried new later
 
 -- no message left its folder
 abbrev pub IsStill : Moving → Type 0

@@ -1,5 +1,5 @@
 -- For which connection the code stands, and what its calls make of that.
-use Rattle.std.specs.Prelude.{◌≡◌, ◌⊎◌, ◌<◌, ℕ, ◌+◌, Bool, true, false, if◌then◌else◌, List, [], ◌∷◌, length, take, ◌≤◌, Option, Some, None}
+use Rattle.std.specs.Prelude.{◌≡◌, ◌⊎◌, ◌<◌, ℕ, ◌+◌, Bool, true, false, if◌then◌else◌, List, [], ◌∷◌, ◌++◌, length, take, ◌≤◌, Option, Some, None}
 use Rattle.std.specs.Vec.{vec_len, vec_capacity}
 use Rattle.lmtp.specs.Dialogues.{Asking, Dialogue}
 use Rattle.lmtp.specs.Receivers.{StandsIn, ComesNext}
@@ -87,6 +87,11 @@ abbrev pub TellsIt : ℕ → Became → List ℕ → Code → Code → Type 0
 TellsIt now became said c e =
     (p : Post) → Stands c p → (before : List Addressee) (it : Addressee) (after : List Addressee) (sender text : List ℕ) (is : IsOwed p before it after sender text)
     → (said ≡ said_for became) × Stands e (told_post now became p before it after sender text is)
+
+-- what became of the message is noted at the next recipient, and at no other
+abbrev pub NotesBecame : Became → Code → Code → Type 0
+NotesBecame became c e =
+    (before after : List Addressee) (it : Addressee) → c.addressees.items ≡ before ++ it ∷ after → length before ≡ c.tally.told → e.addressees.items ≡ before ++ record it { became = Some became } ∷ after
 
 abbrev pub Keeps : Code → Code → Type 0
 Keeps c e = (p : Post) → Stands c p → Stands e p

@@ -238,7 +238,7 @@ impl Post {
 
     // What became of the message for the next recipient is noted.
     fn note_became(&mut self, became: Became)
-        ensures noted { (before after : List Addressee) (it : Addressee) → self.old.addressees.items ≡ before ++ it ∷ after → length before ≡ self.old.tally.told → self.new.addressees.items ≡ before ++ record it { became = Some became } ∷ after }
+        ensures noted { s.NotesBecame became self.old self.new }
         ensures counted { self.old.tally.told < length self.old.addressees.items → self.new.tally ≡ posts.next_recipient self.old.tally }
         ensures receiver { self.new.receiver ≡ self.old.receiver }
         ensures names { self.new.names ≡ self.old.names }

@@ -3,6 +3,7 @@ use Rattle.std.proofs.Common.{◌≡◌, ℕ, Bool, true, false, List, Some, Non
 use Rattle.lmtp.specs.declared.receiver.Lookup.{Lookup}
 use Rattle.mailstore.specs.Account.{Accounts}
 use Rattle.mailengine.specs.declared.answer.Answer.{Answer}
+use Rattle.mailengine.specs.declared.event.Event.{Event}
 use Rattle.mailengine.specs.declared.clients.Clients.{Clients}
 use Rattle.mailposts.specs.Posts.{Deed, Answered, Declined, Asked, Away, Brought}
 use Rattle.mailposts.specs.Stands.{Keeps, Does, Demands, AsksIt}
@@ -45,7 +46,7 @@ abbrev size_of : Deed → ℕ
 size_of (Declined size) = size
 size_of deed = 0
 
-module _ {O R : Type 0} (tells : O → Bool) (seen : O → List (Act Note)) (rest : O → R) (shows : R → Accounts → Type 0) (clean : R → Type 0) (sure : (o : O) → IsTrue (tells o) → clean (rest o))
+module _ {O R : Type 0} (tells : O → Bool) (seen : O → List (Act Note)) (rest : O → R) (shows : List Event → R → Accounts → Type 0) (clean : R → Type 0) (sure : (o : O) → IsTrue (tells o) → clean (rest o))
     (o p : O) (d : Daemon) (c : Clients) (now id : ℕ) (said : List ℕ) (before after : Post) (room : ℕ) where
   abbrev One : Daemon → Type 0
   One e = DoesOneIf tells seen rest shows room o d before now id said p e after
@@ -104,7 +105,7 @@ module _ {O R : Type 0} (tells : O → Bool) (seen : O → List (Act Note)) (res
   )
 
 -- one step of a connection that is as it was
-pub one_behind : {O R : Type 0} (tells : O → Bool) (seen : O → List (Act Note)) (rest : O → R) (shows : R → Accounts → Type 0) (o p : O) (d e : Daemon) (before mid after : Post) (now id : ℕ) (said : List ℕ) (room : ℕ)
+pub one_behind : {O R : Type 0} (tells : O → Bool) (seen : O → List (Act Note)) (rest : O → R) (shows : List Event → R → Accounts → Type 0) (o p : O) (d e : Daemon) (before mid after : Post) (now id : ℕ) (said : List ℕ) (room : ℕ)
     → Keeps before mid → DoesOneIf tells seen rest shows room o d mid now id said p e after → DoesOneIf tells seen rest shows room o d before now id said p e after
 one_behind tells seen rest shows o p d e before mid after now id said room keeps one = λ tell.
     let s = one tell in (

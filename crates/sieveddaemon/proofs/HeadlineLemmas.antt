@@ -8,7 +8,8 @@ use Rattle.lmtp.specs.declared.name.Names.{Names}
 use Rattle.mailstore.specs.Account.{Accounts}
 use Rattle.std.proofs.lemmas.List.{append-nil}
 use Rattle.mailengine.specs.World.{World, Next, Runs}
-use Rattle.mailmoves.specs.Enduring.{MayLeave}
+use Rattle.mailmoves.specs.Enduring.{MayLeave, AreTried}
+use Rattle.mailmoves.proofs.EnduringLemmas.{among_left, among_right, among_themselves}
 use Rattle.mailmoves.specs.declared.moving.Moving.{Moving}
 use Rattle.mailmoves.specs.declared.moving.Moving.TheVariants as moving
 use Rattle.mailengine.specs.declared.answer.Answer.{Answer}
@@ -23,7 +24,7 @@ use Rattle.wires.specs.declared.turn.Turn.TheVariants.{Stuffed}
 use Rattle.wires.specs.Life.{Move, acts_of, Passes, Fresh, IsFrontOf}
 use Rattle.wires.specs.Moves.{Moment, Moves}
 use Rattle.wires.specs.Talk.{client_of}
-use Rattle.sieveddaemon.specs.Acts.{Line, no_line, LeadsBy, LacksThen, LeadsIn, Leads, LeadsOn, opened_by, events_by, events_at, events_in, AnswersBy, AnswersAt, AnswersIn, moment_after, tell_line, tell_on, IsRight, AreRight}
+use Rattle.sieveddaemon.specs.Acts.{Line, no_line, LeadsBy, LacksThen, LeadsIn, Leads, LeadsOn, tried_at, tried_in, opened_by, events_by, events_at, events_in, AnswersBy, AnswersAt, AnswersIn, moment_after, tell_line, tell_on, IsRight, AreRight}
 use Rattle.sieveddaemon.specs.DaemonRules.{lmtp, place_at}
 use Rattle.sieveddaemon.specs.Desk.{IsWorld}
 use Rattle.sieveddaemon.specs.Headline.{world_of, HoldsAfter, Headline, IsNew}
@@ -94,7 +95,7 @@ runs_in w v (act ∷ acts) led =
 
 -- ---- moves in turn
 
-module _ {R : Type 0} (shows : R → Accounts → Type 0) where
+module _ {R : Type 0} (shows : List Event → R → Accounts → Type 0) where
   -- the store and the sessions are those of a world
   abbrev Stands : Moment MailDaemon Note R → World → Type 0
   Stands m w = IsWorld shows m.rest m.machine.daemon.clients.sessions w
@@ -112,15 +113,18 @@ module _ {R : Type 0} (shows : R → Accounts → Type 0) where
       let is : IsFull id one.act = fulls (mail_rules shows) m.machine mid.machine m.rest mid.rest m.service mid.service id kind stuffed one.act one.said one.turns in
       full_then id move.act (acts_of moves) (subst (λ a. IsFull id a) passes.2 is)
 
-  leads_on : (m : Moment MailDaemon Note R) (moves : List (Move Note)) (n : Moment MailDaemon Note R) (w : World) → Passes (mail_rules shows) m moves n → Stands m w → (v : World) × LeadsOn w (acts_of moves) v × Stands n v
-  leads_on m [] n w passes stands = (w, refl, subst (λ (k : Moment MailDaemon Note R). Stands k w) (sym passes) stands)
-  leads_on m (move ∷ moves) n w passes stands =
+  leads_on : (tried : List Event) (m : Moment MailDaemon Note R) (moves : List (Move Note)) (n : Moment MailDaemon Note R) (w : World) → AreTried tried (tried_in (acts_of moves)) → Passes (mail_rules shows) m moves n → Stands tried m w
+      → (v : World) × LeadsOn w (acts_of moves) v × Stands tried n v
+  leads_on tried m [] n w are passes stands = (w, refl, subst (λ (k : Moment MailDaemon Note R). Stands tried k w) (sym passes) stands)
+  leads_on tried m (move ∷ moves) n w are passes stands =
       let mid = passes.0 in
       let one = passes.1 in
-      let led : Led shows m.machine mid.machine m.rest mid.rest w move.act (acts_of moves) =
-      subst (λ a. Led shows m.machine mid.machine m.rest mid.rest w a (acts_of moves)) passes.2
-      (leads shows m.machine mid.machine m.rest mid.rest m.service mid.service (acts_of moves) (lacks_then mid moves n passes.4) one.act one.said w one.turns one.leaves stands) in
-      let more = leads_on mid moves n led.0 passes.4 led.2 in
+      let here : AreTried tried (tried_at one.act) =
+      subst (λ a. AreTried tried (tried_at a)) (sym passes.2) (among_left tried (tried_at move.act) (tried_in (acts_of moves)) are) in
+      let led : Led shows tried m.machine mid.machine m.rest mid.rest w move.act (acts_of moves) =
+      subst (λ a. Led shows tried m.machine mid.machine m.rest mid.rest w a (acts_of moves)) passes.2
+      (leads shows tried m.machine mid.machine m.rest mid.rest m.service mid.service (acts_of moves) (lacks_then mid moves n passes.4) one.act one.said w one.turns one.leaves here stands) in
+      let more = leads_on tried mid moves n led.0 (among_right tried (tried_at move.act) (tried_in (acts_of moves)) are) passes.4 led.2 in
       (more.0, (led.0, led.1, more.1), more.2)
 
   -- the moment behind one move
@@ -217,7 +221,7 @@ module _ {R : Type 0} (shows : R → Accounts → Type 0) where
 
   -- ---- the headline
 
-  module _ (leaves : R → Trees → Type 0) (left : (r : R) (accounts : Accounts) → shows r accounts → (trees : Trees) → leaves r trees → MayLeave accounts trees) (m : Moment MailDaemon Note R) (fresh : Fresh m.service) (new : IsNew m.machine) (start : Accounts) (shown : shows m.rest start) where
+  module _ (leaves : R → Trees → Type 0) (left : (tried : List Event) (r : R) (accounts : Accounts) → shows tried r accounts → (trees : Trees) → leaves r trees → MayLeave tried accounts trees) (m : Moment MailDaemon Note R) (fresh : Fresh m.service) (new : IsNew m.machine) (start : Accounts) (shown : (tried : List Event) → shows tried m.rest start) where
     no_client : (id : ℕ) → client_of m.service id ≡ None
     no_client id = ap (λ es. lookup (tree.is_at (nat_cmp id)) es) fresh.none
 
@@ -227,8 +231,8 @@ module _ {R : Type 0} (shows : R → Accounts → Type 0) where
     no_post : (id : ℕ) → post_at m.machine id ≡ None
     no_post id = ap (λ es. lookup (tree.is_at (nat_cmp id)) es) new.posts
 
-    stands : Stands m (world_of start)
-    stands = record { shown = shown; sessions = none_open m.machine.daemon.clients.sessions new.sessions }
+    stands : (tried : List Event) → Stands tried m (world_of start)
+    stands tried = record { shown = shown tried; sessions = none_open m.machine.daemon.clients.sessions new.sessions }
 
     line_begins : (id : ℕ) → Line_at id m (Some no_line)
     line_begins id = (
@@ -240,9 +244,10 @@ module _ {R : Type 0} (shows : R → Accounts → Type 0) where
     mail_begins id = record { set_up = record { named = refl; hosted = refl }; bound = tt; fits = tt }
 
     holds : (moves : List (Move Note)) (n : Moment MailDaemon Note R) → Passes (mail_rules shows) m moves n
-        → (v : World) × HoldsAfter m.machine.names m.machine.host (world_of start) m.service.moment (acts_of moves) v × Stands n v
+        → (v : World) × HoldsAfter m.machine.names m.machine.host (world_of start) m.service.moment (acts_of moves) v × Stands (tried_in (acts_of moves)) n v
     holds moves n passes =
-        let led = leads_on m moves n (world_of start) passes stands in
+        let tried = tried_in (acts_of moves) in
+        let led = leads_on tried m moves n (world_of start) (among_themselves tried) passes (stands tried) in
         let ran = runs_in (world_of start) led.0 (acts_of moves) led.1 in (
           led.0,
           record {
@@ -273,5 +278,5 @@ module _ {R : Type 0} (shows : R → Accounts → Type 0) where
           end = all.0;
           holds = all.1;
           shown = all.2;
-          left = left n.rest all.0.accounts all.2.shown;
+          left = left (tried_in (acts_of moves)) n.rest all.0.accounts all.2.shown;
         }

@@ -17,7 +17,8 @@ use Rattle.wires.specs.declared.turn.Turn.TheVariants.{Stuffed}
 use Rattle.wires.specs.Moves.{Leaves}
 use Rattle.wires.specs.Turns.{Turns, Opens as Enters, Goes, Lacks, Parting, is_open_of, room_by, makes_room}
 use Rattle.wires.specs.Talk.{client_of, kind_of}
-use Rattle.sieveddaemon.specs.Acts.{LeadsBy, LeadsIn, Leads, LacksThen, IsMadeOr, IsGuest}
+use Rattle.mailmoves.specs.Enduring.{AreTried}
+use Rattle.sieveddaemon.specs.Acts.{tried_by, tried_at, LeadsBy, LeadsIn, Leads, LacksThen, IsMadeOr, IsGuest}
 use Rattle.sieveddaemon.specs.DaemonRules.{lmtp, displaced_of, Happened, Made, Makes, WorksBy}
 use Rattle.sieveddaemon.specs.Deeds.{IsDeed, Stores}
 use Rattle.sieveddaemon.specs.Desk.{IsWorld, NothingDone, StillShows}
@@ -57,14 +58,14 @@ by_kind : (b : Bool) (o : Option ℕ) (id : ℕ) → (if b then None else o) ≡
 by_kind true o id is = let never : ◌≡◌ {A = Option ℕ} None (Some id) = is in cc
 by_kind false o id is = is
 
-module _ {R : Type 0} (shows : R → Accounts → Type 0) (d e : MailDaemon) (r q : R) where
+module _ {R : Type 0} (shows : List Event → R → Accounts → Type 0) (tried : List Event) (d e : MailDaemon) (r q : R) where
   -- an act, which others follow, led there, and the store and the sessions are so
   abbrev pub Led : World → Act Note → List (Act Note) → Type 0
-  Led w act more = (v : World) × Leads w act more v × IsWorld shows q e.daemon.clients.sessions v
+  Led w act more = (v : World) × Leads w act more v × IsWorld (shows tried) q e.daemon.clients.sessions v
 
   -- nothing changed
-  same : (w : World) → IsWorld shows r d.daemon.clients.sessions w → KeepsClients d.daemon.clients.sessions e.daemon.clients.sessions → q ≡ r → IsWorld shows q e.daemon.clients.sessions w
-  same w is keeps left = record { shown = subst (λ x. shows x w.accounts) (sym left) is.shown; sessions = keeps w.sessions is.sessions }
+  same : (w : World) → IsWorld (shows tried) r d.daemon.clients.sessions w → KeepsClients d.daemon.clients.sessions e.daemon.clients.sessions → q ≡ r → IsWorld (shows tried) q e.daemon.clients.sessions w
+  same w is keeps left = record { shown = subst (λ x. shows tried x w.accounts) (sym left) is.shown; sessions = keeps w.sessions is.sessions }
 
   kept_of : e.daemon ≡ d.daemon → KeepsClients d.daemon.clients.sessions e.daemon.clients.sessions
   kept_of is = subst (λ (k : Daemon). KeepsClients d.daemon.clients.sessions k.clients.sessions) (sym is) (λ clients has. has)
@@ -73,26 +74,26 @@ module _ {R : Type 0} (shows : R → Accounts → Type 0) (d e : MailDaemon) (r 
   kept is = kept_of (ap (λ (m : MailDaemon). m.daemon) is)
 
   -- an event of sessions alone
-  happened : (event : Event) (w : World) → IsWorld shows r d.daemon.clients.sessions w → Happened event d.daemon e.daemon → q ≡ r → (v : World) × ((answer : Answer) × Next w event answer v) × IsWorld shows q e.daemon.clients.sessions v
+  happened : (event : Event) (w : World) → IsWorld (shows tried) r d.daemon.clients.sessions w → Happened event d.daemon e.daemon → q ≡ r → (v : World) × ((answer : Answer) × Next w event answer v) × IsWorld (shows tried) q e.daemon.clients.sessions v
   happened event w is h left =
       let made = h.1 w is.sessions in (
         record { accounts = w.accounts; sessions = made.0 },
         (h.0, made.1),
-        record { shown = subst (λ x. shows x w.accounts) (sym left) is.shown; sessions = made.2 },
+        record { shown = subst (λ x. shows tried x w.accounts) (sym left) is.shown; sessions = made.2 },
       )
 
-  made : (event : Event) (id : ℕ) (more : List (Act Note)) (w : World) → IsWorld shows r d.daemon.clients.sessions w → Made event d.daemon e.daemon → q ≡ r
-      → (v : World) × ((answer : Answer) × IsMadeOr answer id more × Next w event answer v) × IsWorld shows q e.daemon.clients.sessions v
+  made : (event : Event) (id : ℕ) (more : List (Act Note)) (w : World) → IsWorld (shows tried) r d.daemon.clients.sessions w → Made event d.daemon e.daemon → q ≡ r
+      → (v : World) × ((answer : Answer) × IsMadeOr answer id more × Next w event answer v) × IsWorld (shows tried) q e.daemon.clients.sessions v
   made event id more w is h left =
       let did = h.2 w is.sessions in (
         record { accounts = w.accounts; sessions = did.0 },
         (h.0, inl h.1, did.1),
-        record { shown = subst (λ x. shows x w.accounts) (sym left) is.shown; sessions = did.2 },
+        record { shown = subst (λ x. shows tried x w.accounts) (sym left) is.shown; sessions = did.2 },
       )
 
   -- what asks no store is the same whatever accounts there are
-  freed : (event : Event) (answer : Answer) (w : World) → IsWorld shows r d.daemon.clients.sessions w → StillShows shows r q → IsSessionEvent event answer d.daemon.clients.sessions e.daemon.clients.sessions
-      → (v : World) × LeadsBy w (Freed event answer) v × IsWorld shows q e.daemon.clients.sessions v
+  freed : (event : Event) (answer : Answer) (w : World) → IsWorld (shows tried) r d.daemon.clients.sessions w → StillShows shows r q → IsSessionEvent event answer d.daemon.clients.sessions e.daemon.clients.sessions
+      → (v : World) × LeadsBy w (Freed event answer) v × IsWorld (shows tried) q e.daemon.clients.sessions v
   freed event answer w is still free =
       let made = free w is.sessions in
       let any : (accounts : Accounts) → Next (record w { accounts = accounts }) event answer (record { accounts = accounts; sessions = made.0 }) = λ accounts.
@@ -100,53 +101,53 @@ module _ {R : Type 0} (shows : R → Accounts → Type 0) (d e : MailDaemon) (r 
       subst (λ (c : Clients). Next (record w { accounts = accounts }) event answer (record { accounts = accounts; sessions = c })) (clients_one e.daemon.clients.sessions other.0 made.0 other.2 made.2) other.1 in (
         record { accounts = w.accounts; sessions = made.0 },
         (refl, any),
-        record { shown = still w.accounts is.shown; sessions = made.2 },
+        record { shown = still tried w.accounts is.shown; sessions = made.2 },
       )
 
-  nothing : (w : World) → IsWorld shows r d.daemon.clients.sessions w → NothingDone shows r d.daemon.clients.sessions q e.daemon.clients.sessions → IsWorld shows q e.daemon.clients.sessions w
-  nothing w is none = record { shown = none.shown w.accounts is.shown; sessions = none.kept w.sessions is.sessions }
+  nothing : (w : World) → IsWorld (shows tried) r d.daemon.clients.sessions w → NothingDone shows r d.daemon.clients.sessions q e.daemon.clients.sessions → IsWorld (shows tried) q e.daemon.clients.sessions w
+  nothing w is none = record { shown = none.shown tried w.accounts is.shown; sessions = none.kept w.sessions is.sessions }
 
   -- what is done for a client of ManageSieve
-  noted : (note : Note) (w : World) → IsWorld shows r d.daemon.clients.sessions w → Makes shows r d.daemon note q e.daemon → (v : World) × LeadsBy w note v × IsWorld shows q e.daemon.clients.sessions v
-  noted (Did others event answer) w is makes = makes w is
-  noted Away w is makes = (w, refl, nothing w is makes)
-  noted (Freed event answer) w is makes = freed event answer w is makes.0 makes.1
-  noted Spoke w is makes = (w, refl, nothing w is makes)
-  noted Answered w is makes = absurd makes
-  noted (Asked others user lookup) w is makes = absurd makes
-  noted (Looked wanted) w is makes = absurd makes
-  noted (Moved others moving) w is makes = absurd makes
+  noted : (note : Note) (w : World) → AreTried tried (tried_by note) → IsWorld (shows tried) r d.daemon.clients.sessions w → Makes shows r d.daemon note q e.daemon → (v : World) × LeadsBy w note v × IsWorld (shows tried) q e.daemon.clients.sessions v
+  noted (Did others event answer) w are is makes = makes tried are w is
+  noted Away w are is makes = (w, refl, nothing w is makes)
+  noted (Freed event answer) w are is makes = freed event answer w is makes.0 makes.1
+  noted Spoke w are is makes = (w, refl, nothing w is makes)
+  noted Answered w are is makes = absurd makes
+  noted (Asked others user lookup) w are is makes = absurd makes
+  noted (Looked wanted) w are is makes = absurd makes
+  noted (Moved others moving) w are is makes = absurd makes
 
   -- what is done for a client of LMTP
-  did : (note : Note) (deed : Deed) (w : World) → IsWorld shows r d.daemon.clients.sessions w → IsDeed note deed → Stores shows r d.daemon.clients.sessions note q e.daemon.clients.sessions
-      → (v : World) × LeadsBy w note v × IsWorld shows q e.daemon.clients.sessions v
-  did (Did others event answer) deed w is told stores = stores w is
-  did (Asked others user lookup) deed w is told stores = stores w is
-  did Away deed w is told stores = (w, refl, nothing w is stores)
-  did Answered deed w is told stores = (w, refl, nothing w is stores)
-  did (Freed event answer) deed w is told stores = absurd told
-  did Spoke deed w is told stores = absurd told
-  did (Looked wanted) deed w is told stores = absurd told
-  did (Moved others moving) deed w is told stores = absurd told
+  did : (note : Note) (deed : Deed) (w : World) → AreTried tried (tried_by note) → IsWorld (shows tried) r d.daemon.clients.sessions w → IsDeed note deed → Stores shows r d.daemon.clients.sessions note q e.daemon.clients.sessions
+      → (v : World) × LeadsBy w note v × IsWorld (shows tried) q e.daemon.clients.sessions v
+  did (Did others event answer) deed w are is told stores = stores tried are w is
+  did (Asked others user lookup) deed w are is told stores = stores tried are w is
+  did Away deed w are is told stores = (w, refl, nothing w is stores)
+  did Answered deed w are is told stores = (w, refl, nothing w is stores)
+  did (Freed event answer) deed w are is told stores = absurd told
+  did Spoke deed w are is told stores = absurd told
+  did (Looked wanted) deed w are is told stores = absurd told
+  did (Moved others moving) deed w are is told stores = absurd told
 
-  goes : (now id : ℕ) (note : Note) (said : List ℕ) (w : World) → IsWorld shows r d.daemon.clients.sessions w → GoesBy shows d r now id note said e q → (v : World) × LeadsBy w note v × IsWorld shows q e.daemon.clients.sessions v
-  goes now id note said w is (inl g) = did note g.does.deed w is g.does.is g.does.stores
-  goes now id note said w is (inr g) = noted note w is g.goes.makes
+  goes : (now id : ℕ) (note : Note) (said : List ℕ) (w : World) → AreTried tried (tried_by note) → IsWorld (shows tried) r d.daemon.clients.sessions w → GoesBy shows d r now id note said e q → (v : World) × LeadsBy w note v × IsWorld (shows tried) q e.daemon.clients.sessions v
+  goes now id note said w are is (inl g) = did note g.does.deed w are is g.does.is g.does.stores
+  goes now id note said w are is (inr g) = noted note w are is g.goes.makes
 
   -- what the daemon does by itself
-  worked : (now : ℕ) (note : Note) (w : World) → IsWorld shows r d.daemon.clients.sessions w → WorksBy shows d.daemon r now note e.daemon.clients.sessions e.daemon.holding q
-      → (v : World) × LeadsBy w note v × IsWorld shows q e.daemon.clients.sessions v
-  worked now (Looked wanted) w is works = (w, refl, record { shown = works.0 w.accounts is.shown; sessions = subst (λ (k : Kept). HasClients k w.sessions) (sym works.1) is.sessions })
-  worked now (Moved others moving) w is works = works.1 w is
-  worked now Away w is works = (w, refl, nothing w is works.1)
-  worked now (Did others event answer) w is works = absurd works
-  worked now (Freed event answer) w is works = absurd works
-  worked now Spoke w is works = absurd works
-  worked now Answered w is works = absurd works
-  worked now (Asked others user lookup) w is works = absurd works
+  worked : (now : ℕ) (note : Note) (w : World) → AreTried tried (tried_by note) → IsWorld (shows tried) r d.daemon.clients.sessions w → WorksBy shows d.daemon r now note e.daemon.clients.sessions e.daemon.holding q
+      → (v : World) × LeadsBy w note v × IsWorld (shows tried) q e.daemon.clients.sessions v
+  worked now (Looked wanted) w are is works = (w, refl, record { shown = works.0 tried w.accounts is.shown; sessions = subst (λ (k : Kept). HasClients k w.sessions) (sym works.1) is.sessions })
+  worked now (Moved others moving) w are is works = works.1 tried are w is
+  worked now Away w are is works = (w, refl, nothing w is works.1)
+  worked now (Did others event answer) w are is works = absurd works
+  worked now (Freed event answer) w are is works = absurd works
+  worked now Spoke w are is works = absurd works
+  worked now Answered w are is works = absurd works
+  worked now (Asked others user lookup) w are is works = absurd works
 
   -- who makes room is a guest
-  guest_goes : (s : Service) (kind id : ℕ) → makes_room (mail_rules shows) d s kind ≡ Some id → (w : World) → IsWorld shows r d.daemon.clients.sessions w → IsGuest w id
+  guest_goes : (s : Service) (kind id : ℕ) → makes_room (mail_rules shows) d s kind ≡ Some id → (w : World) → IsWorld (shows tried) r d.daemon.clients.sessions w → IsGuest w id
   guest_goes s kind id room w is =
       let chosen = by_kind (kind == lmtp) (displaced_of d.daemon kind) id (named_by s kind (displaced_for d kind) id room) in
       let named = if_named (kind == 0) (longest_guest d.daemon.clients.sessions d.daemon.places) id chosen in
@@ -154,15 +155,15 @@ module _ {R : Type 0} (shows : R → Accounts → Type 0) (d e : MailDaemon) (r 
 
   -- where memory was lacking for a connection, that is what follows says
   module _ (s u : Service) (more : List (Act Note)) (lacks_then : (id kind : ℕ) → u.turn ≡ Stuffed id kind → LacksThen id more) where
-    opened : (b : Bool) (id : ℕ) (said : List ℕ) (w : World) → IsWorld shows r d.daemon.clients.sessions w → q ≡ r → OpensBy b d s.moment id said e → (v : World) × LeadsIn b w id more v × IsWorld shows q e.daemon.clients.sessions v
+    opened : (b : Bool) (id : ℕ) (said : List ℕ) (w : World) → IsWorld (shows tried) r d.daemon.clients.sessions w → q ≡ r → OpensBy b d s.moment id said e → (v : World) × LeadsIn b w id more v × IsWorld (shows tried) q e.daemon.clients.sessions v
     opened true id said w is left o = (w, refl, same w is (subst (λ (k : CodeClients). KeepsClients d.daemon.clients.sessions k.sessions) (sym o.daemon.clients) (λ clients has. has)) left)
     opened false id said w is left o = made (Open id) id more w is o.opens.event left
 
-    lacking : (b : Bool) (id kind : ℕ) (w : World) → IsWorld shows r d.daemon.clients.sessions w → q ≡ r → u.turn ≡ Stuffed id kind → LacksBy d id e → (v : World) × LeadsIn b w id more v × IsWorld shows q e.daemon.clients.sessions v
+    lacking : (b : Bool) (id kind : ℕ) (w : World) → IsWorld (shows tried) r d.daemon.clients.sessions w → q ≡ r → u.turn ≡ Stuffed id kind → LacksBy d id e → (v : World) × LeadsIn b w id more v × IsWorld (shows tried) q e.daemon.clients.sessions v
     lacking true id kind w is left turn l = (w, refl, same w is l.lacks.kept left)
     lacking false id kind w is left turn l = let refused = open_refused w id in (w, (refused.0, inr (lacks_then id kind turn), refused.1), same w is l.lacks.kept left)
 
-    came : (id kind : ℕ) (said : List ℕ) (w : World) → IsWorld shows r d.daemon.clients.sessions w → q ≡ r → Enters (mail_rules shows) d s.moment id kind said e u → Led w (Came id kind) more
+    came : (id kind : ℕ) (said : List ℕ) (w : World) → IsWorld (shows tried) r d.daemon.clients.sessions w → q ≡ r → Enters (mail_rules shows) d s.moment id kind said e u → Led w (Came id kind) more
     came id kind said w is left (inl o) = opened (kind == lmtp) id said w is left o.0
     came id kind said w is left (inr o) = by o.2
       where
@@ -170,12 +171,12 @@ module _ {R : Type 0} (shows : R → Accounts → Type 0) (d e : MailDaemon) (r 
         by (inl opens) = opened (kind == lmtp) id said w is left opens
         by (inr lacks) = lacking (kind == lmtp) id kind w is left o.1 lacks
 
-    given : (id : ℕ) (piece said : List ℕ) (w : World) → IsWorld shows r d.daemon.clients.sessions w → q ≡ r → GivesBy d s.moment id piece said e → Led w (Heard id piece) more
+    given : (id : ℕ) (piece said : List ℕ) (w : World) → IsWorld (shows tried) r d.daemon.clients.sessions w → q ≡ r → GivesBy d s.moment id piece said e → Led w (Heard id piece) more
     given id piece said w is left (inl g) =
         let unheard = give_unheard w id piece (sym (is.sessions id) ∙ g.other) in (w, (unheard.0, inr unheard.1, unheard.2), same w is (kept_of g.daemon) left)
     given id piece said w is left (inr g) = let it = made (Give id piece) id more w is g.gives.event left in (it.0, (it.1.0, inl it.1.1, it.1.2), it.2)
 
-    heard : (id : ℕ) (piece said : List ℕ) (count : ℕ) (w : World) → IsWorld shows r d.daemon.clients.sessions w → q ≡ r
+    heard : (id : ℕ) (piece said : List ℕ) (count : ℕ) (w : World) → IsWorld (shows tried) r d.daemon.clients.sessions w → q ≡ r
         → Goes (GivesBy d s.moment id piece said e) (LacksBy d id e) id (kind_of (client_of s id)) count said u.turn → Led w (Heard id piece) more
     heard id piece said count w is left (inl g) = given id piece said w is left g.0
     heard id piece said count w is left (inr g) =
@@ -192,29 +193,29 @@ module _ {R : Type 0} (shows : R → Accounts → Type 0) (d e : MailDaemon) (r 
     late id said (inr (inr p)) = p.2.lacks.kept
 
     -- each act, of whatever accounts and sessions there were
-    pub leads : (act : Act Note) (said : List ℕ) (w : World) → Turns (mail_rules shows) d r s act said e q u → Leaves r act q → IsWorld shows r d.daemon.clients.sessions w → Led w act more
-    leads (Came id kind) said w turns left is = came id kind said w is left turns.3
-    leads (Heard id piece) said w turns left is = heard id piece said turns.count w is left turns.goes
-    leads (Ended id) said w turns left is = happened (Close id) w is turns.0.closes.event left
-    leads (Noted id note) said w turns left is = goes s.moment id note said w is turns.0
-    leads (Worked note) said w turns left is = worked s.moment note w is turns.0.does.works
-    leads (Late id) said w turns left is = (w, refl, same w is (late id said turns.2) left)
-    leads (Displaced id) said w turns left is = (w, (refl, guest_goes s turns.0.0 id turns.0.2 w is), same w is (late id said turns.1) left)
-    leads (Listened kind) said w turns left is = (w, refl, same w is (kept turns.0.0) left)
-    leads (Full id) said w turns left is = (w, refl, same w is (lacked id turns.1) left)
-    leads (Woke within wakes) said w turns left is = (w, refl, same w is (kept turns.0.0) left)
-    leads (Timed moment) said w turns left is = (w, refl, same w is (kept turns.0.0) left)
-    leads (Began wake) said w turns left is = (w, refl, same w is (kept turns.0.0) left)
-    leads (Roused id) said w turns left is = (w, refl, same w is (kept turns.0.0) left)
-    leads (NoneCame kind) said w turns left is = (w, refl, same w is (kept turns.0.0) left)
-    leads (Crowded kind) said w turns left is = (w, refl, same w is (kept turns.0.0) left)
-    leads (InUse id) said w turns left is = (w, refl, same w is (kept turns.0.0) left)
-    leads (ReadBlocked id) said w turns left is = (w, refl, same w is (kept turns.0.0) left)
-    leads (Over id) said w turns left is = (w, refl, same w is (kept turns.0.0) left)
-    leads (Sent id octets) said w turns left is = (w, refl, same w is (kept turns.0.0) left)
-    leads (WriteBlocked id) said w turns left is = (w, refl, same w is (kept turns.0.0) left)
-    leads (Lost id) said w turns left is = (w, refl, same w is (kept turns.0.0) left)
-    leads (Waits id) said w turns left is = (w, refl, same w is (kept turns.0.0) left)
-    leads (Again id) said w turns left is = (w, refl, same w is (kept turns.0.0) left)
-    leads (Shut id) said w turns left is = (w, refl, same w is (kept turns.0.0) left)
-    leads (Dropped id count) said w turns left is = (w, refl, same w is (kept turns.0.0) left)
+    pub leads : (act : Act Note) (said : List ℕ) (w : World) → Turns (mail_rules shows) d r s act said e q u → Leaves r act q → AreTried tried (tried_at act) → IsWorld (shows tried) r d.daemon.clients.sessions w → Led w act more
+    leads (Came id kind) said w turns left are is = came id kind said w is left turns.3
+    leads (Heard id piece) said w turns left are is = heard id piece said turns.count w is left turns.goes
+    leads (Ended id) said w turns left are is = happened (Close id) w is turns.0.closes.event left
+    leads (Noted id note) said w turns left are is = goes s.moment id note said w are is turns.0
+    leads (Worked note) said w turns left are is = worked s.moment note w are is turns.0.does.works
+    leads (Late id) said w turns left are is = (w, refl, same w is (late id said turns.2) left)
+    leads (Displaced id) said w turns left are is = (w, (refl, guest_goes s turns.0.0 id turns.0.2 w is), same w is (late id said turns.1) left)
+    leads (Listened kind) said w turns left are is = (w, refl, same w is (kept turns.0.0) left)
+    leads (Full id) said w turns left are is = (w, refl, same w is (lacked id turns.1) left)
+    leads (Woke within wakes) said w turns left are is = (w, refl, same w is (kept turns.0.0) left)
+    leads (Timed moment) said w turns left are is = (w, refl, same w is (kept turns.0.0) left)
+    leads (Began wake) said w turns left are is = (w, refl, same w is (kept turns.0.0) left)
+    leads (Roused id) said w turns left are is = (w, refl, same w is (kept turns.0.0) left)
+    leads (NoneCame kind) said w turns left are is = (w, refl, same w is (kept turns.0.0) left)
+    leads (Crowded kind) said w turns left are is = (w, refl, same w is (kept turns.0.0) left)
+    leads (InUse id) said w turns left are is = (w, refl, same w is (kept turns.0.0) left)
+    leads (ReadBlocked id) said w turns left are is = (w, refl, same w is (kept turns.0.0) left)
+    leads (Over id) said w turns left are is = (w, refl, same w is (kept turns.0.0) left)
+    leads (Sent id octets) said w turns left are is = (w, refl, same w is (kept turns.0.0) left)
+    leads (WriteBlocked id) said w turns left are is = (w, refl, same w is (kept turns.0.0) left)
+    leads (Lost id) said w turns left are is = (w, refl, same w is (kept turns.0.0) left)
+    leads (Waits id) said w turns left are is = (w, refl, same w is (kept turns.0.0) left)
+    leads (Again id) said w turns left are is = (w, refl, same w is (kept turns.0.0) left)
+    leads (Shut id) said w turns left are is = (w, refl, same w is (kept turns.0.0) left)
+    leads (Dropped id count) said w turns left are is = (w, refl, same w is (kept turns.0.0) left)

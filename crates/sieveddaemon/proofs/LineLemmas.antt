@@ -4,6 +4,7 @@ use Rattle.std.proofs.lemmas.Bool.{ltb-false}
 use Rattle.std.specs.Ordering.{nat_cmp}
 use Rattle.std.specs.BTreeMap as tree
 use Rattle.mailstore.specs.Account.{Accounts}
+use Rattle.mailengine.specs.declared.event.Event.{Event}
 use Rattle.mailposts.specs.declared.post.Post.{Post}
 use Rattle.sessions.specs.Clients.{Client as SessionClient}
 use Rattle.wires.specs.declared.act.Act.{Act}
@@ -111,7 +112,7 @@ same_line : (b : Bool) (l : Line) → cond b l l ≡ l
 same_line true l = refl
 same_line false l = refl
 
-module _ {R : Type 0} (shows : R → Accounts → Type 0) (d e : MailDaemon) (r q : R) (s u : Service) (id : ℕ) where
+module _ {R : Type 0} (shows : List Event → R → Accounts → Type 0) (d e : MailDaemon) (r q : R) (s u : Service) (id : ℕ) where
   touched : (n : ℕ) (post : Option Post) (place : Option Place) → Touches d n post place e → (k l : Line) → (same n id ≡ true → Holds post place k.waits) → Tied d id l → Tied e id (cond (same n id) k l)
   touched n post place t k l put tied = tied_put d e n id post place (same n id) k l (t.posts id) (t.places id) put tied
 

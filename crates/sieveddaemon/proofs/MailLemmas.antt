@@ -6,6 +6,7 @@ use Rattle.lmtp.specs.Replies.{greeting, line_of}
 use Rattle.lmtp.specs.declared.name.Names.{Names}
 use Rattle.lmtp.specs.declared.reply.Reply.TheVariants.{Idle}
 use Rattle.mailstore.specs.Account.{Accounts}
+use Rattle.mailengine.specs.declared.event.Event.{Event}
 use Rattle.mailposts.specs.Posts.{Post, new_post, post_heard}
 use Rattle.mailposts.specs.Stands.{Stands}
 use Rattle.mailposts.specs.declared.post.Post.{Post as Code}
@@ -36,7 +37,7 @@ pub record IsSetUp (names : Names) (host : List ℕ) (d : MailDaemon) : Type 0 w
 set_up : (names : Names) (host : List ℕ) (d e : MailDaemon) → IsSetUp names host d → SameHost d e → IsSetUp names host e
 set_up names host d e is same = record { named = same.names ∙ is.named; hosted = same.host ∙ is.hosted }
 
-module _ {R : Type 0} (shows : R → Accounts → Type 0) (names : Names) (host : List ℕ) (d e : MailDaemon) (r q : R) (s u : Service) (is : IsSetUp names host d) where
+module _ {R : Type 0} (shows : List Event → R → Accounts → Type 0) (names : Names) (host : List ℕ) (d e : MailDaemon) (r q : R) (s u : Service) (is : IsSetUp names host d) where
   left_so : e ≡ d → IsSetUp names host e
   left_so one = subst (λ m. IsSetUp names host m) (sym one) is
 
@@ -154,7 +155,7 @@ abbrev pub FitsBy : ℕ → Option MailLine → Option Client → Turn → Type 
 FitsBy id None o turn = Unit {0}
 FitsBy id (Some l) o turn = Fits id (words_of l) o turn
 
-module _ {R : Type 0} (shows : R → Accounts → Type 0) (names : Names) (host : List ℕ) (d e : MailDaemon) (r q : R) (s u : Service) (id : ℕ) (is_set_up : IsSetUp names host d) where
+module _ {R : Type 0} (shows : List Event → R → Accounts → Type 0) (names : Names) (host : List ℕ) (d e : MailDaemon) (r q : R) (s u : Service) (id : ℕ) (is_set_up : IsSetUp names host d) where
   touched : (n : ℕ) (post : Option Code) (place : Option Place) → Touches d n post place e → (k l : Post) → (same n id ≡ true → Keeps post place k) → Bound d id l → Bound e id (cond (same n id) k l)
   touched n post place t k l put bound = bound_put d e id post place (same n id) k l (t.posts id) (t.places id) put bound
 

@@ -59,7 +59,7 @@ module _ {R : Type 0} (shows : R → Accounts → Type 0) (others : List Event) 
   moved_then (moving.Stays stay) later moves shown = nothing_then later moves shown
 
 -- what the daemon does by itself
-module _ {O R : Type 0} (tells : O → Bool) (seen : O → List (Act Note)) (rest : O → R) (shows : R → Accounts → Type 0) (has : R → List KeptMail → Type 0) (clean : R → Type 0) (sure : (o : O) → IsTrue (tells o) → clean (rest o))
+module _ {O R : Type 0} (tells : O → Bool) (seen : O → List (Act Note)) (rest : O → R) (shows : List Event → R → Accounts → Type 0) (has : R → List KeptMail → Type 0) (clean : R → Type 0) (sure : (o : O) → IsTrue (tells o) → clean (rest o))
     (o p : O) (d : Daemon) (now : ℕ) where
   pub works_move : (c : Clients) (span : Option ℕ) (h : Holding) → is_move_due d.holding now ≡ true → MovesOn tells seen rest shows has clean o d.clients.sessions span p c.sessions → h ≡ moved d.holding now span
       → WorksIf tells seen rest (daemon_rules shows) o d now p (record d { clients = c; holding = h })

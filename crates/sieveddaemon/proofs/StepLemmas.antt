@@ -65,7 +65,7 @@ place_by : (d e : Daemon) (c : CodeClients) (h : Holding) (now id : ℕ) (w : Wa
 place_by d e c h now id w answered before r was =
     subst (λ (k : CodeClients). Places d id (Some (renewed now before w answered (is_user (client_at k.sessions id)))) e) (sym r.clients) (r.place before was)
 
-module _ {O R : Type 0} (tells : O → Bool) (seen : O → List (Act Note)) (rest : O → R) (shows : R → Accounts → Type 0) (clean : R → Type 0) (sure : (o : O) → IsTrue (tells o) → clean (rest o))
+module _ {O R : Type 0} (tells : O → Bool) (seen : O → List (Act Note)) (rest : O → R) (shows : List Event → R → Accounts → Type 0) (clean : R → Type 0) (sure : (o : O) → IsTrue (tells o) → clean (rest o))
     (o p : O) (d e : Daemon) (c : CodeClients) (now id : ℕ) (said : List ℕ) where
   -- an event was done by the store
   pub did : (answer : Answer) → Carries tells seen rest shows clean id (Step id) o d.clients.sessions (Some answer) p c.sessions → AsksStore (Step id) d.clients.sessions

@@ -1,6 +1,7 @@
 -- What was sent to a client of ManageSieve is a front of what its acts spell.
 use Rattle.std.proofs.Common.{◌≡◌, inl, inr, ℕ, ◌==◌, Bool, true, false, cond, List, [], ◌++◌, Option, Some, None, refl, sym, ◌∙◌, ap, subst}
 use Rattle.mailstore.specs.Account.{Accounts}
+use Rattle.mailengine.specs.declared.event.Event.{Event}
 use Rattle.mailposts.specs.declared.post.Post.{Post as Code}
 use Rattle.wires.specs.declared.act.Act.{Act}
 use Rattle.wires.specs.declared.act.Act.TheVariants.{Woke, Began, Timed, Late, Waits, Roused, Worked, Came, NoneCame, Crowded, Displaced, Listened, InUse, Heard, ReadBlocked, Over, Sent, WriteBlocked, Lost, Noted, Full, Again, Shut, Dropped, Ended}
@@ -44,7 +45,7 @@ words_if false k l = refl
 pub none_sent : (id : ℕ) (o : Option Client) (turn : Turn) → o ≡ None → FitsBy id (Some no_line) o turn
 none_sent id o turn none = subst (λ x. Fits id (words_of no_line) x turn) (sym none) (inl ([], refl))
 
-module _ {R : Type 0} (shows : R → Accounts → Type 0) (d e : MailDaemon) (r q : R) (s u : Service) (id : ℕ) where
+module _ {R : Type 0} (shows : List Event → R → Accounts → Type 0) (d e : MailDaemon) (r q : R) (s u : Service) (id : ℕ) where
   module _ (l : Line) (tied : Tied d id l) where
     silent : (piece said : List ℕ) → GivesBy d s.moment id piece said e → said ≡ []
     silent piece said (inl g) = g.silent

@@ -98,7 +98,7 @@ pub record Closes (d : Daemon) (id : ℕ) (e : Daemon) : Type 0 where
 
 -- what a note says is done: an event by the store; nothing where it was away, or what was kept back is said; an event that asks no
 -- store, and is the same whatever accounts there are
-abbrev pub Makes : {R : Type 0} → (R → Accounts → Type 0) → R → Daemon → Note → R → Daemon → Type 0
+abbrev pub Makes : {R : Type 0} → (List Event → R → Accounts → Type 0) → R → Daemon → Note → R → Daemon → Type 0
 Makes shows r d (Did others event answer) q e = IsDone shows others event answer r d.clients.sessions q e.clients.sessions
 Makes shows r d Away q e = NothingDone shows r d.clients.sessions q e.clients.sessions
 Makes shows r d Spoke q e = NothingDone shows r d.clients.sessions q e.clients.sessions
@@ -115,7 +115,7 @@ abbrev pub had_at : ℕ → Daemon → Daemon
 had_at now d = record d { holding = asked_at now d.holding }
 
 -- what its connection waits for allows the note, which says what is done, what is said, and what is waited for then
-pub record Goes {R : Type 0} (shows : R → Accounts → Type 0) (d : Daemon) (r : R) (now id : ℕ) (note : Note) (said : List ℕ) (e : Daemon) (q : R) : Type 0 where
+pub record Goes {R : Type 0} (shows : List Event → R → Accounts → Type 0) (d : Daemon) (r : R) (now id : ℕ) (note : Note) (said : List ℕ) (e : Daemon) (q : R) : Type 0 where
   pub before : Place
   pub was : place_at d id ≡ Some before
   pub allows : IsDue now before.waits → Allows now before.waits id note
@@ -142,7 +142,7 @@ pub record Renews (d : Daemon) (now id : ℕ) (w : Waits) (answered : Bool) (e :
 
 -- what is noted of it: it was given back where somebody waits for it, or nobody asked for so long; a message was to move on, and it was
 -- its time; or the store wasn't to be had for that
-abbrev pub WorksBy : {R : Type 0} → (R → Accounts → Type 0) → Daemon → R → ℕ → Note → Kept → Holding → R → Type 0
+abbrev pub WorksBy : {R : Type 0} → (List Event → R → Accounts → Type 0) → Daemon → R → ℕ → Note → Kept → Holding → R → Type 0
 WorksBy shows d r now (Looked wanted) after h q =
     StillShows shows r q × (after ≡ d.clients.sessions) × (h ≡ looked d.holding now (is_rested d.holding now) (is_rested d.holding now || wanted))
 WorksBy shows d r now (Moved others moving) after h q =
@@ -151,7 +151,7 @@ WorksBy shows d r now Away after h q = (is_move_due d.holding now ≡ true) × N
 WorksBy shows d r now _ after h q = ⊥
 
 -- nothing else changes
-pub record DoesWork {R : Type 0} (shows : R → Accounts → Type 0) (d : Daemon) (r : R) (now : ℕ) (note : Note) (e : Daemon) (q : R) : Type 0 where
+pub record DoesWork {R : Type 0} (shows : List Event → R → Accounts → Type 0) (d : Daemon) (r : R) (now : ℕ) (note : Note) (e : Daemon) (q : R) : Type 0 where
   pub works : WorksBy shows d r now note e.clients.sessions e.holding q
   pub places : e.places ≡ d.places
 
@@ -177,7 +177,7 @@ patience_of d = least_from (patience_by d.holding) d.places.entries
 
 -- ---- all of it
 
-abbrev pub daemon_rules : {R : Type 0} → (R → Accounts → Type 0) → Rules Daemon Note R
+abbrev pub daemon_rules : {R : Type 0} → (List Event → R → Accounts → Type 0) → Rules Daemon Note R
 daemon_rules shows = record {
   limit = limit_of;
   displaced = displaced_of;

@@ -7,6 +7,7 @@ use Rattle.mailstore.specs.Account.{Accounts}
 use Rattle.mailstore.specs.declared.refusal.Refusal.{Refusal}
 use Rattle.mailstore.specs.declared.refusal.Refusal.TheVariants.{Memory, NoUser, AccountClosed as ClosedAccount, TooLarge, BadEnvelope}
 use Rattle.mailengine.specs.Hosts.{Kept}
+use Rattle.mailengine.specs.declared.event.Event.{Event}
 use Rattle.mailengine.specs.Limits.{is_envelope_address}
 use Rattle.mailengine.specs.declared.answer.Answer.{Answer}
 use Rattle.mailengine.specs.declared.answer.Answer.TheVariants as answer
@@ -62,7 +63,7 @@ IsDeed (note.Did others event told) deed =
 IsDeed other deed = ⊥
 
 -- and what it makes of the store
-abbrev pub Stores : {R : Type 0} → (R → Accounts → Type 0) → R → Kept → Note → R → Kept → Type 0
+abbrev pub Stores : {R : Type 0} → (List Event → R → Accounts → Type 0) → R → Kept → Note → R → Kept → Type 0
 Stores shows r before (note.Did others event told) q after = IsDone shows others event told r before q after
 Stores shows r before (note.Asked others user lookup) q after = IsAsked shows others user lookup r before q after
 Stores shows r before other q after = NothingDone shows r before q after
@@ -70,7 +71,7 @@ Stores shows r before other q after = NothingDone shows r before q after
 -- ---- one step of a client of LMTP, apart from others
 
 -- its note tells a deed for it, of which the store and the sessions have their part; where there is room for so many octets
-pub record DoesOne {R : Type 0} (shows : R → Accounts → Type 0) (room : ℕ) (d : Daemon) (r : R) (before : Post) (now : ℕ) (note : Note) (said : List ℕ) (e : Daemon) (q : R) (after : Post) : Type 0 where
+pub record DoesOne {R : Type 0} (shows : List Event → R → Accounts → Type 0) (room : ℕ) (d : Daemon) (r : R) (before : Post) (now : ℕ) (note : Note) (said : List ℕ) (e : Daemon) (q : R) (after : Post) : Type 0 where
   pub deed : Deed
   pub is : IsDeed note deed
   pub does : Does now deed said before after
@@ -80,6 +81,6 @@ pub record DoesOne {R : Type 0} (shows : R → Accounts → Type 0) (room : ℕ)
   pub holding : e.holding ≡ holding_behind now note d.holding
 
 -- the same, where it is told
-abbrev pub DoesOneIf : {O R : Type 0} → (O → Bool) → (O → List (Act Note)) → (O → R) → (R → Accounts → Type 0) → ℕ → O → Daemon → Post → ℕ → ℕ → List ℕ → O → Daemon → Post → Type 0
+abbrev pub DoesOneIf : {O R : Type 0} → (O → Bool) → (O → List (Act Note)) → (O → R) → (List Event → R → Accounts → Type 0) → ℕ → O → Daemon → Post → ℕ → ℕ → List ℕ → O → Daemon → Post → Type 0
 DoesOneIf tells seen rest shows room o d before now id said p e after =
     IsTrue (tells p) → (note : Note) × (seen p ≡ seen o ++ Noted id note ∷ []) × DoesOne shows room d (rest o) before now note said e (rest p) after

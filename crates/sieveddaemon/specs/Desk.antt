@@ -1,5 +1,5 @@
 -- What bringing an event to the store comes to.
-use Rattle.std.specs.Prelude.{◌≡◌, ℕ, ◌||◌, Bool, List, [], ◌∷◌, Option, Some, None, IsSome, IsTrue}
+use Rattle.std.specs.Prelude.{◌≡◌, ℕ, ◌||◌, Bool, List, [], ◌∷◌, ◌++◌, Option, Some, None, IsSome, IsTrue}
 use Rattle.lmtp.specs.declared.receiver.Lookup.{Lookup}
 use Rattle.lmtp.specs.declared.receiver.Lookup.TheVariants.{Known, Unknown, Away as Absent}
 use Rattle.std.specs.FinMap.{get}
@@ -10,7 +10,7 @@ use Rattle.mailengine.specs.World.{World, Clients, Next, Runs}
 use Rattle.mailengine.specs.declared.answer.Answer.{Answer}
 use Rattle.mailengine.specs.declared.event.Event.{Event}
 use Rattle.mailengine.specs.declared.event.Event.TheVariants.{Open, Give, Step, GiveUp, Close, Deliver}
-use Rattle.mailmoves.specs.Enduring.{Endures}
+use Rattle.mailmoves.specs.Enduring.{Endures, AreTried, refused_of}
 use Rattle.mailposts.specs.declared.demand.Parcel.{Parcel}
 use Rattle.wires.specs.declared.act.Act.{Act}
 use Rattle.wires.specs.declared.act.Act.TheVariants.{Noted, Worked}
@@ -18,9 +18,9 @@ use Rattle.wires.specs.Told.{TellsIf}
 use Rattle.sieveddaemon.specs.declared.note.Note.{Note}
 use Rattle.sieveddaemon.specs.declared.note.Note.TheVariants.{Did, Away, Asked, Looked}
 
--- whatever accounts were shown, they are shown
-abbrev pub StillShows : {R : Type 0} → (R → Accounts → Type 0) → R → R → Type 0
-StillShows shows r q = (accounts : Accounts) → shows r accounts → shows q accounts
+-- whatever accounts were shown, they are shown, whichever events were tried
+abbrev pub StillShows : {R : Type 0} → (List Event → R → Accounts → Type 0) → R → R → Type 0
+StillShows shows r q = (tried : List Event) (accounts : Accounts) → shows tried r accounts → shows tried q accounts
 
 -- an event of another process: it names no session that there is
 abbrev pub IsOthers : Clients → Event → Type 0
@@ -50,19 +50,21 @@ pub record IsWorld {R : Type 0} (shows : R → Accounts → Type 0) (r : R) (kep
   pub shown : shows r w.accounts
   pub sessions : HasClients kept w.sessions
 
--- the event with this answer was done, behind those of others, whatever accounts the store showed
-abbrev pub IsDone : {R : Type 0} → (R → Accounts → Type 0) → List Event → Event → Answer → R → Kept → R → Kept → Type 0
+-- the event with this answer was done, behind those of others, whatever accounts the store showed; those of others were tried, and the
+-- event, where it was refused
+abbrev pub IsDone : {R : Type 0} → (List Event → R → Accounts → Type 0) → List Event → Event → Answer → R → Kept → R → Kept → Type 0
 IsDone shows others event answer r before q after =
-    (w : World) → IsWorld shows r before w → (next : World) × DoneAt others event answer w next × IsWorld shows q after next
+    (tried : List Event) → AreTried tried (others ++ refused_of event answer) → (w : World) → IsWorld (shows tried) r before w
+    → (next : World) × DoneAt others event answer w next × IsWorld (shows tried) q after next
 
 -- whatever accounts and sessions there were, there are
-pub record NothingDone {R : Type 0} (shows : R → Accounts → Type 0) (r : R) (before : Kept) (q : R) (after : Kept) : Type 0 where
+pub record NothingDone {R : Type 0} (shows : List Event → R → Accounts → Type 0) (r : R) (before : Kept) (q : R) (after : Kept) : Type 0 where
   pub shown : StillShows shows r q
   pub kept : KeepsClients before after
 
 -- an event was done and answered, or the store wasn't to be had and nothing was; where something is told, it is that. `clean`: the disk
 -- returned what was written
-abbrev pub Carries : {O R : Type 0} → (O → Bool) → (O → List (Act Note)) → (O → R) → (R → Accounts → Type 0) → (R → Type 0) → ℕ → Event → O → Kept → Option Answer → O → Kept → Type 0
+abbrev pub Carries : {O R : Type 0} → (O → Bool) → (O → List (Act Note)) → (O → R) → (List Event → R → Accounts → Type 0) → (R → Type 0) → ℕ → Event → O → Kept → Option Answer → O → Kept → Type 0
 Carries tells seen rest shows clean id event old before (Some answer) new after =
     (others : List Event) × (clean (rest new) → IsDone shows others event answer (rest old) before (rest new) after)
     × TellsIf tells seen old (Noted id (Did others event answer)) new
@@ -70,12 +72,12 @@ Carries tells seen rest shows clean id event old before None new after =
     (clean (rest new) → NothingDone shows (rest old) before (rest new) after) × TellsIf tells seen old (Noted id Away) new
 
 -- it was looked whether somebody waits; the store was given back where somebody does, or where it `rests`; no account changed
-abbrev pub Looks : {O R : Type 0} → (O → Bool) → (O → List (Act Note)) → (O → R) → (R → Accounts → Type 0) → (R → Type 0) → O → Bool → Bool → O → Type 0
+abbrev pub Looks : {O R : Type 0} → (O → Bool) → (O → List (Act Note)) → (O → R) → (List Event → R → Accounts → Type 0) → (R → Type 0) → O → Bool → Bool → O → Type 0
 Looks tells seen rest shows clean old rests gave new =
     (clean (rest new) → StillShows shows (rest old) (rest new)) × ((wanted : Bool) × (gave ≡ (rests || wanted)) × TellsIf tells seen old (Worked (Looked wanted)) new)
 
 -- the same, where it is told
-abbrev pub StillShowsIf : {O R : Type 0} → (O → Bool) → (O → R) → (R → Accounts → Type 0) → O → O → Type 0
+abbrev pub StillShowsIf : {O R : Type 0} → (O → Bool) → (O → R) → (List Event → R → Accounts → Type 0) → O → O → Type 0
 StillShowsIf tells rest shows old new = IsTrue (tells new) → StillShows shows (rest old) (rest new)
 
 -- what was found of an account of that name, among these; one that was removed isn't there
@@ -87,7 +89,7 @@ IsFoundIn accounts user lookup = Unit {0}
 
 -- the same of a store, as it is behind that: it shows what it showed, and a crash leaves what it left (`Endures`)
 abbrev pub Finds : List ℕ → Lookup → State → State → Type 0
-Finds user lookup old new = HasCleanDisk new → (accounts : Accounts) → Endures old accounts → IsFoundIn accounts user lookup × Endures new accounts
+Finds user lookup old new = HasCleanDisk new → (tried : List Event) (accounts : Accounts) → Endures tried old accounts → IsFoundIn accounts user lookup × Endures tried new accounts
 
 -- from a world others' events lead to accounts, and that was found in them; nothing else changes
 pub record FindsAt (others : List Event) (user : List ℕ) (lookup : Lookup) (w next : World) : Type 0 where
@@ -97,11 +99,11 @@ pub record FindsAt (others : List Event) (user : List ℕ) (lookup : Lookup) (w 
   pub apart : next.sessions ≡ w.sessions
   pub found : IsFoundIn next.accounts user lookup
 
-abbrev pub IsAsked : {R : Type 0} → (R → Accounts → Type 0) → List Event → List ℕ → Lookup → R → Kept → R → Kept → Type 0
+abbrev pub IsAsked : {R : Type 0} → (List Event → R → Accounts → Type 0) → List Event → List ℕ → Lookup → R → Kept → R → Kept → Type 0
 IsAsked shows others user lookup r before q after =
-    (w : World) → IsWorld shows r before w → (next : World) × FindsAt others user lookup w next × IsWorld shows q after next
+    (tried : List Event) → AreTried tried others → (w : World) → IsWorld (shows tried) r before w → (next : World) × FindsAt others user lookup w next × IsWorld (shows tried) q after next
 
-abbrev pub LooksUp : {O R : Type 0} → (O → Bool) → (O → List (Act Note)) → (O → R) → (R → Accounts → Type 0) → (R → Type 0) → ℕ → List ℕ → O → Kept → Option Lookup → O → Kept → Type 0
+abbrev pub LooksUp : {O R : Type 0} → (O → Bool) → (O → List (Act Note)) → (O → R) → (List Event → R → Accounts → Type 0) → (R → Type 0) → ℕ → List ℕ → O → Kept → Option Lookup → O → Kept → Type 0
 LooksUp tells seen rest shows clean id user old before (Some lookup) new after =
     (others : List Event) × (clean (rest new) → IsAsked shows others user lookup (rest old) before (rest new) after)
     × TellsIf tells seen old (Noted id (Asked others user lookup)) new
@@ -113,6 +115,6 @@ abbrev pub delivery_of : Parcel → ℕ → Event
 delivery_of parcel moment = Deliver parcel.user (record { from = parcel.sender; to = parcel.recipient }) parcel.message moment
 
 -- the same as `Carries`, at a moment that the call has read
-abbrev pub Delivers : {O R : Type 0} → (O → Bool) → (O → List (Act Note)) → (O → R) → (R → Accounts → Type 0) → (R → Type 0) → ℕ → Parcel → O → Kept → Option Answer → O → Kept → Type 0
+abbrev pub Delivers : {O R : Type 0} → (O → Bool) → (O → List (Act Note)) → (O → R) → (List Event → R → Accounts → Type 0) → (R → Type 0) → ℕ → Parcel → O → Kept → Option Answer → O → Kept → Type 0
 Delivers tells seen rest shows clean id parcel old before answer new after =
     (moment : ℕ) × Carries tells seen rest shows clean id (delivery_of parcel moment) old before answer new after

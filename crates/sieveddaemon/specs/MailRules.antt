@@ -6,6 +6,7 @@ use Rattle.lmtp.specs.Receivers.{IsDropped}
 use Rattle.lmtp.specs.Replies.{greeting, line_of}
 use Rattle.lmtp.specs.declared.reply.Reply.TheVariants.{Idle}
 use Rattle.mailstore.specs.Account.{Accounts}
+use Rattle.mailengine.specs.declared.event.Event.{Event}
 use Rattle.mailposts.specs.Posts.{new_post}
 use Rattle.mailposts.specs.Stands.{Stands, Keeps, Hears}
 use Rattle.mailposts.specs.Tallies.{wanted, due}
@@ -147,7 +148,7 @@ pub record PostGives (d : MailDaemon) (now id : ℕ) (piece said : List ℕ) (e 
   pub takes : TakesPiece fitted now id piece e
 
 -- one step is one deed, which the note tells; a MAIL is refused only where it announces more than there is room for
-pub record PostGoes {R : Type 0} (shows : R → Accounts → Type 0) (d : MailDaemon) (r : R) (now id : ℕ) (note : Note) (said : List ℕ) (e : MailDaemon) (q : R) : Type 0 where
+pub record PostGoes {R : Type 0} (shows : List Event → R → Accounts → Type 0) (d : MailDaemon) (r : R) (now id : ℕ) (note : Note) (said : List ℕ) (e : MailDaemon) (q : R) : Type 0 where
   pub before : Post
   pub was : post_at d id ≡ Some before
   pub after : Post
@@ -178,12 +179,12 @@ abbrev pub GivesBy : MailDaemon → ℕ → ℕ → List ℕ → List ℕ → Ma
 GivesBy d now id piece said e = PostGives d now id piece said e ⊎ SessionGives d now id piece said e
 
 -- the daemon goes on with one, by its own rules
-pub record SessionGoes {R : Type 0} (shows : R → Accounts → Type 0) (d : MailDaemon) (r : R) (now id : ℕ) (note : Note) (said : List ℕ) (e : MailDaemon) (q : R) : Type 0 where
+pub record SessionGoes {R : Type 0} (shows : List Event → R → Accounts → Type 0) (d : MailDaemon) (r : R) (now id : ℕ) (note : Note) (said : List ℕ) (e : MailDaemon) (q : R) : Type 0 where
   pub other : post_at d id ≡ None
   pub goes : Goes shows d.daemon r now id note said e.daemon q
   pub same : SamePosts d e
 
-abbrev pub GoesBy : {R : Type 0} → (R → Accounts → Type 0) → MailDaemon → R → ℕ → ℕ → Note → List ℕ → MailDaemon → R → Type 0
+abbrev pub GoesBy : {R : Type 0} → (List Event → R → Accounts → Type 0) → MailDaemon → R → ℕ → ℕ → Note → List ℕ → MailDaemon → R → Type 0
 GoesBy shows d r now id note said e q = PostGoes shows d r now id note said e q ⊎ SessionGoes shows d r now id note said e q
 
 -- what is said last to one that is late or makes room, by what is known of it (RFC 5321, 4.5.3.2.7; RFC 5804, 1.2)
@@ -197,7 +198,7 @@ pub record Parts (d : MailDaemon) (id : ℕ) (said : List ℕ) (e : MailDaemon) 
   pub stays : e ≡ d
 
 -- the daemon does something by itself, by its own rules
-pub record Works {R : Type 0} (shows : R → Accounts → Type 0) (d : MailDaemon) (r : R) (now : ℕ) (note : Note) (e : MailDaemon) (q : R) : Type 0 where
+pub record Works {R : Type 0} (shows : List Event → R → Accounts → Type 0) (d : MailDaemon) (r : R) (now : ℕ) (note : Note) (e : MailDaemon) (q : R) : Type 0 where
   pub does : DoesWork shows d.daemon r now note e.daemon q
   pub same : SamePosts d e
 
@@ -212,7 +213,7 @@ pub record ClosesBy (d : MailDaemon) (id : ℕ) (e : MailDaemon) : Type 0 where
   pub posts : Posts d id None e
   pub host : SameHost d e
 
-abbrev pub mail_rules : {R : Type 0} → (R → Accounts → Type 0) → Rules MailDaemon Note R
+abbrev pub mail_rules : {R : Type 0} → (List Event → R → Accounts → Type 0) → Rules MailDaemon Note R
 mail_rules shows = record {
   limit = limit_for;
   displaced = displaced_for;

@@ -7,7 +7,8 @@ use Rattle.mailengine.specs.World.{World, Runs}
 use Rattle.mailengine.specs.declared.answer.Answer.{Answer}
 use Rattle.mailengine.specs.declared.event.Event.{Event}
 use Rattle.mailengine.specs.declared.event.Event.TheVariants.{TakeMail}
-use Rattle.mailmoves.specs.Moving.{IsFirst, span_behind}
+use Rattle.mailmoves.specs.Enduring.{AreTried}
+use Rattle.mailmoves.specs.Moving.{IsFirst, refused_in, span_behind}
 use Rattle.mailmoves.specs.declared.moving.Moving.{Moving}
 use Rattle.mailmoves.specs.declared.moving.Moving.TheVariants as moving
 use Rattle.wires.specs.declared.act.Act.{Act}
@@ -34,10 +35,11 @@ abbrev pub MovedAt : List Event → Moving → World → World → Type 0
 MovedAt others (moving.Kept mail answer) w next = TakenAt others mail answer w next
 MovedAt others other w next = LetAt others w next
 
--- the same, whatever accounts the store showed
-abbrev pub IsMoved : {R : Type 0} → (R → Accounts → Type 0) → List Event → Moving → R → Kept → R → Kept → Type 0
+-- the same, whatever accounts the store showed; events of others were tried, and the one that takes the message, where it was refused
+abbrev pub IsMoved : {R : Type 0} → (List Event → R → Accounts → Type 0) → List Event → Moving → R → Kept → R → Kept → Type 0
 IsMoved shows others moving r before q after =
-    (w : World) → IsWorld shows r before w → (next : World) × MovedAt others moving w next × IsWorld shows q after next
+    (tried : List Event) → AreTried tried (others ++ refused_in moving) → (w : World) → IsWorld (shows tried) r before w
+    → (next : World) × MovedAt others moving w next × IsWorld (shows tried) q after next
 
 -- the event that takes a message out is behind the sink, which has that message then, at the end of those that it had
 abbrev pub HasKept : {R : Type 0} → (R → List KeptMail → Type 0) → Moving → R → R → Type 0
@@ -54,7 +56,7 @@ answers_of (moving.Kept mail answer) = answer ∷ []
 answers_of other = []
 
 -- a call of the desk; where something is told, it is that. `clean`: the disk returned what was written
-abbrev pub MovesOn : {O R : Type 0} → (O → Bool) → (O → List (Act Note)) → (O → R) → (R → Accounts → Type 0) → (R → List KeptMail → Type 0) → (R → Type 0) → O → Kept → Option ℕ → O → Kept → Type 0
+abbrev pub MovesOn : {O R : Type 0} → (O → Bool) → (O → List (Act Note)) → (O → R) → (List Event → R → Accounts → Type 0) → (R → List KeptMail → Type 0) → (R → Type 0) → O → Kept → Option ℕ → O → Kept → Type 0
 MovesOn tells seen rest shows has clean old before (Some span) new after =
     (others : List Event) × (moving : Moving) × (span ≡ span_behind moving) × (clean (rest new) → IsMoved shows others moving (rest old) before (rest new) after)
     × HasKept has moving (rest old) (rest new) × TellsIf tells seen old (Worked (Moved others moving)) new

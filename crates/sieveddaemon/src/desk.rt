@@ -21,8 +21,8 @@ use wires::outside::Outside;
 /// Where events are brought to a store that other processes use too. Each call but those that only tell asks for the store
 /// where it isn't had, and keeps it until it is given back.
 pub trait Desk: Outside<Note = Note> {
-    /// Which accounts the store shows.
-    ghost shows: { Self.Rest → Accounts → Type 0 };
+    /// Which accounts the store shows, while these events were tried: their changes may be on the disk, although they aren't shown.
+    ghost shows: { List Event → Self.Rest → Accounts → Type 0 };
 
     /// What an open after a crash at this moment may find, while the store is had.
     ghost leaves: { Self.Rest → Trees → Type 0 };
@@ -84,8 +84,8 @@ pub trait Desk: Outside<Note = Note> {
         ensures kept { IsTrue (Self.tells self.new) → IsTrue (Self.tells self.old) }
         ensures looks { Looks Self.tells Self.seen Self.rest shows clean self.old rests result self.new };
 
-    // A crash leaves the accounts that are shown, or what one event makes of them, as a whole.
-    ghost left: { (rest : Self.Rest) (accounts : Accounts) → shows rest accounts → (trees : Trees) → leaves rest trees → MayLeave accounts trees };
+    // A crash leaves the accounts that are shown, or what one of the events that were tried makes of them, as a whole.
+    ghost left: { (tried : List Event) (rest : Self.Rest) (accounts : Accounts) → shows tried rest accounts → (trees : Trees) → leaves rest trees → MayLeave tried accounts trees };
 
     // Where it tells its acts, its disk doesn't lie.
     ghost sure: { (desk : Self) → IsTrue (Self.tells desk) → clean (Self.rest desk) };

@@ -10,8 +10,8 @@ use Rattle.daemonhosts.proofs.held.HeldStore.deliver.Goals as goal
 pub returns-in-Ok-deliver : goal.returns-in-Ok-deliver
 returns-in-Ok-deliver g c = λ kept clean.
     done_alone g.K.S.Store (Shows g.K.S.Store g.K.Keeper.tells g.K.Keeper.holds) c.args.self.now _ (delivery_of c.args.parcel.now c.args.moment) (Delivered c.in-Ok-deliver.report) c.in-Some.store c.deliver.new.store kept kept
-    (λ accounts shown. subst (λ o. ShowsBy g.K.S.Store g.K.Keeper.tells (g.K.Keeper.holds c.args.self.now.keeper) o accounts) c.in-Some.is shown)
-    (λ accounts shown. shown)
+    (λ tried accounts shown. subst (λ o. ShowsBy g.K.S.Store g.K.Keeper.tells tried (g.K.Keeper.holds c.args.self.now.keeper) o accounts) c.in-Some.is shown)
+    (λ tried accounts shown. shown)
     clean
     (c.in-Ok-deliver.ensures.acts.shut clean)
     (delivered_crash c.args.parcel.now c.args.moment c.as_slice-user.result.now c.as_slice-message.result.now c.in-Ok.envelope (state g.K.S.Store c.in-Some.store) (state g.K.S.Store c.deliver.new.store) kept (Ok c.in-Ok-deliver.report)
@@ -22,8 +22,8 @@ returns-in-Ok-deliver g c = λ kept clean.
 pub returns-in-Err : goal.returns-in-Err
 returns-in-Err g c = λ kept clean.
     done_alone g.K.S.Store (Shows g.K.S.Store g.K.Keeper.tells g.K.Keeper.holds) c.args.self.now _ (delivery_of c.args.parcel.now c.args.moment) (Refused c.in-Err.refusal) c.in-Some.store c.deliver.new.store kept kept
-    (λ accounts shown. subst (λ o. ShowsBy g.K.S.Store g.K.Keeper.tells (g.K.Keeper.holds c.args.self.now.keeper) o accounts) c.in-Some.is shown)
-    (λ accounts shown. shown)
+    (λ tried accounts shown. subst (λ o. ShowsBy g.K.S.Store g.K.Keeper.tells tried (g.K.Keeper.holds c.args.self.now.keeper) o accounts) c.in-Some.is shown)
+    (λ tried accounts shown. shown)
     clean
     (c.in-Err.ensures.acts.shut clean)
     (delivered_crash c.args.parcel.now c.args.moment c.as_slice-user.result.now c.as_slice-message.result.now c.in-Ok.envelope (state g.K.S.Store c.in-Some.store) (state g.K.S.Store c.deliver.new.store) kept (Err c.in-Err.refusal)

@@ -4,5 +4,5 @@ use Rattle.daemonhosts.specs.Held.{ShowsBy}
 use Rattle.daemonhosts.proofs.held.HeldStore.find.Goals as goal
 
 pub returns-clause-seeks : goal.returns-clause-seeks
-returns-clause-seeks g c = λ clean accounts shown.
-    c.find_account.ensures.finds clean accounts (subst (λ o. ShowsBy g.K.S.Store g.K.Keeper.tells (g.K.Keeper.holds c.args.self.now.keeper) o accounts) c.in-Some.is shown)
+returns-clause-seeks g c = λ clean tried accounts shown.
+    c.find_account.ensures.finds clean tried accounts (subst (λ o. ShowsBy g.K.S.Store g.K.Keeper.tells tried (g.K.Keeper.holds c.args.self.now.keeper) o accounts) c.in-Some.is shown)
