@@ -2,6 +2,7 @@
 ghost use Rattle.mailstore.specs.Account.{Accounts};
 ghost use Rattle.mailposts.specs.Posts.{IsFound};
 ghost use Rattle.mailengine.specs.Hosts.{IsGivenUp};
+ghost use Rattle.mailengine.specs.declared.event.Event.{Event};
 ghost use Rattle.std.specs.Prelude.{List};
 ghost use Rattle.sqlite_trees.specs.Tree.{Trees};
 ghost use Rattle.mailmoves.specs.Enduring.{MayLeave};

@@ -97,8 +97,8 @@ runs_in w v (act ∷ acts) led =
 
 module _ {R : Type 0} (shows : List Event → R → Accounts → Type 0) where
   -- the store and the sessions are those of a world
-  abbrev Stands : Moment MailDaemon Note R → World → Type 0
-  Stands m w = IsWorld shows m.rest m.machine.daemon.clients.sessions w
+  abbrev Stands : List Event → Moment MailDaemon Note R → World → Type 0
+  Stands tried m w = IsWorld (shows tried) m.rest m.machine.daemon.clients.sessions w
 
   -- of one for which memory was lacking that is what follows says
   full_then : (id : ℕ) (act : Act Note) (more : List (Act Note)) → IsFull id act → LacksThen id (act ∷ more)

@@ -124,7 +124,7 @@ module _ {O R : Type 0} (tells : O → Bool) (seen : O → List (Act Note)) (res
 
   -- a step from sessions that are as they were
   kept_makes : (note : Note) → KeepsClients d.clients.sessions c.sessions → Makes shows (rest o) (mid_of d c d.holding) note (rest p) e → Makes shows (rest o) d note (rest p) e
-  kept_makes (Did others event answer) keeps makes = λ w stands. makes w (record { shown = stands.shown; sessions = keeps w.sessions stands.sessions })
+  kept_makes (Did others event answer) keeps makes = λ tried are w stands. makes tried are w (record { shown = stands.shown; sessions = keeps w.sessions stands.sessions })
   kept_makes Away keeps makes = record { shown = makes.shown; kept = λ clients has. makes.kept clients (keeps clients has) }
   kept_makes Spoke keeps makes = record { shown = makes.shown; kept = λ clients has. makes.kept clients (keeps clients has) }
   kept_makes (Freed event answer) keeps makes = (makes.0, λ w has. makes.1 w (keeps w.sessions has))

@@ -4,6 +4,7 @@ ghost use Rattle.sqlite_trees.specs.Tree.{Trees};
 ghost use Rattle.mailposts.specs.Posts.{IsFound};
 ghost use Rattle.mailstore.specs.Account.{Accounts};
 ghost use Rattle.mailengine.specs.Hosts.{IsGivenUp};
+ghost use Rattle.mailengine.specs.declared.event.Event.{Event};
 ghost use Rattle.wires.specs.declared.act.Act.TheVariants.{Noted};
 ghost use Rattle.wires.specs.Told.{TellsIf};
 ghost use Rattle.sieveddaemon.specs.declared.note.Note.TheVariants.{Answered, Freed, Spoke};
