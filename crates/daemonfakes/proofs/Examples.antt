@@ -10,6 +10,7 @@ use Rattle.mailengine.specs.Hosts.{Kept}
 use Rattle.mailengine.specs.World.{World, InSession, Steps, Next, Runs}
 use Rattle.mailengine.specs.declared.answer.Answer.{Answer}
 use Rattle.mailengine.specs.declared.answer.Answer.TheVariants.{Out, Ignored}
+use Rattle.mailengine.specs.declared.event.Event.{Event}
 use Rattle.mailengine.specs.declared.event.Event.TheVariants.{Step, TakeMail}
 use Rattle.sieveddaemon.specs.Desk.{IsWorld}
 use Rattle.sieveddaemon.proofs.EventLemmas.{none_open}
@@ -23,24 +24,24 @@ a_step : (s : ℕ) → is_of_accounts (Step s) ≡ false
 a_step s = refl
 
 -- accounts as they are
-abbrev are : Accounts → Accounts → Type 0
-are held accounts = held ≡ accounts
+abbrev are : List Event → Accounts → Accounts → Type 0
+are tried held accounts = held ≡ accounts
 
 module _ (kept : Kept) (new : kept.entries ≡ []) (a b : Accounts) where
   abbrev start : World
   start = record { accounts = a; sessions = empty }
 
-  stands : IsWorld are a kept start
+  stands : IsWorld (are []) a kept start
   stands = record { shown = refl; sessions = none_open kept new }
 
   -- where there is no session a step is ignored, and is no event that is done
   ignored : IsApplied are (Step 1) Ignored a kept a kept
-  ignored = λ w is.
+  ignored = λ tried among w is.
       let none : get w.sessions 1 ≡ None = sym (is.sessions 1) ∙ ap (λ es. option_map (λ session. session.client) (lookup (tree.is_at (nat_cmp 1)) es)) new in
       (w, inl (subst (λ o. InSession w o (Steps w 1) Ignored w) (sym none) (record { ignored = refl; stays = refl })), is)
 
   never_done : IsApplied are (Step 1) (Out Done []) a kept b kept → ⊥
-  never_done applied = go (applied start stands).1
+  never_done applied = go (applied [] tt start stands).1
     where
       go : {next : World} → Next start (Step 1) (Out Done []) next → ⊥
       go {next} (inl is) =
@@ -51,7 +52,7 @@ module _ (kept : Kept) (new : kept.entries ≡ []) (a b : Accounts) where
   -- where no event is told no account changes
   same : LetsOthers are [] a kept b kept → b ≡ a
   same lets =
-      let made = lets start stands in
+      let made = lets [] tt start stands in
       made.2.shown ∙ ap (λ (w : World). w.accounts) (go made.0 made.1.told made.1.runs)
     where
       go : (between : World) (told : List Answer) → Runs start [] told between → between ≡ start

@@ -1,3 +1,4 @@
+mod Examples
 pub mod EnduringLemmas
 pub mod MoveLemmas
 pub mod RefusedLemmas

@@ -4,7 +4,8 @@ use Rattle.daemonhosts.proofs.HeldLemmas.{kept_behind}
 use Rattle.daemonhosts.proofs.host.Host.carry_on.Goals as goal
 
 pub returns-clause-moves : goal.returns-clause-moves
-returns-clause-moves g c = λ clean accounts shown. c.in_ok-moving.ensures.moves clean accounts (c.reach.ensures.shown accounts (c.may_move.ensures.shown accounts shown))
+returns-clause-moves g c = λ clean tried are accounts shown.
+    c.in_ok-moving.ensures.moves clean tried are accounts (c.reach.ensures.shown tried accounts (c.may_move.ensures.shown tried accounts shown))
 
 pub returns-clause-keeps : goal.returns-clause-keeps
 returns-clause-keeps g c =

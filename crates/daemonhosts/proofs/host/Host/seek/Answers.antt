@@ -2,4 +2,5 @@
 use Rattle.daemonhosts.proofs.host.Host.seek.Goals as goal
 
 pub returns-clause-seeks : goal.returns-clause-seeks
-returns-clause-seeks g c = λ clean accounts shown. c.in_ok-lookup.ensures.seeks clean accounts (c.reach.ensures.shown accounts (c.may_ask.ensures.shown accounts shown))
+returns-clause-seeks g c = λ clean tried accounts shown.
+    c.in_ok-lookup.ensures.seeks clean tried accounts (c.reach.ensures.shown tried accounts (c.may_ask.ensures.shown tried accounts shown))
