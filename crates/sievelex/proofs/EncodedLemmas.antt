@@ -4,11 +4,18 @@ use Rattle.std.specs.List.{fold}
 use Rattle.std.proofs.Common.{length-append}
 use Rattle.std.proofs.lemmas.List.{append-nil, drop_more, drop-drop}
 use Rattle.std.proofs.lemmas.List.Sums.{fold-append}
+use Rattle.std.proofs.lemmas.Grind.{common_steps}
+use Rattle.std.specs.Prelude.{◌&&◌, nat_eq, nat_le, take, codes}
+use Rattle.std.specs.Char.{to_ascii_lowercase}
+use Rattle.std.specs.Cmp.Lexicographic.{pointwise}
+use Rattle.memchr.specs.Find.{IsFirstByte, is_byte}
+use Rattle.octets.specs.Ascii.{lowered}
 use Rattle.sievelex.specs.declared.encoded.Coding.{Coding}
+use Rattle.sievelex.specs.declared.encoded.Coding.TheVariants.{Hex, Unicode}
 use Rattle.sievelex.specs.declared.encoded.Sequence.{Sequence}
 use Rattle.sievelex.specs.declared.encoded.Sequence.TheVariants.{Absent, OutOfRange, Present}
 use Rattle.sievelex.specs.Class.{is_white}
-use Rattle.sievelex.specs.Encoded.{with_hex, hex_number, word_value, value_of, joined, values_of, ended, words_from, sequence_at, decoded_after}
+use Rattle.sievelex.specs.Encoded.{with_hex, hex_number, word_value, value_of, joined, values_of, ended, words_from, begins_with, opening_of, closed_by, sequence_at, decoded_after, decoded}
 
 -- ---- one text after another
 
@@ -81,6 +88,25 @@ module _ (coding : Coding) (value word : List ℕ) where
 
 -- ---- a text
 
+-- what begins with another octet than `$` begins no sequence
+not_dollar : (b : ℕ) → (b ≡ 36 → ⊥) → nat_eq (to_ascii_lowercase b) 36 ≡ false
+not_dollar b other = grind (arith, common_steps)
+
+and_false : (b : Bool) → b && false ≡ false
+and_false true = refl
+and_false false = refl
+
+plain_absent : (b : ℕ) (s : List ℕ) → (b ≡ 36 → ⊥) → sequence_at (b ∷ s) ≡ Absent
+plain_absent b s other =
+    let first = not_dollar b other in
+    let hex : begins_with (codes "${hex:") (b ∷ s) ≡ false =
+    ap (λ x. nat_le 6 (length (b ∷ s)) && (x && pointwise nat_eq (lowered (take 5 s)) (lowered (codes "{hex:")))) first ∙ and_false (nat_le 6 (length (b ∷ s))) in
+    let unicode : begins_with (codes "${unicode:") (b ∷ s) ≡ false =
+    ap (λ x. nat_le 10 (length (b ∷ s)) && (x && pointwise nat_eq (lowered (take 9 s)) (lowered (codes "{unicode:")))) first ∙ and_false (nat_le 10 (length (b ∷ s))) in
+    let none : opening_of (b ∷ s) ≡ None =
+    ap (λ h. cond h (Some (Hex, 6)) (cond (begins_with (codes "${unicode:") (b ∷ s)) (Some (Unicode, 10)) None)) hex ∙ ap (λ u. cond u (Some (Unicode, 10)) None) unicode in
+    ap (λ o. closed_by o (b ∷ s)) none
+
 decoded_skips : (n : ℕ) (s : List ℕ) → decoded_after n s ≡ decoded_after 0 (drop n s)
 decoded_skips zero s = refl
 decoded_skips (suc n) [] = refl
@@ -99,6 +125,16 @@ module _ (b : ℕ) (s : List ℕ) (value : List ℕ) where
   pub decoded_more : (octets : List ℕ) (len : ℕ) → sequence_at (b ∷ s) ≡ Present octets (suc len) → joined (Some value) (decoded_after 0 (b ∷ s)) ≡ joined (Some (value ++ octets)) (decoded_after 0 (drop len s))
   decoded_more octets len is = let one : suc len - 1 ≡ len = omega arith in rw (is, decoded_after) (ap (λ d. joined (Some value) (joined (Some octets) d)) (ap (λ n. decoded_after n s) one ∙ decoded_skips len s) ∙ sym (joined_assoc (Some value) (Some octets) (decoded_after 0 (drop len s))))
 
+-- a text without `$` stands for itself
+nothing_encoded : (s : List ℕ) → ((j : ℕ) → 0 ≤ j → j < length s → (get_or s j 0 == 36) ≡ true → ⊥) → decoded_after 0 s ≡ Some s
+nothing_encoded [] none = refl
+nothing_encoded (b ∷ s) none =
+    let absent = plain_absent b s (λ is. none 0 (omega arith) (omega arith) (rw is refl)) in
+    rw (absent, decoded_after) (ap (joined (Some (b ∷ []))) (nothing_encoded s (λ j low high at. none (suc j) (omega arith) (omega arith) at)))
+
+pub without_dollar : (s : List ℕ) → IsFirstByte (is_byte 36) s None → decoded s ≡ Some s
+without_dollar s none = nothing_encoded s none
+
 module _ (text : List ℕ) (at : ℕ) (value new : List ℕ) (total : Option (List ℕ)) (below : at < length text) (so : joined (Some value) (decoded_after 0 (drop at text)) ≡ total) where
   here : drop at text ≡ get_or text at 0 ∷ drop (at + 1) text
   here = drop_more text at 0 below
@@ -112,6 +148,10 @@ module _ (text : List ℕ) (at : ℕ) (value new : List ℕ) (total : Option (Li
   -- an octet of no sequence
   pub plain_at : sequence_at (drop at text) ≡ Absent → new ≡ value ++ get_or text at 0 ∷ [] → joined (Some new) (decoded_after 0 (drop (at + 1) text)) ≡ total
   plain_at is grown = ap (λ v. joined (Some v) (decoded_after 0 (drop (at + 1) text))) grown ∙ sym (decoded_plain (get_or text at 0) (drop (at + 1) text) value (first Absent is)) ∙ whole
+
+  -- an octet that begins none
+  pub other_at : (get_or text at 0 ≡ 36 → ⊥) → new ≡ value ++ get_or text at 0 ∷ [] → joined (Some new) (decoded_after 0 (drop (at + 1) text)) ≡ total
+  other_at other grown = plain_at (ap sequence_at here ∙ plain_absent (get_or text at 0) (drop (at + 1) text) other) grown
 
   -- a sequence
   pub sequence_here : (octets : List ℕ) (len : ℕ) → 0 < len → sequence_at (drop at text) ≡ Present octets len → new ≡ value ++ octets → joined (Some new) (decoded_after 0 (drop (at + len) text)) ≡ total

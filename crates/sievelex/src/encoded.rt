@@ -4,6 +4,7 @@ ghost use Rattle.std.specs.List.{list_any};
 ghost use Rattle.sievelex.specs.Encoded as spec;
 
 use crate::class::is_white;
+use memchr::memchr;
 use octets::Octets;
 use std::alloc::{AllocError, Global};
 use std::char;
@@ -34,13 +35,21 @@ const BEYOND: u32 = 0x11_0000;
 /// What a string stands for where `encoded-character` is required (RFC 5228, 2.4.2.4): each `${hex: ..}` and
 /// `${unicode: ..}` in place of what it encodes, once. None where a sequence has a number that is no character's.
 ///
-/// Time and memory are linear in the text's length.
+/// Time and memory are linear in the text's length; a text without `$` is copied as it is.
 pub fn decode(alloc: Global, text: &[u8]) -> Result<Option<Octets>, AllocError>
     ensures { IfOk result (λ value. value ≡ spec.decoded text.now) }
 {
+    let Some(_first) = memchr(b'$', text) else {
+        return Ok(Some(Octets::from_slice(alloc, text)?));
+    };
     let mut value = Octets::new(alloc);
     let mut at = 0;
     while at < text.len() {
+        if text[at] != b'$' {
+            value.push(text[at])?;
+            at += 1;
+            continue;
+        }
         let (_, ahead) = text.split_at(at);
         match sequence_at(alloc, ahead)? {
             Sequence::Absent => {
