@@ -103,7 +103,7 @@ fn discard_after(alloc: Global, test: &str) -> Result<Octets, AllocError> {
         &mut script,
         &[
             Text(
-                b"require [\"envelope\", \"subaddress\", \"relational\", \"comparator-i;ascii-numeric\", \"mailbox\"]; if ",
+                b"require [\"envelope\", \"subaddress\", \"relational\", \"comparator-i;ascii-numeric\", \"encoded-character\", \"mailbox\"]; if ",
             ),
             Text(test.as_slice()),
             Text(b" { discard; }"),

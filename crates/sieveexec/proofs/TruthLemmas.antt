@@ -1,4 +1,5 @@
 -- The truth of a test is whether it holds.
+use Rattle.std.proofs.lemmas.Str.{IsUtf8-from_is_utf8, is_utf8-from_IsUtf8}
 use Rattle.std.proofs.Common.{decimal, IfOk, Result, ◌≡◌, ◌≢◌, ◌≤◌, ◌↔◌, length, ℕ, Bool, true, false, cond, ◌||◌, ◌⊎◌, inl, inr, List, [], ◌∷◌, Option, Some, None, refl, sym, ap, ◌∙◌, subst, arith}
 use Rattle.std.specs.Bool.{Decides, MatchBool}
 use Rattle.std.specs.List.{list_any, list_all, flat_map, Any, All}
@@ -102,11 +103,11 @@ some_decides_of (octet ∷ rest) = (λ h same. let no : ⊥ = cc in no, λ some.
 -- whether a text is the name of a mailbox
 mailbox_decides : (name : List ℕ) → Decides (is_mailbox name) (IsMailbox name)
 mailbox_decides name =
-    decides_as _ (λ (some, rest). record { some = some; short = rest.0; plain = rest.1 }) (λ is. (is.some, (is.short, is.plain)))
+    decides_as _ (λ (some, rest). record { some = some; short = rest.0; plain = rest.1.0; utf8 = rest.1.1 }) (λ is. (is.some, (is.short, (is.plain, is.utf8))))
     (Decides-and _ _ (some_decides_of name)
     (Decides-and _ _ (decides_as _ (λ below. omega (arith, below)) (λ most. omega (arith, most)) (Decides-ltb (length name) 256))
-    (all_decides _ (λ octet. (32 ≤ octet) × (octet ≢ 127))
-    (λ octet. Decides-and _ _ (decides_as _ (λ above. omega (arith, above)) (λ least. omega (arith, least)) (Decides-ltb 31 octet)) (Decides-not _ (Decides-eqb octet 127))) name)))
+    (Decides-and _ _ (all_decides _ (λ octet. (32 ≤ octet) × (octet ≢ 127))
+    (λ octet. Decides-and _ _ (decides_as _ (λ above. omega (arith, above)) (λ least. omega (arith, least)) (Decides-ltb 31 octet)) (Decides-not _ (Decides-eqb octet 127))) name) (IsUtf8-from_is_utf8 name, is_utf8-from_IsUtf8 name))))
 
 -- the names of `mailboxexists`, by another test of them
 pub mailboxes_same : (result : Bool) (names : List (List ℕ)) → (result ≡ true) ↔ All IsMailbox names → result ≡ list_all is_mailbox names

@@ -1,6 +1,7 @@
 -- The truth of tests at a mail: true exactly where the test holds (`truth_of_a_check` of laws.rt).
 use Rattle.std.specs.Prelude.{◌==◌, ℕ, Bool, true, false, cond, not, ◌&&◌, ◌||◌, nat_lt, length, decimal, List, [], ◌∷◌, Option, Some, None}
 use Rattle.std.specs.List.{list_any, list_all}
+use Rattle.std.specs.Str.{is_utf8}
 use Rattle.sievesyntax.specs.declared.tree.checks.Bound.{Bound}
 use Rattle.sievesyntax.specs.declared.tree.checks.Bound.TheVariants.{Over, Under}
 use Rattle.sievesyntax.specs.declared.tree.checks.Header.{Header as HeaderTest}
@@ -23,7 +24,7 @@ is_beyond Under size limit = nat_lt size limit
 
 -- whether a text is the name of a mailbox
 abbrev pub is_mailbox : List ℕ → Bool
-is_mailbox name = is_some_of name && (nat_lt (length name) 256 && list_all (λ octet. nat_lt 31 octet && not (octet == 127)) name)
+is_mailbox name = is_some_of name && (nat_lt (length name) 256 && (list_all (λ octet. nat_lt 31 octet && not (octet == 127)) name && is_utf8 name))
 
 -- whether there are some
 abbrev pub is_some_there : List (List ℕ) → Bool

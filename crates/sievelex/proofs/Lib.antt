@@ -1,7 +1,9 @@
 pub mod Best
 pub mod Bodies
 pub mod Digits
+mod EncodedExamples
 mod Examples
+pub mod EncodedLemmas
 pub mod FaultLemmas
 pub mod Gaps
 pub mod Indexed

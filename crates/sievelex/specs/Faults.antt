@@ -1,6 +1,6 @@
 use Rattle.std.specs.Prelude.{ℕ, List, ◌++◌, codes, decimal}
 use Rattle.sievelex.specs.declared.fault.FaultKind.{FaultKind}
-use Rattle.sievelex.specs.declared.fault.FaultKind.TheVariants.{NotUtf8, BadByte, OpenString, OpenComment, NumberTooLarge, Unexpected, UnknownCommand, UnknownTest, UnknownTag, DoubleTag, MissingArgument, ExtraArgument, WrongArgument, NotRequired, UnknownCapability, LateRequire, StrayElse, TooDeep, BadMailbox, BadAddress, BadMime, LongReasonLine}
+use Rattle.sievelex.specs.declared.fault.FaultKind.TheVariants.{NotUtf8, BadByte, OpenString, OpenComment, NumberTooLarge, Unexpected, UnknownCommand, UnknownTest, UnknownTag, DoubleTag, MissingArgument, ExtraArgument, WrongArgument, NotRequired, UnknownCapability, LateRequire, StrayElse, TooDeep, BadMailbox, BadAddress, BadMime, LongReasonLine, BadCharacter}
 
 -- the number of a fault's kind
 abbrev pub number_of : FaultKind → ℕ
@@ -26,6 +26,7 @@ number_of BadMailbox = 19
 number_of BadAddress = 20
 number_of BadMime = 21
 number_of LongReasonLine = 22
+number_of BadCharacter = 23
 
 -- the words that tell a script's author of a fault
 abbrev pub text_of : FaultKind → List ℕ
@@ -51,6 +52,7 @@ text_of BadMailbox = codes "bad mailbox name"
 text_of BadAddress = codes "bad address"
 text_of BadMime = codes "bad MIME reason"
 text_of LongReasonLine = codes "reason line too long"
+text_of BadCharacter = codes "no such character"
 
 -- a fault in words: the line, counted from 1, and what is wrong there
 abbrev pub fault_line : ℕ → FaultKind → List ℕ

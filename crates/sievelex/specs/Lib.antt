@@ -2,6 +2,7 @@ pub mod Body
 pub mod Class
 pub mod Contents
 pub mod Digits
+pub mod Encoded
 pub mod Faults
 pub mod Finding
 pub mod Front

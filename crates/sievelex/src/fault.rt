@@ -53,12 +53,14 @@ pub enum FaultKind {
     BadMime = 21,
     /// A line of a vacation reason with more than 998 octets.
     LongReasonLine = 22,
+    /// A string with an encoded character that there isn't.
+    BadCharacter = 23,
 }
 
 impl FaultKind {
     ghost use Rattle.sievelex.specs.Faults.{number_of, text_of};
 
-    /// The kind's number, from 1 to 22.
+    /// The kind's number, from 1 to 23.
     pub fn number(self) -> u8
         ensures { result ≡ number_of self }
     {
@@ -92,6 +94,7 @@ impl FaultKind {
             FaultKind::BadAddress => "bad address",
             FaultKind::BadMime => "bad MIME reason",
             FaultKind::LongReasonLine => "reason line too long",
+            FaultKind::BadCharacter => "no such character",
         }
     }
 }

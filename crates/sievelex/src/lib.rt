@@ -2,6 +2,7 @@
 #![tactic(auto)]
 
 mod class;
+mod encoded;
 mod fault;
 mod front;
 pub mod laws;
@@ -14,6 +15,7 @@ mod space;
 mod text;
 mod token;
 
+pub use encoded::decode;
 pub use fault::{FaultKind, ScriptError, ScriptFault};
 pub use packed::{ContentRef, Cursor, Packed, line_of, pack};
 pub use scanner::tokens;

@@ -4,7 +4,7 @@ use Rattle.sievelex.specs.declared.token.Mark.TheVariants as K
 use Rattle.sievesyntax.specs.declared.table.keyword.Keyword.{Keyword}
 use Rattle.sievesyntax.specs.declared.table.keyword.Keyword.TheVariants as W
 use Rattle.sievesyntax.specs.declared.table.capability.Capabilities.{Capabilities}
-use Rattle.sievesyntax.specs.Lexemes.{Lexeme, keyword, tag, number, text, mark}
+use Rattle.sievesyntax.specs.Lexemes.{Lexeme, keyword, tag, number, text, mark, misfit}
 use Rattle.sievesyntax.specs.Chains.{Chain}
 use Rattle.sievesyntax.specs.Tree.{TestTree, yes, CommandTree, require, choose, stop, act, Branches, no_branches, branch, Commands, no_commands, command, depth, depth_of, branches_depth}
 use Rattle.sievesyntax.specs.View.{commands_of, branches_of}
@@ -164,6 +164,7 @@ past_elsif (keyword W.Other ∷ _) past = tt
 past_elsif (tag _ ∷ _) past = tt
 past_elsif (number _ ∷ _) past = tt
 past_elsif (text _ ∷ _) past = tt
+past_elsif (misfit ∷ _) past = tt
 past_elsif (mark _ ∷ _) past = tt
 
 module _ (granted : Capabilities) (room : ℕ) where

@@ -39,11 +39,12 @@ use Rattle.sievesyntax.specs.declared.tree.checks.Check.TheVariants as Q
 use Rattle.sievesyntax.specs.declared.tree.vacation.VacArgs.{VacArgs}
 use Rattle.sievesyntax.specs.Before.{outcome_in, IsOfBefore, EachIn, IsFormerCheck, EachAsksIn}
 use Rattle.sievesyntax.specs.Grammar.{IsStatement, IsCommand, ReadsScript}
-use Rattle.sievesyntax.specs.Languages.{lexeme_in, lexemes_in, is_capability_before, today, before, former}
-use Rattle.sievesyntax.specs.Lexemes.{Lexeme, keyword, tag, number, text, mark, lexemes_of}
+use Rattle.sievesyntax.specs.Languages.{lexeme_in, lexemes_in, read_in, is_capability_before, today, before, former}
+use Rattle.sievesyntax.specs.Lexemes.{Lexeme, keyword, tag, number, text, mark, misfit, lexemes_of}
 use Rattle.sievesyntax.specs.Meaning.{Done}
 use Rattle.sievesyntax.specs.Means.{MeansIn, Means}
 use Rattle.sievesyntax.specs.Tree.{looks, CommandTree, require, choose, act, no_branches, branch, Commands, no_commands, command}
+use Rattle.sievesyntax.specs.Vacations.{IsNamedAs}
 use Rattle.sievesyntax.specs.Valid.{is_capability, IsValidIn}
 use Rattle.sievesyntax.proofs.LanguageLaws.{still_means}
 use Rattle.sievesyntax.proofs.LanguageLemmas.{AreKnownLexemes, script_known}
@@ -81,6 +82,30 @@ days_before = refl
 -- at today's language each token is seen as it is
 lexemes_today : (contents : List Content) → lexemes_in today contents ≡ lexemes_of contents
 lexemes_today contents = refl
+
+-- ---- encoded characters (RFC 5228, 2.4.2.4)
+
+-- `require ["encoded-character", "$${hex:40}"]; redirect "c${hex:40}d"; redirect "${unicode:d800}";`
+abbrev encoded : List Content
+encoded =
+    C.Identifier (codes "require") ∷ (C.Mark K.OpenBracket ∷ (C.Text (codes "encoded-character") ∷ (C.Mark K.Comma ∷ (C.Text (codes "$${hex:40}") ∷ (C.Mark K.CloseBracket ∷ (C.Mark K.Semicolon
+    ∷ (C.Identifier (codes "redirect") ∷ (C.Text (codes "c${hex:40}d") ∷ (C.Mark K.Semicolon ∷ (C.Identifier (codes "redirect") ∷ (C.Text (codes "${unicode:d800}") ∷ (C.Mark K.Semicolon ∷ []))))))))))))
+
+-- a string is decoded behind the semicolon, and one with a surrogate is none
+encoded_today : read_in today encoded
+    ≡ keyword W.Require ∷ (mark K.OpenBracket ∷ (text (codes "encoded-character") ∷ (mark K.Comma ∷ (text (codes "$${hex:40}") ∷ (mark K.CloseBracket ∷ (mark K.Semicolon
+    ∷ (keyword W.Redirect ∷ (text (codes "c@d") ∷ (mark K.Semicolon ∷ (keyword W.Redirect ∷ (misfit ∷ (mark K.Semicolon ∷ []))))))))))))
+encoded_today = refl
+
+-- each was read as it is written
+encoded_formerly : read_in former encoded ≡ lexemes_of encoded
+encoded_formerly = refl
+
+-- where another word stands before, or the name is written in capitals, it is still
+encoded_late : (read_in today (C.Identifier (codes "keep") ∷ (C.Mark K.Semicolon ∷ encoded)) ≡ keyword W.Keep ∷ (mark K.Semicolon ∷ lexemes_of encoded))
+    × (read_in today (C.Identifier (codes "require") ∷ (C.Text (codes "Encoded-Character") ∷ (C.Mark K.Semicolon ∷ (C.Identifier (codes "redirect") ∷ (C.Text (codes "c${hex:40}d") ∷ [])))))
+    ≡ keyword W.Require ∷ (text (codes "Encoded-Character") ∷ (mark K.Semicolon ∷ (keyword W.Redirect ∷ (text (codes "c${hex:40}d") ∷ [])))))
+encoded_late = (refl, refl)
 
 -- ---- outcomes
 
@@ -181,9 +206,12 @@ after_require capability more from reads = (from, ((W.Require, (text capability 
       ),
     )
 
-names_target : IsOutbound (codes "c@d") [] target
+names_it : IsOutbound (codes "c@d") [] target
 unfolding outbound pieces
-names_target = outbound-is (codes "c@d") [] target refl
+names_it = outbound-is (codes "c@d") [] target refl
+
+names_target : IsNamedAs (codes "c@d") [] target
+names_target = ((plain_text (codes "c@d") refl refl).utf8, names_it)
 
 -- `redirect "c@d";`
 abbrev redirect : List ℕ
@@ -411,7 +439,7 @@ answers_today = record {
         };
         tree_is = refl;
       })));
-  valid = record { known = one_known is_capability (codes "vacation-seconds") refl; stand = ((refl, λ is. refl, record { narrow = refl; entity = λ is. absurd (cc is) }), tt); shallow = lit≤ tt };
+  valid = record { known = one_known is_capability (codes "vacation-seconds") refl; stand = ((refl, λ is. refl, record { utf8 = (plain_text (codes "x") refl refl).utf8; whole = refl; narrow = refl; entity = λ is. absurd (cc is) }), tt); shallow = lit≤ tt };
 }
   where
     answered : List Lexeme

@@ -17,12 +17,14 @@ use Rattle.sievesyntax.specs.declared.tree.checks.Check.TheVariants.{Size, Exist
 use Rattle.sievesyntax.specs.declared.tree.vacation.VacArgs.{VacArgs}
 use Rattle.sievesyntax.specs.Before.{with_cancelled, performed_in, outcome_in, IsOfBefore, EachAction, EachInBranches, EachIn, StillMeans, IsFormerMatch, IsFormerCheck, IsFormerAction, EachCheck, EachCheckOf, EachAsks, EachAsksInBranches, EachAsksIn, MeansFormerly}
 use Rattle.sievesyntax.specs.Languages.{Language, is_capability_before, is_former_capability, today, before, former}
+use Rattle.sievesyntax.specs.Lexemes.{lexemes_of}
 use Rattle.sievesyntax.specs.Meaning.{holds, ended, outcome}
 use Rattle.sievesyntax.specs.Means.{MeansIn}
 use Rattle.sievesyntax.specs.RunState.{RunState, at_first, max_targets, TwoVacations, Flow, Going, Stopped, Failed, and_then, cancelled_after, same_target, sent_to, replied_by, performed}
 use Rattle.sievesyntax.specs.Trace.{Trace, then_runs, runs, runs_branch, runs_all, actions_run, in_turn_by, in_turn}
 use Rattle.sievesyntax.specs.Tree.{TestTree, yes, no, looks, not_of, all_of, any_of, Tests, no_tests, test, CommandTree, require, choose, stop, act, Branches, no_branches, branch, Commands, no_commands, command}
 use Rattle.sievesyntax.specs.Valid.{is_named, is_capability, granted_by, is_subaddress, is_relational, is_numeric, MayPart, MayMatch, MayCheck, MayTest, MayAllTest, MayAct, MayStand, MayBranch, MayAllStand, required, after_requires, IsValid, IsValidIn}
+use Rattle.sievesyntax.proofs.DecodingLemmas.{read_as_written}
 use Rattle.sievesyntax.proofs.LanguageLemmas.{read_today}
 use Rattle.sievesyntax.proofs.TraceLemmas.{outcome_in_turn}
 
@@ -75,12 +77,15 @@ seven_more false false c d e f g h is = five_more c d e f g h is
 known_formerly : (name : List ℕ) → is_former_capability name ≡ true → is_capability name ≡ true
 known_formerly name =
     seven_more (is_named (codes "fileinto") name) (is_named (codes "envelope") name) (is_named (codes "vacation") name) (is_named (codes "comparator-i;octet") name) (is_named (codes "comparator-i;ascii-casemap") name)
-    (is_named (codes "copy") name) (is_named (codes "vacation-seconds") name) (is_named (codes "subaddress") name || (is_named (codes "relational") name || (is_named (codes "comparator-i;ascii-numeric") name || is_named (codes "mailbox") name)))
+    (is_named (codes "copy") name) (is_named (codes "vacation-seconds") name) (is_named (codes "subaddress") name || (is_named (codes "relational") name || (is_named (codes "comparator-i;ascii-numeric") name || (is_named (codes "encoded-character") name || is_named (codes "mailbox") name))))
+
+still_former : (name : List ℕ) → is_capability_before name ≡ true → is_former_capability name ≡ true
+still_former name =
+    five_more (is_named (codes "fileinto") name) (is_named (codes "envelope") name) (is_named (codes "vacation") name) (is_named (codes "comparator-i;octet") name) (is_named (codes "comparator-i;ascii-casemap") name)
+    (is_named (codes "copy") name || is_named (codes "vacation-seconds") name)
 
 still_known : (name : List ℕ) → is_capability_before name ≡ true → is_capability name ≡ true
-still_known name is = known_formerly name
-    (five_more (is_named (codes "fileinto") name) (is_named (codes "envelope") name) (is_named (codes "vacation") name) (is_named (codes "comparator-i;octet") name) (is_named (codes "comparator-i;ascii-casemap") name)
-    (is_named (codes "copy") name || is_named (codes "vacation-seconds") name) is)
+still_known name is = known_formerly name (still_former name is)
 
 -- what follows of each name follows of all
 of_all : (P Q : List ℕ → Type 0) → ((name : List ℕ) → P name → Q name) → (names : List (List ℕ)) → All P names → All Q names
@@ -169,6 +174,9 @@ no_relational name = apart_formerly (codes "relational") name refl refl refl ref
 
 no_numeric : (name : List ℕ) → is_former_capability name ≡ true → is_named (codes "comparator-i;ascii-numeric") name ≡ false
 no_numeric name = apart_formerly (codes "comparator-i;ascii-numeric") name refl refl refl refl refl refl refl
+
+no_encoded : (name : List ℕ) → is_former_capability name ≡ true → is_named (codes "encoded-character") name ≡ false
+no_encoded name = apart_formerly (codes "encoded-character") name refl refl refl refl refl refl refl
 
 no_mailbox : (name : List ℕ) → is_former_capability name ≡ true → is_named (codes "mailbox") name ≡ false
 no_mailbox name = apart_formerly (codes "mailbox") name refl refl refl refl refl refl refl
@@ -379,7 +387,8 @@ still_means text tree means =
       means = record {
         tokens = means.tokens;
         spelled = means.spelled;
-        read = read_today before (contents_of means.tokens) tree means.read;
+        read = read_as_written tree (lexemes_of (contents_of means.tokens)) (read_today before (contents_of means.tokens) tree means.read) (still_valid tree means.valid)
+            (none_named (codes "encoded-character") (required tree) (of_all _ _ (λ name was. no_encoded name (still_former name was)) (required tree) means.valid.known));
         valid = still_valid tree means.valid;
       };
       actions = plain;
@@ -389,12 +398,14 @@ still_means text tree means =
 pub means_formerly : (text : List ℕ) (tree : Commands) → MeansIn former text tree → MeansFormerly text tree
 means_formerly text tree means =
     let known = of_all _ _ known_formerly (required tree) means.valid.known in
+    let valid : IsValid tree = record { known = known; stand = means.valid.stand; shallow = means.valid.shallow } in
     record {
       means = record {
         tokens = means.tokens;
         spelled = means.spelled;
-        read = read_today former (contents_of means.tokens) tree means.read;
-        valid = record { known = known; stand = means.valid.stand; shallow = means.valid.shallow };
+        read = read_as_written tree (lexemes_of (contents_of means.tokens)) (read_today former (contents_of means.tokens) tree means.read) valid
+            (none_named (codes "encoded-character") (required tree) (of_all _ _ no_encoded (required tree) means.valid.known));
+        valid = valid;
       };
       checks = (valid_former tree means.valid).0;
       actions = (valid_former tree means.valid).1;

@@ -18,6 +18,7 @@ pub mod ScriptExamples
 pub mod TraceLemmas
 pub mod OutcomeLemmas
 pub mod EntityLemmas
+pub mod DecodingLemmas
 pub mod LanguageLemmas
 pub mod LanguageLaws
 pub mod LanguageExamples

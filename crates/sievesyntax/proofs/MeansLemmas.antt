@@ -7,6 +7,7 @@ use Rattle.sievelex.specs.declared.token.Token.{Token}
 use Rattle.sievelex.specs.Finding.{OnFault}
 use Rattle.sievelex.specs.Spelling.{Spells}
 use Rattle.sievelex.specs.Contents.{contents_of}
+use Rattle.sievesyntax.specs.Decoding.{as_read}
 use Rattle.sievesyntax.specs.Lexemes.{lexemes_of}
 use Rattle.sievesyntax.specs.Tree.{Commands}
 use Rattle.sievesyntax.specs.Grammar.{ReadsScript}
@@ -14,17 +15,17 @@ use Rattle.sievesyntax.specs.Valid.{IsValid}
 use Rattle.sievesyntax.specs.Means.{Means}
 
 -- what is read of the packed tokens is what the text means
-pub packed_means : (text : List ℕ) (contents : List Content) (tree : Commands) → (ts : List Token) × (Spells text ts × (contents ≡ contents_of ts)) → ReadsScript tree (lexemes_of contents) × IsValid tree → Means text tree
+pub packed_means : (text : List ℕ) (contents : List Content) (tree : Commands) → (ts : List Token) × (Spells text ts × (contents ≡ contents_of ts)) → ReadsScript tree (as_read (lexemes_of contents)) × IsValid tree → Means text tree
 packed_means text contents tree spelled read = record {
   tokens = spelled.0;
   spelled = spelled.1.0;
-  read = subst (λ x. ReadsScript tree (lexemes_of x)) spelled.1.1 read.0;
+  read = subst (λ x. ReadsScript tree (as_read (lexemes_of x))) spelled.1.1 read.0;
   valid = read.1;
 }
 
 -- what the text means is read of the packed tokens
-pub means_packed : (text : List ℕ) (contents : List Content) (tree : Commands) → ((us : List Token) → Spells text us → contents_of us ≡ contents) → Means text tree → ReadsScript tree (lexemes_of contents)
-means_packed text contents tree only means = subst (λ x. ReadsScript tree (lexemes_of x)) (only means.tokens means.spelled) means.read
+pub means_packed : (text : List ℕ) (contents : List Content) (tree : Commands) → ((us : List Token) → Spells text us → contents_of us ≡ contents) → Means text tree → ReadsScript tree (as_read (lexemes_of contents))
+means_packed text contents tree only means = subst (λ x. ReadsScript tree (as_read (lexemes_of x))) (only means.tokens means.spelled) means.read
 
 -- what holds, holds at a fault
 pub fault_any : (e : ScriptError) (P : Type 0) → P → OnFault e P

@@ -43,7 +43,7 @@ module _ (after : List Lexeme) (args : List Argument) (next : List Lexeme) (only
   )
 
 -- a `require` begins with its word
-require_keyword : (name : Keyword) (args : List Argument) (names : List (List ℕ)) → IsPlainCommand name args (require names) → name ≡ W.Require
+pub require_keyword : (name : Keyword) (args : List Argument) (names : List (List ℕ)) → IsPlainCommand name args (require names) → name ≡ W.Require
 require_keyword W.Require args names is = refl
 require_keyword W.If args names is = absurd is
 require_keyword W.Elsif args names is = absurd is
@@ -150,7 +150,7 @@ module _ (whole : List Lexeme) (each : List (List (List ℕ))) (rest : List Lexe
       requires_shorter = reads_longer (require names) rest next (W.Require, (mid, (opens, found.0)))
 
 -- the names of each `require` at the front
-abbrev requires_of : Commands → List (List (List ℕ))
+abbrev pub requires_of : Commands → List (List (List ℕ))
 requires_of no_commands = []
 requires_of (command (require names) more) = names ∷ requires_of more
 requires_of (command (choose _) more) = []
@@ -162,7 +162,7 @@ abbrev with_requires : List (List (List ℕ)) → Commands → Commands
 with_requires [] cs = cs
 with_requires (names ∷ more) cs = command (require names) (with_requires more cs)
 
-required_of : (cs : Commands) → required cs ≡ all_names (requires_of cs)
+pub required_of : (cs : Commands) → required cs ≡ all_names (requires_of cs)
 required_of no_commands = refl
 required_of (command (require names) more) = ap (λ l. names ++ l) (required_of more)
 required_of (command (choose _) more) = refl

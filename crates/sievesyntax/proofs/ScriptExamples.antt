@@ -29,6 +29,7 @@ use Rattle.sievesyntax.specs.Chains.{Chain}
 use Rattle.sievesyntax.specs.Lexemes.{Lexeme, keyword, tag, number, text, mark, lexemes_of}
 use Rattle.sievesyntax.specs.Arguments.{IsArgument}
 use Rattle.sievesyntax.specs.Tree.{CommandTree, require, choose, stop, act, no_branches, branch, Commands, no_commands, command}
+use Rattle.sievesyntax.specs.Decoding.{as_read}
 use Rattle.sievesyntax.specs.Grammar.{IsStatement, IsCommand, ReadsScript}
 use Rattle.sievesyntax.specs.Means.{Means}
 
@@ -146,5 +147,5 @@ bare_tokens (t ∷ ts) h =
 
 keeps_nothing : (tree : Commands) → Means (codes "keep") tree → ⊥
 keeps_nothing tree m =
-    let P : List Token → Type 0 = λ ts. ReadsScript tree (lexemes_of (contents_of ts)) in
+    let P : List Token → Type 0 = λ ts. ReadsScript tree (as_read (lexemes_of (contents_of ts))) in
     keyword_alone tree (subst P (bare_tokens m.tokens m.spelled.spelled) m.read)

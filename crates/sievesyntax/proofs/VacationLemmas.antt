@@ -1,10 +1,10 @@
 -- Lemmas on the arguments of `vacation`.
-use Rattle.std.proofs.Common.{◌≡◌, ℕ, List, [], ◌∷◌, ◌++◌, Option, Some, None, refl, sym, ap, ◌∙◌, subst, inl, inr}
+use Rattle.std.proofs.Common.{◌≡◌, ℕ, List, [], ◌∷◌, ◌++◌, Option, Some, None, Ok, Err, refl, sym, ap, ◌∙◌, subst, inl, inr}
 use Rattle.std.proofs.Common.{◌<◌, ◌+◌, length, take, get_or, add-one}
+use Rattle.std.specs.Prelude.{Result, IfOk}
 use Rattle.std.proofs.Math.Seq.{take-suc}
 use Rattle.octets.proofs.Lists.{some_is, some_pair}
 use Rattle.addrparts.specs.declared.address.Addr.{Addr}
-use Rattle.addrparts.specs.Outbound.{IsOutbound}
 use Rattle.addrparts.proofs.Outbounds.{outbound-again}
 use Rattle.sievesyntax.specs.declared.tree.vacation.VacArgs.{VacArgs}
 use Rattle.sievesyntax.specs.declared.tree.vacation.ReplyFrom.{ReplyFrom}
@@ -15,11 +15,11 @@ use Rattle.sievesyntax.specs.declared.tree.action.FileInto.{FileInto}
 use Rattle.sievesyntax.specs.declared.tree.action.Redirect.{Redirect}
 use Rattle.sievesyntax.specs.Positional.{one_text}
 use Rattle.sievesyntax.specs.Table.{SaysFileInto, SaysRedirect}
-use Rattle.sievesyntax.specs.Vacations.{Names, IsReplyFrom, IsGivenFrom, AreNamed, AddsNamed, SaysVacation}
+use Rattle.sievesyntax.specs.Vacations.{IsNamedAs, Names, IsReplyFrom, IsGivenFrom, AreNamed, AddsNamed, SaysVacation}
 
 -- a text names one address with one display
-pub outbound_only : (text d e : List ℕ) (a b : Addr) → IsOutbound text d a → IsOutbound text e b → (d ≡ e) × (a ≡ b)
-outbound_only text d e a b one two = some_pair (d, a) (e, b) (sym (outbound-again text d a one) ∙ outbound-again text e b two)
+pub outbound_only : (text d e : List ℕ) (a b : Addr) → IsNamedAs text d a → IsNamedAs text e b → (d ≡ e) × (a ≡ b)
+outbound_only text d e a b one two = some_pair (d, a) (e, b) (sym (outbound-again text d a one.1) ∙ outbound-again text e b two.1)
 
 pub names_only : (text : List ℕ) (a b : Addr) → Names text a → Names text b → a ≡ b
 names_only text a b one two = (outbound_only text one.0 two.0 a b one.1 two.1).1
@@ -105,8 +105,8 @@ module _ (tag_values : List TagValue) (positional : List Argument) where
   pub redirect_no_text : one_text positional ≡ None → (y : Redirect) → SaysRedirect tag_values positional y → ⊥
   redirect_no_text none y is = let e : None ≡ Some is.text = sym none ∙ is.is_text in absurd (cc e)
 
-  pub redirect_no_address : (text : List ℕ) → one_text positional ≡ Some text → ((d : List ℕ) (a : Addr) → IsOutbound text d a → ⊥) → (y : Redirect) → SaysRedirect tag_values positional y → ⊥
-  redirect_no_address text is_text none y is = none is.names.0 y.target (subst (λ t. IsOutbound t is.names.0 y.target) (some_is is.text text (sym is.is_text ∙ is_text)) is.names.1)
+  pub redirect_no_address : (text : List ℕ) → one_text positional ≡ Some text → ((d : List ℕ) (a : Addr) → IsNamedAs text d a → ⊥) → (y : Redirect) → SaysRedirect tag_values positional y → ⊥
+  redirect_no_address text is_text none y is = none is.names.0 y.target (subst (λ t. IsNamedAs t is.names.0 y.target) (some_is is.text text (sym is.is_text ∙ is_text)) is.names.1)
 
   -- the arguments of `fileinto`
   pub file_into_same : (x y : FileInto) → SaysFileInto tag_values positional x → SaysFileInto tag_values positional y → x ≡ y
@@ -130,13 +130,18 @@ given_none o text same none y is = off y (subst (λ p. IsGivenFrom p y) (sym sam
     off None bad = bad
     off (Some r) is' = none r is'
 
+-- what holds of a value holds of it where more is asked
+pub if_ok_so : {X E : Type 0} (P Q : X → Type 0) → ((x : X) → P x → Q x) → (r : Result X E) → IfOk r P → IfOk r Q
+if_ok_so P Q so (Ok x) p = so x p
+if_ok_so P Q so (Err e) p = tt
+
 -- no address
-pub outbound_none : (text : List ℕ) (o : Option (List ℕ × Addr)) → ((d : List ℕ) (a : Addr) → IsOutbound text d a → o ≡ Some (d, a)) → o ≡ None → (d : List ℕ) (a : Addr) → IsOutbound text d a → ⊥
+pub outbound_none : (text : List ℕ) (o : Option (List ℕ × Addr)) → ((d : List ℕ) (a : Addr) → IsNamedAs text d a → o ≡ Some (d, a)) → o ≡ None → (d : List ℕ) (a : Addr) → IsNamedAs text d a → ⊥
 outbound_none text None only none d a is = absurd (cc (only d a is))
 outbound_none text (Some found) only none d a is = absurd (cc none)
 
-pub adds_none : (text : List ℕ) (old : List Addr) → ((d : List ℕ) (a : Addr) → IsOutbound text d a → ⊥) → AddsNamed text old old
+pub adds_none : (text : List ℕ) (old : List Addr) → ((d : List ℕ) (a : Addr) → IsNamedAs text d a → ⊥) → AddsNamed text old old
 adds_none text old none = inr ((λ a names. none names.0 a names.1), refl)
 
-pub reply_none : (text : List ℕ) → ((d : List ℕ) (a : Addr) → IsOutbound text d a → ⊥) → (r : ReplyFrom) → IsReplyFrom text r → ⊥
+pub reply_none : (text : List ℕ) → ((d : List ℕ) (a : Addr) → IsNamedAs text d a → ⊥) → (r : ReplyFrom) → IsReplyFrom text r → ⊥
 reply_none text none r is = none r.display r.address is.names

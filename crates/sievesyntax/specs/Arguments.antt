@@ -4,7 +4,7 @@ use Rattle.sievelex.specs.declared.token.Mark.TheVariants as K
 use Rattle.sievesyntax.specs.declared.parser.argument.Argument.{Argument}
 use Rattle.sievesyntax.specs.declared.parser.argument.Argument.TheVariants as A
 use Rattle.sievesyntax.specs.Chains.{Chain}
-use Rattle.sievesyntax.specs.Lexemes.{Lexeme, keyword, tag, number, text, mark}
+use Rattle.sievesyntax.specs.Lexemes.{Lexeme, keyword, tag, number, text, mark, misfit}
 
 -- a string after the first of a list
 abbrev pub IsOther : List ℕ → List Lexeme → List Lexeme → Type 0
@@ -29,6 +29,7 @@ IsEnd (keyword _ ∷ _) = Unit {0}
 IsEnd (tag _ ∷ _) = ⊥
 IsEnd (number _ ∷ _) = ⊥
 IsEnd (text _ ∷ _) = ⊥
+IsEnd (misfit ∷ _) = ⊥
 IsEnd (mark K.OpenBracket ∷ _) = ⊥
 IsEnd (mark _ ∷ _) = Unit {0}
 

@@ -6,13 +6,16 @@ use Rattle.sievesyntax.specs.declared.table.tag.Tag.{Tag}
 use Rattle.sievesyntax.specs.declared.table.tag.Tag.TheVariants as T
 use Rattle.sievesyntax.specs.declared.tree.action.Action.{Action}
 use Rattle.sievesyntax.specs.declared.tree.action.Action.TheVariants as D
+use Rattle.sievesyntax.specs.Decoding.{as_read}
 use Rattle.sievesyntax.specs.Lexemes.{keyword_of, tag_of, Lexeme, keyword, tag, number, text, mark}
 use Rattle.sievesyntax.specs.Valid.{is_named, is_capability}
 
--- which tags a language has, which capabilities its `require` knows, and which actions cancel the implicit keep in it
+-- which tags a language has, which capabilities its `require` knows, whether it decodes strings, and which actions cancel the
+-- implicit keep in it
 pub record Language : Type 0 where
   pub has : Tag → Bool
   pub knows : List ℕ → Bool
+  pub decodes : Bool
   pub cancels : Action → Bool
 
 -- a tag that the language hasn't is none that the grammar knows
@@ -31,6 +34,10 @@ lexeme_in language (C.Mark m) = mark m
 abbrev pub lexemes_in : Language → List Content → List Lexeme
 lexemes_in language contents = map (lexeme_in language) contents
 
+-- what is read of them
+abbrev pub read_in : Language → List Content → List Lexeme
+read_in language contents = cond language.decodes (as_read (lexemes_in language contents)) (lexemes_in language contents)
+
 -- ---- the language as it is
 
 -- all but `vacation` cancel the implicit keep (RFC 5228, 2.10.2; RFC 5230, 4.7), and no `:copy` does (RFC 3894, 3)
@@ -41,9 +48,9 @@ cancels_today (D.FileInto filing) = not filing.copy
 cancels_today (D.Redirect redirect) = not redirect.copy
 cancels_today (D.Vacation args) = false
 
--- all tags, and all capabilities
+-- all tags and all capabilities, and strings are decoded behind the `require` that asks for it (RFC 5228, 2.4.2.4)
 abbrev pub today : Language
-today = record { has = λ t. true; knows = is_capability; cancels = cancels_today }
+today = record { has = λ t. true; knows = is_capability; decodes = true; cancels = cancels_today }
 
 -- ---- the language before `:copy` (RFC 3894) and `:seconds` (RFC 6131)
 
@@ -82,10 +89,10 @@ cancels_before (D.Redirect redirect) = true
 cancels_before (D.Vacation args) = false
 
 abbrev pub before : Language
-before = record { has = is_tag_before; knows = is_capability_before; cancels = cancels_before }
+before = record { has = is_tag_before; knows = is_capability_before; decodes = false; cancels = cancels_before }
 
--- ---- the language before `subaddress` (RFC 5233), `relational` (RFC 5231), `comparator-i;ascii-numeric` (RFC 4790, 9.1) and `mailbox`
--- (RFC 5490)
+-- ---- the language before `subaddress` (RFC 5233), `relational` (RFC 5231), `comparator-i;ascii-numeric` (RFC 4790, 9.1),
+-- `encoded-character` (RFC 5228, 2.4.2.4) and `mailbox` (RFC 5490)
 
 abbrev pub is_former_tag : Tag → Bool
 is_former_tag T.User = false
@@ -107,4 +114,4 @@ is_former_capability name =
 
 -- actions cancelled what they cancel today
 abbrev pub former : Language
-former = record { has = is_former_tag; knows = is_former_capability; cancels = cancels_today }
+former = record { has = is_former_tag; knows = is_former_capability; decodes = false; cancels = cancels_today }

@@ -1,10 +1,11 @@
 -- What the grammar sees of a token: keywords in place of names.
-use Rattle.std.specs.Prelude.{ℕ, Bool, cond, nat_eq, List, map, codes}
+use Rattle.std.specs.Prelude.{ℕ, Bool, cond, nat_eq, Option, Some, None, List, map, codes}
 use Rattle.std.specs.Cmp.Lexicographic.{pointwise}
 use Rattle.octets.specs.Ascii.{lowered}
 use Rattle.sievelex.specs.declared.token.Mark.{Mark}
 use Rattle.sievelex.specs.declared.token.Content.{Content}
 use Rattle.sievelex.specs.declared.token.Content.TheVariants as C
+use Rattle.sievelex.specs.Encoded.{decoded}
 use Rattle.sievesyntax.specs.declared.table.keyword.Keyword.{Keyword}
 use Rattle.sievesyntax.specs.declared.table.keyword.Keyword.TheVariants as W
 use Rattle.sievesyntax.specs.declared.table.tag.Tag.{Tag}
@@ -76,6 +77,8 @@ pub data Lexeme : Type 0 where
   number : ℕ → Lexeme
   text : List ℕ → Lexeme
   mark : Mark → Lexeme
+  -- a string with a character that there isn't: it has no place in the grammar
+  misfit : Lexeme
 
 -- lexemes in a row
 abbrev pub Lexemes : Type 0
@@ -93,10 +96,25 @@ lexeme_of (C.Mark m) = mark m
 abbrev pub lexemes_of : List Content → List Lexeme
 lexemes_of contents = map lexeme_of contents
 
+-- a string by what it stands for, if it stands for anything
+abbrev pub text_of : Option (List ℕ) → Lexeme
+text_of None = misfit
+text_of (Some value) = text value
+
+-- a lexeme whose string is decoded (RFC 5228, 2.4.2.4)
+abbrev pub decoded_lexeme : Lexeme → Lexeme
+decoded_lexeme (text written) = text_of (decoded written)
+decoded_lexeme (keyword w) = keyword w
+decoded_lexeme (tag t) = tag t
+decoded_lexeme (number n) = number n
+decoded_lexeme (mark m) = mark m
+decoded_lexeme misfit = misfit
+
 -- the lexeme that a borrowed one stands for
 abbrev pub lexeme_view : BorrowedLexeme → Lexeme
 lexeme_view (S.Keyword w) = keyword w
 lexeme_view (S.Tag t) = tag t
 lexeme_view (S.Number n) = number n
 lexeme_view (S.Text value) = text value.now
+lexeme_view (S.Encoded written) = text_of (decoded written.now)
 lexeme_view (S.Mark m) = mark m

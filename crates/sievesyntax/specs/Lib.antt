@@ -2,6 +2,7 @@ pub mod Arguments
 pub mod Chains
 pub mod Lexemes
 pub mod Parsing
+pub mod Decoding
 pub mod Grammar
 pub mod Steps
 pub mod Reasons

@@ -3,7 +3,7 @@ use Rattle.std.specs.Prelude.{ℕ, List}
 use Rattle.sievelex.specs.declared.token.Token.{Token}
 use Rattle.sievelex.specs.Spelling.{Spells}
 use Rattle.sievelex.specs.Contents.{contents_of}
-use Rattle.sievesyntax.specs.Languages.{Language, lexemes_in, today}
+use Rattle.sievesyntax.specs.Languages.{Language, read_in, today}
 use Rattle.sievesyntax.specs.Tree.{Commands}
 use Rattle.sievesyntax.specs.Grammar.{ReadsScript}
 use Rattle.sievesyntax.specs.Valid.{IsValidIn}
@@ -12,7 +12,7 @@ use Rattle.sievesyntax.specs.Valid.{IsValidIn}
 pub record MeansIn (language : Language) (text : List ℕ) (tree : Commands) : Type 0 where
   pub tokens : List Token
   pub spelled : Spells text tokens
-  pub read : ReadsScript tree (lexemes_in language (contents_of tokens))
+  pub read : ReadsScript tree (read_in language (contents_of tokens))
   pub valid : IsValidIn language.knows tree
 
 -- what a text means in the language as it is

@@ -1,6 +1,7 @@
 -- The reason of a `vacation`.
-use Rattle.std.specs.Prelude.{◌≡◌, ℕ, ◌==◌, ◌&&◌, ◌||◌, nat_le, Bool, true, false, List, ◌∷◌, ◌++◌, take, codes, Option, Some, None, length, All}
+use Rattle.std.specs.Prelude.{◌≡◌, ℕ, ◌==◌, ◌&&◌, ◌||◌, nat_le, Bool, true, false, not, List, [], ◌∷◌, ◌++◌, take, codes, Option, Some, None, length, All}
 use Rattle.std.specs.List.{list_all, list_any}
+use Rattle.std.specs.Str.{IsUtf8}
 use Rattle.mailhead.specs.Lines.{lines_of, is_empty_line, without_end, logical_lines, header_lines}
 use Rattle.mailhead.specs.Fields.{FieldText, IsField, field_of}
 use Rattle.sievesyntax.specs.Lexemes.{same_name}
@@ -53,7 +54,15 @@ pub record IsEntity (text : List ℕ) : Type 0 where
   pub ends : is_empty_line empty ≡ true
   pub fields : All IsMimeLine (logical_lines header)
 
--- a reason that may stand: no line of it is too long, and with `:mime` it is a MIME entity (RFC 5230, 4.4)
+-- CR and LF stand as line ends alone, and no octet is NUL (RFC 5322, 2.3). A CR may stand before the text
+abbrev pub has_whole_lines : (after_cr : Bool) → List ℕ → Bool
+has_whole_lines after_cr [] = not after_cr
+has_whole_lines true (octet ∷ rest) = octet == 10 && has_whole_lines false rest
+has_whole_lines false (octet ∷ rest) = not (octet == 0) && (not (octet == 10) && has_whole_lines (octet == 13) rest)
+
+-- a reason that may stand: it is UTF-8 of whole lines, none of them too long, and with `:mime` it is a MIME entity (RFC 5230, 4.4)
 pub record IsReason (args : VacArgs) : Type 0 where
+  pub utf8 : IsUtf8 args.reason
+  pub whole : has_whole_lines false args.reason ≡ true
   pub narrow : is_narrow_text args.reason ≡ true
   pub entity : args.mime ≡ true → is_entity args.reason ≡ true

@@ -1,6 +1,7 @@
 -- The addresses that a script names, and the arguments of `vacation` (RFC 5230, 4).
 use Rattle.std.specs.Prelude.{◌≡◌, ◌⊎◌, ℕ, List, [], ◌∷◌, ◌++◌, Option, Some, None}
 use Rattle.addrparts.specs.declared.address.Addr.{Addr}
+use Rattle.std.specs.Str.{IsUtf8}
 use Rattle.addrparts.specs.Outbound.{IsOutbound}
 use Rattle.sievesyntax.specs.declared.tree.vacation.VacArgs.{VacArgs}
 use Rattle.sievesyntax.specs.declared.tree.vacation.ReplyFrom.{ReplyFrom}
@@ -12,14 +13,18 @@ use Rattle.sievesyntax.specs.Tags.{IsCall}
 use Rattle.sievesyntax.specs.Positional.{one_text}
 use Rattle.sievesyntax.specs.TagValues.{days_in, seconds_in, subject_in, from_in, addresses_in, mime_in, handle_in}
 
+-- the text, which is UTF-8, names this address with this display name
+abbrev pub IsNamedAs : List ℕ → List ℕ → Addr → Type 0
+IsNamedAs text display address = IsUtf8 text × IsOutbound text display address
+
 -- the text names this address
 abbrev pub Names : List ℕ → Addr → Type 0
-Names text address = (display : List ℕ) × IsOutbound text display address
+Names text address = (display : List ℕ) × IsNamedAs text display address
 
 -- the value of `:from`: an address, with its display and as it was written
 pub record IsReplyFrom (text : List ℕ) (from : ReplyFrom) : Type 0 where
   pub written : from.text ≡ text
-  pub names : IsOutbound text from.display from.address
+  pub names : IsNamedAs text from.display from.address
 
 -- the same where a text may be given or not
 abbrev pub IsGivenFrom : Option (List ℕ) → Option ReplyFrom → Type 0

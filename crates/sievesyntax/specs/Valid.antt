@@ -1,6 +1,7 @@
 -- What a tree may be besides what the grammar asks.
 use Rattle.std.specs.Prelude.{◌≡◌, ◌≢◌, ◌≤◌, ◌||◌, ℕ, Bool, true, false, not, is_some, List, [], ◌++◌, codes, length, All, nat_eq}
 use Rattle.std.specs.List.{list_any}
+use Rattle.std.specs.Str.{IsUtf8}
 use Rattle.std.specs.Cmp.Lexicographic.{pointwise}
 use Rattle.sievesyntax.specs.declared.tree.action.Action.{Action}
 use Rattle.sievesyntax.specs.declared.tree.action.Action.TheVariants.{Keep, Discard, FileInto, Redirect, Vacation}
@@ -16,11 +17,12 @@ use Rattle.sievesyntax.specs.declared.table.capability.Capabilities.{Capabilitie
 use Rattle.sievesyntax.specs.Reasons.{IsReason}
 use Rattle.sievesyntax.specs.Tree.{TestTree, yes, no, looks, not_of, all_of, any_of, Tests, no_tests, test, list_depth, not_depth, CommandTree, require, choose, stop, act, Branches, no_branches, branch, Commands, no_commands, command, depth}
 
--- the name of a mailbox: 1 to 255 octets, none below 32 and none 127
+-- the name of a mailbox: 1 to 255 octets of UTF-8, none below 32 and none 127
 pub record IsMailbox (name : List ℕ) : Type 0 where
   pub some : name ≢ []
   pub short : length name ≤ 255
   pub plain : All (λ octet. (32 ≤ octet) × (octet ≢ 127)) name
+  pub utf8 : IsUtf8 name
 
 -- names of capabilities are compared by octets
 abbrev pub is_named : List ℕ → List ℕ → Bool
@@ -39,7 +41,8 @@ is_capability name =
     || (is_named (codes "subaddress") name
     || (is_named (codes "relational") name
     || (is_named (codes "comparator-i;ascii-numeric") name
-    || is_named (codes "mailbox") name)))))))))
+    || (is_named (codes "encoded-character") name
+    || is_named (codes "mailbox") name))))))))))
 
 abbrev pub IsCapability : List ℕ → Type 0
 IsCapability name = is_capability name ≡ true

@@ -37,8 +37,9 @@ pub fn entity_of_a_reason()
     ensures { (text : List ℕ) → (is_entity text ≡ true) ↔ IsEntity text }
 {}
 
-/// A text that meant a tree before `subaddress` (RFC 5233), `relational` (RFC 5231), `comparator-i;ascii-numeric` (RFC 4790, 9.1) and
-/// `mailbox` (RFC 5490) means the same tree now. It has nothing of these, and on every mail it comes to what it came to before.
+/// A text that meant a tree before `subaddress` (RFC 5233), `relational` (RFC 5231), `comparator-i;ascii-numeric` (RFC 4790, 9.1),
+/// `encoded-character` (RFC 5228, 2.4.2.4) and `mailbox` (RFC 5490), when each string stood for itself, means the same tree now. It
+/// has nothing of these, and on every mail it comes to what it came to before.
 pub fn scripts_of_former_language()
     ensures { (text : List ℕ) (tree : Commands) → MeansIn former text tree → MeansFormerly text tree }
 {}

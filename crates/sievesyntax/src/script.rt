@@ -5,6 +5,7 @@ ghost use Rattle.sievelex.specs.Spelling.{Spells};
 ghost use Rattle.sievelex.specs.Finding.{IfFault, IfFaultLine, OnFaultLine};
 ghost use Rattle.sievelex.specs.Contents.{contents, line_at};
 ghost use Rattle.sievelex.specs.Text.{line_ends};
+ghost use Rattle.sievesyntax.specs.Decoding.{as_read};
 ghost use Rattle.sievesyntax.specs.Lexemes.{lexemes_of};
 ghost use Rattle.sievesyntax.specs.Tree.{Commands};
 ghost use Rattle.sievesyntax.specs.Valid.{IsValid};
@@ -63,9 +64,9 @@ pub fn check(alloc: Global, text: &[u8]) -> Result<Script, ScriptError>
 
 /// The script of these tokens, or why they aren't one, and how many of them were read.
 fn check_tokens(alloc: Global, tokens: &Packed) -> Result<Script, (ReadError, usize)>
-    ensures found { IfOk result (λ script. ReadsScript (script_tree script) (lexemes_of (contents tokens.now)) × IsValid (script_tree script)) }
-    ensures only { IfOk result (λ script. (tree : Commands) → ReadsScript tree (lexemes_of (contents tokens.now)) → IsValid tree → tree ≡ script_tree script) }
-    ensures fault { IfErr result (λ e. OnFault e.0 ((tree : Commands) → ReadsScript tree (lexemes_of (contents tokens.now)) → IsValid tree → ⊥)) }
+    ensures found { IfOk result (λ script. ReadsScript (script_tree script) (as_read (lexemes_of (contents tokens.now))) × IsValid (script_tree script)) }
+    ensures only { IfOk result (λ script. (tree : Commands) → ReadsScript tree (as_read (lexemes_of (contents tokens.now))) → IsValid tree → tree ≡ script_tree script) }
+    ensures fault { IfErr result (λ e. OnFault e.0 ((tree : Commands) → ReadsScript tree (as_read (lexemes_of (contents tokens.now))) → IsValid tree → ⊥)) }
 {
     let mut reader = Reader::new(tokens);
     match read_script(alloc, &mut reader) {

@@ -1,6 +1,7 @@
 //! Arguments, by the grammar alone (RFC 5228, 8.2).
-ghost use Rattle.std.specs.Prelude.{◌≡◌, ℕ, List, [], ◌∷◌, ◌++◌, Result, Ok, MatchOption, IfOk, true, false};
+ghost use Rattle.std.specs.Prelude.{◌≡◌, ℕ, List, [], ◌∷◌, ◌++◌, Result, Ok, Some, None, MatchOption, IfOk, true, false};
 ghost use Rattle.sievelex.specs.declared.token.Mark.TheVariants as K;
+ghost use Rattle.sievelex.specs.Encoded.{decoded};
 ghost use Rattle.sievesyntax.specs.Lexemes.{Lexemes, text, mark};
 ghost use Rattle.sievesyntax.specs.Parsing.{IfFault, Parses, ParsesMore, StandsAlone, StandsNowhere, Closed};
 ghost use Rattle.sievesyntax.specs.Chains.{Chain};
@@ -10,7 +11,7 @@ use crate::parser::lexeme::Lexeme;
 use crate::parser::reader::Reader;
 use crate::table::tag::Tag;
 use octets::{Octets, Texts};
-use sievelex::{FaultKind, Mark};
+use sievelex::{FaultKind, Mark, decode};
 use std::alloc::Global;
 
 /// An argument of a command or a test.
@@ -64,6 +65,10 @@ fn read_argument(alloc: Global, reader: &mut Reader<'_>) -> Result<Option<Argume
         Lexeme::Text(string) => {
             *reader = after;
             Ok(Some(Argument::Text(Octets::from_slice(alloc, string)?)))
+        }
+        Lexeme::Encoded(written) => {
+            *reader = after;
+            Ok(Some(Argument::Text(read_encoded(alloc, written)?)))
         }
         Lexeme::Mark(Mark::OpenBracket) => {
             *reader = after;
@@ -122,6 +127,18 @@ fn read_text(alloc: Global, reader: &mut Reader<'_>) -> Result<Octets, ReadError
     *reader = after;
     match lexeme {
         Lexeme::Text(string) => Ok(Octets::from_slice(alloc, string)?),
+        Lexeme::Encoded(written) => read_encoded(alloc, written),
         _ => Err(ReadError::Fault(FaultKind::Unexpected)),
+    }
+}
+
+/// What a string stands for that is to be decoded (RFC 5228, 2.4.2.4).
+fn read_encoded(alloc: Global, written: &[u8]) -> Result<Octets, ReadError>
+    ensures found { IfOk result (λ string. decoded written.now ≡ Some string) }
+    ensures fault { IfFault result (decoded written.now ≡ None) }
+{
+    match decode(alloc, written)? {
+        Some(string) => Ok(string),
+        None => Err(ReadError::Fault(FaultKind::BadCharacter)),
     }
 }

@@ -14,6 +14,8 @@ pub enum Lexeme<'a> {
     Tag(Tag),
     Number(u64),
     Text(&'a [u8]),
+    /// A string as it is written, which is to be decoded.
+    Encoded(&'a [u8]),
     Mark(Mark),
 }
 

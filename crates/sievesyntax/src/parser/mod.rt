@@ -1,6 +1,7 @@
 //! Tokens to a tree, by the grammar (RFC 5228, 8.2).
 pub mod argument;
 pub mod command_parser;
+pub mod decoding;
 pub mod lexeme;
 pub mod reader;
 pub mod require;

@@ -2,37 +2,42 @@
 ghost use Rattle.std.specs.Prelude.{◌≡◌, List, [], ◌∷◌, length, MatchOption, IfOk, OnOk};
 ghost use Rattle.sievesyntax.specs.declared.table.keyword.Keyword.{Keyword};
 ghost use Rattle.sievelex.specs.Contents.{contents};
+ghost use Rattle.sievesyntax.specs.Decoding.{as_read};
 ghost use Rattle.sievesyntax.specs.Lexemes.{Lexemes, keyword, mark, lexemes_of, lexeme_view};
 ghost use Rattle.sievesyntax.specs.Parsing.{IfFault};
 
 use crate::error::ReadError;
-use crate::parser::lexeme::{Lexeme, lexeme_of};
+use crate::parser::decoding::{Decoding, seen_of};
+use crate::parser::lexeme::Lexeme;
 use crate::table::keyword::Keyword;
 use sievelex::{Cursor, FaultKind, Mark, Packed};
 use std::marker::Model;
 
-/// The tokens that are still to be read. Contracts see the lexemes.
+/// The tokens that are still to be read. Contracts see what is read of their lexemes.
 #[derive(Drop)]
 pub struct Reader<'a> {
     rest: Cursor<'a>,
+    decoding: Decoding,
 }
 
 impl<'a> Model for Reader<'a> {
     ghost use Rattle.std.specs.Prelude.{List};
+    ghost use Rattle.sievesyntax.specs.Decoding.{seen_from};
     ghost use Rattle.sievesyntax.specs.Lexemes.{Lexeme, lexemes_of};
 
     ghost Value = { List Lexeme };
 
-    ghost view = { λ r. lexemes_of r.rest };
+    ghost view = { λ r. seen_from r.decoding (lexemes_of r.rest) };
 }
 
 impl<'a> Reader<'a> {
     /// Before the first of these tokens.
     pub(crate) fn new(tokens: &'a Packed) -> Reader<'a>
-        ensures { result ≡ lexemes_of (contents tokens.now) }
+        ensures { result ≡ as_read (lexemes_of (contents tokens.now)) }
     {
         Reader {
             rest: tokens.cursor(),
+            decoding: Decoding::Open,
         }
     }
 
@@ -48,7 +53,8 @@ impl<'a> Reader<'a> {
         ensures { MatchOption result (self.now ≡ []) (λ found. self.now ≡ lexeme_view found.0 ∷ found.1) }
     {
         let (first, rest) = self.rest.split_first()?;
-        Some((lexeme_of(first), Reader { rest }))
+        let decoding = self.decoding.after(first);
+        Some((seen_of(first, self.decoding), Reader { rest, decoding }))
     }
 
     /// ReadsScript this mark.

@@ -108,5 +108,6 @@ fn is_capability(name: &[u8]) -> bool
         || name == b"subaddress".as_slice()
         || name == b"relational".as_slice()
         || name == b"comparator-i;ascii-numeric".as_slice()
+        || name == b"encoded-character".as_slice()
         || name == b"mailbox".as_slice()
 }

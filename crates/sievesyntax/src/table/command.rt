@@ -16,6 +16,7 @@ use crate::table::keyword::Keyword;
 use crate::table::positional::no_arguments;
 use crate::table::reason::check_reason;
 use crate::table::redirect::read_redirect;
+use crate::table::utf8::is_utf8;
 use crate::table::vacation_arguments::read_vacation;
 use crate::tree::action::{Action, FileInto, Redirect};
 use crate::tree::command::Command;
@@ -123,11 +124,12 @@ fn permitted_vacation(
     Ok(Vacation::new(alloc, vacation)?)
 }
 
-/// Whether a text is the name of a mailbox: 1 to 255 octets, none below 32 and none 127. Linear; takes no memory.
+/// Whether a text is the name of a mailbox: 1 to 255 octets of UTF-8, none below 32 and none 127. Linear; takes no memory.
 pub fn is_mailbox(name: &[u8]) -> bool
     ensures { IsTrue result ↔ IsMailbox name.now }
 {
     !name.is_empty()
         && name.len() <= MAX_MAILBOX
         && name.iter().all(|octet| *octet >= 32 && *octet != 127)
+        && is_utf8(name)
 }

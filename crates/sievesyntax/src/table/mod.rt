@@ -12,4 +12,5 @@ pub mod tag_values;
 pub mod tagged;
 pub mod test;
 pub mod test_arguments;
+pub mod utf8;
 pub mod vacation_arguments;

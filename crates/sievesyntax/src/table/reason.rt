@@ -1,5 +1,5 @@
 //! The reason of a `vacation` (RFC 5230, 4.4).
-ghost use Rattle.std.specs.Prelude.{◌≡◌, OnOk, option_map};
+ghost use Rattle.std.specs.Prelude.{◌≡◌, false, OnOk, option_map};
 ghost use Rattle.std.specs.List.{list_all};
 ghost use Rattle.sievesyntax.specs.Parsing.{IfFault};
 ghost use Rattle.sievesyntax.specs.Reasons as spec;
@@ -7,6 +7,7 @@ ghost use Rattle.mailhead.specs.Fields as fields;
 
 use crate::error::ReadError;
 use crate::table::keyword::is_name;
+use crate::table::utf8::is_utf8;
 use crate::tree::vacation::VacArgs;
 use mailhead::{after_empty_line, first_line, logical_line, read_field, without_end};
 use sievelex::FaultKind;
@@ -19,6 +20,12 @@ pub(crate) fn check_reason(args: &VacArgs) -> Result<(), ReadError>
     ensures found { OnOk result (spec.IsReason args.now) }
     ensures fault { IfFault result (spec.IsReason args.now → ⊥) }
 {
+    if !is_utf8(args.reason.as_slice()) {
+        return Err(ReadError::Fault(FaultKind::NotUtf8));
+    }
+    if !has_whole_lines(args.reason.as_slice()) {
+        return Err(ReadError::Fault(FaultKind::BadByte));
+    }
     if !is_narrow_text(args.reason.as_slice()) {
         return Err(ReadError::Fault(FaultKind::LongReasonLine));
     }
@@ -26,6 +33,20 @@ pub(crate) fn check_reason(args: &VacArgs) -> Result<(), ReadError>
         return Err(ReadError::Fault(FaultKind::BadMime));
     }
     Ok(())
+}
+
+/// CR and LF stand as line ends alone, and no octet is NUL.
+fn has_whole_lines(text: &[u8]) -> bool
+    ensures { result ≡ spec.has_whole_lines false text.now }
+{
+    let mut after_cr = false;
+    for octet in text {
+        if *octet == 0 || after_cr != (*octet == b'\n') {
+            return false;
+        }
+        after_cr = *octet == b'\r';
+    }
+    !after_cr
 }
 
 /// No line is too long.

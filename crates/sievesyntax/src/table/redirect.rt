@@ -1,20 +1,21 @@
 //! The addresses that a script names (RFC 5228, 2.4.2.3), and the arguments of `redirect`.
-ghost use Rattle.std.specs.Prelude.{ℕ, List, IfOk};
+ghost use Rattle.std.specs.Prelude.{◌≡◌, ℕ, List, Some, IfOk, IfSome};
 ghost use Rattle.addrparts.specs.declared.address.Addr.{Addr};
-ghost use Rattle.addrparts.specs.Outbound.{IsOutbound};
 ghost use Rattle.sievesyntax.specs.Parsing.{IfFault, Finds};
 ghost use Rattle.sievesyntax.specs.Table.{IsRedirect, SaysRedirect};
+ghost use Rattle.sievesyntax.specs.Vacations.{IsNamedAs};
 
 use crate::error::ReadError;
 use crate::parser::argument::Argument;
 use crate::table::positional::text;
 use crate::table::tag_group::{TagGroup, TagValue, split_tags};
 use crate::table::tag_values::given_copy;
+use crate::table::utf8::is_utf8;
 use crate::tree::action::Redirect;
 use addrparts::{Addr, sieve_address};
 use octets::Octets;
 use sievelex::FaultKind;
-use std::alloc::Global;
+use std::alloc::{AllocError, Global};
 
 /// The arguments of `redirect`.
 pub(crate) fn read_redirect(alloc: Global, args: &[Argument]) -> Result<Redirect, ReadError>
@@ -41,11 +42,25 @@ fn redirect_from(
 
 /// The display and the address that a text names.
 pub(crate) fn outbound(alloc: Global, text: &[u8]) -> Result<(Octets, Addr), ReadError>
-    ensures found { IfOk result (λ r. IsOutbound text.now r.0 r.1) }
-    ensures fault { IfFault result ((display : List ℕ) (address : Addr) → IsOutbound text.now display address → ⊥) }
+    ensures found { IfOk result (λ r. IsNamedAs text.now r.0 r.1) }
+    ensures fault { IfFault result ((display : List ℕ) (address : Addr) → IsNamedAs text.now display address → ⊥) }
 {
-    match sieve_address(alloc, text)? {
+    match named_address(alloc, text)? {
         Some(found) => Ok(found),
         None => Err(ReadError::Fault(FaultKind::BadAddress)),
     }
+}
+
+/// The display and the address that a text names, if it names one.
+pub(crate) fn named_address(
+    alloc: Global,
+    text: &[u8],
+) -> Result<Option<(Octets, Addr)>, AllocError>
+    ensures found { IfOk result (λ found. IfSome found (λ r. IsNamedAs text.now r.0 r.1)) }
+    ensures only { IfOk result (λ found. (display : List ℕ) (address : Addr) → IsNamedAs text.now display address → found ≡ Some (display, address)) }
+{
+    if !is_utf8(text) {
+        return Ok(None);
+    }
+    sieve_address(alloc, text)
 }

@@ -9,13 +9,13 @@ ghost use Rattle.sievesyntax.specs.Vacations.{IsReplyFrom, IsGivenFrom, AreNamed
 use crate::error::ReadError;
 use crate::parser::argument::Argument;
 use crate::table::positional::text;
-use crate::table::redirect::outbound;
+use crate::table::redirect::{named_address, outbound};
 use crate::table::tag_group::{TagGroup, TagValue, split_tags};
 use crate::table::tag_values::{
     given_days, given_handle, given_mime, given_seconds, given_subject,
 };
 use crate::tree::vacation::{ReplyFrom, VacArgs};
-use addrparts::{Addr, sieve_address};
+use addrparts::Addr;
 use octets::{List, Octets};
 use std::alloc::{AllocError, Global};
 
@@ -133,7 +133,7 @@ fn addresses_named(alloc: Global, texts: &[Octets]) -> Result<List<Addr>, AllocE
 fn add_named(alloc: Global, addresses: &mut List<Addr>, text: &[u8]) -> Result<(), AllocError>
     ensures { OnOk result (AddsNamed text.now addresses.old addresses.new) }
 {
-    match sieve_address(alloc, text)? {
+    match named_address(alloc, text)? {
         Some((_display, address)) => addresses.push(address),
         None => Ok(()),
     }

@@ -1,0 +1,129 @@
+-- Encoded characters in strings (RFC 5228, 2.4.2.4).
+use Rattle.std.specs.Prelude.{ℕ, zero, suc, ◌+◌, ◌*◌, ◌-◌, ◌<◌, ◌≤◌, ◌==◌, ◌||◌, ◌&&◌, nat_le, nat_lt, nat_eq, min, cond, Bool, Option, Some, None, List, [], ◌∷◌, ◌++◌, length, take, drop, fold, slice_index, codes}
+use Rattle.std.specs.Char.{encode_utf8}
+use Rattle.std.specs.List.{list_any, prefix_len}
+use Rattle.std.specs.Cmp.Lexicographic.{pointwise}
+use Rattle.octets.specs.Ascii.{lowered}
+use Rattle.sievelex.specs.declared.encoded.Coding.{Coding}
+use Rattle.sievelex.specs.declared.encoded.Coding.TheVariants.{Hex, Unicode}
+use Rattle.sievelex.specs.declared.encoded.Sequence.{Sequence}
+use Rattle.sievelex.specs.declared.encoded.Sequence.TheVariants.{Absent, OutOfRange, Present}
+use Rattle.sievelex.specs.Class.{is_white}
+
+-- ---- numbers
+
+-- HEXDIG, of either case
+abbrev pub is_hex : ℕ → Bool
+is_hex b = (nat_le 48 b && nat_le b 57) || ((nat_le 65 b && nat_le b 70) || (nat_le 97 b && nat_le b 102))
+
+-- the value of such a digit
+abbrev pub hex_value : ℕ → ℕ
+hex_value b = cond (nat_le b 57) (b - 48) (cond (nat_le b 70) (b - 55) (b - 87))
+
+-- a number with one digit more at its end. Above 10FFFF there are no characters, and nothing is told apart
+abbrev pub with_hex : ℕ → ℕ → ℕ
+with_hex number b = min (number * 16 + hex_value b) 1114112
+
+-- the number that a word of digits writes
+abbrev pub hex_number : List ℕ → ℕ
+hex_number word = fold with_hex 0 word
+
+-- the number of a character (RFC 3629, 3)
+abbrev pub is_character : ℕ → Bool
+is_character number = nat_le number 0xD7FF || (nat_le 0xE000 number && nat_le number 0x10FFFF)
+
+-- what a number of that many digits stands for: hex-pair = 1*2HEXDIG is an octet (two digits write none above 255); unicode-hex =
+-- 1*HEXDIG is the UTF-8 of a character, 0 to D7FF or E000 to 10FFFF
+abbrev pub value_of : Coding → (digits number : ℕ) → Option (List ℕ)
+value_of Hex digits number = cond (nat_le digits 2 && nat_lt number 256) (Some (number ∷ [])) None
+value_of Unicode digits number = cond (is_character number) (Some (encode_utf8 number)) None
+
+-- the same of a word that is read: no digits are no word
+abbrev pub word_value : Coding → (digits number : ℕ) → Option (List ℕ)
+word_value coding digits number = cond (digits == 0) (Some []) (value_of coding digits number)
+
+-- ---- sequences
+
+-- one text after another, where there are both
+abbrev pub joined : Option (List ℕ) → Option (List ℕ) → Option (List ℕ)
+joined None rest = None
+joined (Some front) None = None
+joined (Some front) (Some rest) = Some (front ++ rest)
+
+-- what words stand for, one after another
+abbrev pub values_of : Coding → List (List ℕ) → Option (List ℕ)
+values_of coding [] = Some []
+values_of coding (word ∷ more) = joined (value_of coding (length word) (hex_number word)) (values_of coding more)
+
+-- a word, unless it is empty
+abbrev pub ended : List ℕ → List (List ℕ)
+ended [] = []
+ended (b ∷ word) = (b ∷ word) ∷ []
+
+-- the words that white octets part, where `word` has begun before: blank = WSP / CRLF
+abbrev pub words_from : List ℕ → List ℕ → List (List ℕ)
+words_from word [] = ended word
+words_from word (b ∷ s) = cond (is_white b) (ended word ++ words_from [] s) (words_from (word ++ b ∷ []) s)
+
+-- ---- in a text
+
+-- this stands at the front, in any ASCII case
+abbrev pub begins_with : List ℕ → List ℕ → Bool
+begins_with front text = nat_le (length front) (length text) && pointwise nat_eq (lowered (take (length front) text)) (lowered front)
+
+-- what the text begins with, and how many octets that is: "${hex:" or "${unicode:"
+abbrev pub opening_of : List ℕ → Option (Coding × ℕ)
+opening_of text =
+    cond (begins_with (codes "${hex:") text) (Some (Hex, 6))
+    (cond (begins_with (codes "${unicode:") text) (Some (Unicode, 10)) None)
+
+-- an octet of a word, or one between words
+abbrev pub is_inner : ℕ → Bool
+is_inner b = is_hex b || is_white b
+
+-- how many such octets stand at the front
+abbrev pub inner_len : List ℕ → ℕ
+inner_len text = prefix_len is_inner text
+
+-- a word or more, and the closing brace
+abbrev pub is_closed : List ℕ → Bool
+is_closed text = slice_index text (inner_len text) == 125 && list_any is_hex (take (inner_len text) text)
+
+-- a sequence of that many octets with this value: none where a word is no hex-pair, and an error where one is no character
+abbrev pub valued : Coding → ℕ → Option (List ℕ) → Sequence
+valued coding len (Some value) = Present value len
+valued Hex len None = Absent
+valued Unicode len None = OutOfRange
+
+-- what begins so goes on so
+abbrev pub closed_by : Option (Coding × ℕ) → List ℕ → Sequence
+closed_by None text = Absent
+closed_by (Some opening) text =
+    cond (is_closed (drop opening.1 text))
+    (valued opening.0 (opening.1 + inner_len (drop opening.1 text) + 1) (values_of opening.0 (words_from [] (take (inner_len (drop opening.1 text)) (drop opening.1 text)))))
+    Absent
+
+-- the sequence at the front: encoded-arb-octets = "${hex:" hex-pair-seq "}", encoded-unicode-char = "${unicode:" unicode-hex-seq "}"
+abbrev pub sequence_at : List ℕ → Sequence
+sequence_at text = closed_by (opening_of text) text
+
+-- a sequence has an octet or more, and none that the text hasn't
+abbrev pub IsWithin : Sequence → List ℕ → Type 0
+IsWithin Absent text = Unit {0}
+IsWithin OutOfRange text = Unit {0}
+IsWithin (Present value len) text = (0 < len) × (len ≤ length text)
+
+-- what the text stands for from a place on, from which the first `taken` octets belong to a sequence before it: what is no sequence
+-- stays as it is written, and what has been decoded isn't decoded again
+abbrev pub decoded_after : (taken : ℕ) → List ℕ → Option (List ℕ)
+decoded_after taken [] = Some []
+decoded_after (suc taken) (b ∷ s) = decoded_after taken s
+decoded_after zero (b ∷ s) = elim (sequence_at (b ∷ s)) [
+  | Absent ↦ joined (Some (b ∷ [])) (decoded_after 0 s)
+  | OutOfRange ↦ None
+  | Present value len ↦ joined (Some value) (decoded_after (len - 1) s)
+]
+
+-- what a string stands for where `encoded-character` is required; nothing where a sequence has a number that is no character's
+abbrev pub decoded : List ℕ → Option (List ℕ)
+decoded text = decoded_after 0 text

@@ -1,0 +1,12 @@
+use Rattle.std.proofs.Common.{◌≡◌, ℕ, List, Some}
+use Rattle.addrparts.specs.declared.address.Addr.{Addr}
+use Rattle.addrparts.specs.Outbound.{IsOutbound}
+use Rattle.sievesyntax.specs.Vacations.{IsNamedAs}
+use Rattle.sievesyntax.proofs.VacationLemmas.{if_ok_so}
+use Rattle.sievesyntax.proofs.table.redirect.named_address.Goals as goal
+
+pub returns-clause-only : goal.returns-clause-only
+returns-clause-only c = if_ok_so
+    (λ found. (display : List ℕ) (address : Addr) → IsOutbound c.args.text.now display address → found ≡ Some (display, address))
+    (λ found. (display : List ℕ) (address : Addr) → IsNamedAs c.args.text.now display address → found ≡ Some (display, address))
+    (λ found only display address is. only display address is.1) c.sieve_address.result c.sieve_address.ensures.only

@@ -1,0 +1,39 @@
+-- Which strings of a script are decoded (RFC 5228, 2.4.2.4 and 3.2): those behind the `require` that names `encoded-character`.
+use Rattle.std.specs.Prelude.{ℕ, Bool, cond, nat_eq, List, [], ◌∷◌, codes}
+use Rattle.std.specs.Cmp.Lexicographic.{pointwise}
+use Rattle.sievelex.specs.declared.token.Mark.TheVariants as K
+use Rattle.sievesyntax.specs.declared.table.keyword.Keyword.TheVariants as W
+use Rattle.sievesyntax.specs.declared.parser.decoding.Decoding.{Decoding}
+use Rattle.sievesyntax.specs.declared.parser.decoding.Decoding.TheVariants.{Open, Named, On, Off}
+use Rattle.sievesyntax.specs.Lexemes.{Lexeme, keyword, tag, number, text, mark, misfit, decoded_lexeme}
+
+-- the string that names the extension
+abbrev pub is_encoded_character : List ℕ → Bool
+is_encoded_character name = pointwise nat_eq name (codes "encoded-character")
+
+-- how strings are read after a lexeme: a word other than `require` ends the requires, and a `require` ends at its semicolon
+abbrev pub decoding_after : Decoding → Lexeme → Decoding
+decoding_after Open (keyword W.Require) = Open
+decoding_after Open (keyword _) = Off
+decoding_after Open (text name) = cond (is_encoded_character name) Named Open
+decoding_after Open _ = Open
+decoding_after Named (mark K.Semicolon) = On
+decoding_after Named _ = Named
+decoding_after On lexeme = On
+decoding_after Off lexeme = Off
+
+-- what is read of a lexeme
+abbrev pub seen : Decoding → Lexeme → Lexeme
+seen Open lexeme = lexeme
+seen Named lexeme = lexeme
+seen On lexeme = decoded_lexeme lexeme
+seen Off lexeme = lexeme
+
+-- what is read of lexemes in a row
+abbrev pub seen_from : Decoding → List Lexeme → List Lexeme
+seen_from decoding [] = []
+seen_from decoding (lexeme ∷ more) = seen decoding lexeme ∷ seen_from (decoding_after decoding lexeme) more
+
+-- what is read of the lexemes of a script
+abbrev pub as_read : List Lexeme → List Lexeme
+as_read lexemes = seen_from Open lexemes

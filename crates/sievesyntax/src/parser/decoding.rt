@@ -1,0 +1,64 @@
+//! Which strings of a script are decoded (RFC 5228, 2.4.2.4).
+ghost use Rattle.std.specs.Prelude.{◌≡◌};
+ghost use Rattle.sievelex.specs.Contents.{content_of};
+ghost use Rattle.sievesyntax.specs.Lexemes.{lexeme_of, lexeme_view};
+ghost use Rattle.sievesyntax.specs.Decoding.{decoding_after, seen};
+ghost use Rattle.sievesyntax.specs.declared.parser.decoding.Decoding.TheVariants.{Open};
+
+use crate::parser::lexeme::{Lexeme, lexeme_of};
+use crate::table::keyword::{Keyword, keyword_named};
+use sievelex::{ContentRef, Mark};
+
+/// How the strings that come next are read.
+#[derive(Clone, Copy)]
+pub(crate) enum Decoding {
+    /// As they are written: only requires stand before, and none names `encoded-character`.
+    Open,
+    /// As they are written: the `require` that names it isn't at its end.
+    Named,
+    /// Decoded.
+    On,
+    /// As they are written: the requires are over, and none named it.
+    Off,
+}
+
+impl Decoding {
+    /// How the strings after this token are read. Time by the length of a name, no memory.
+    pub(crate) fn after(self, content: ContentRef<'_>) -> Decoding
+        ensures { result ≡ decoding_after self (lexeme_of (content_of content.entry)) }
+    {
+        match self {
+            Decoding::Open => after_open(content),
+            Decoding::Named => match content {
+                ContentRef::Mark(Mark::Semicolon) => Decoding::On,
+                _ => Decoding::Named,
+            },
+            Decoding::On => Decoding::On,
+            Decoding::Off => Decoding::Off,
+        }
+    }
+}
+
+/// How the strings after this token are read, before which only requires stand.
+fn after_open(content: ContentRef<'_>) -> Decoding
+    ensures { result ≡ decoding_after Open (lexeme_of (content_of content.entry)) }
+{
+    match content {
+        ContentRef::Identifier(name) => match keyword_named(name) {
+            Keyword::Require => Decoding::Open,
+            _ => Decoding::Off,
+        },
+        ContentRef::Text(name) if name == b"encoded-character".as_slice() => Decoding::Named,
+        _ => Decoding::Open,
+    }
+}
+
+/// What is read of this token. Time by the length of a name, no memory.
+pub(crate) fn seen_of<'a>(content: ContentRef<'a>, decoding: Decoding) -> Lexeme<'a>
+    ensures { lexeme_view result ≡ seen decoding (lexeme_of (content_of content.entry)) }
+{
+    match (decoding, content) {
+        (Decoding::On, ContentRef::Text(written)) => Lexeme::Encoded(written),
+        _ => lexeme_of(content),
+    }
+}
