@@ -10,7 +10,7 @@ use Rattle.sievelex.specs.Rows.{Numeral, IsNumeral, AreNumerals, numeral_spellin
 use Rattle.sievelex.proofs.EncodedLemmas.{words_digit, words_white}
 use Rattle.sievelex.proofs.Prefixes.{both}
 
-hex_not_white : (b : ℕ) → is_hex b ≡ true → is_white b ≡ false
+pub hex_not_white : (b : ℕ) → is_hex b ≡ true → is_white b ≡ false
 hex_not_white b is = grind (arith, common_steps)
 
 inner_is : (hex white : Bool) → (hex || white) ≡ true → white ≡ false → hex ≡ true
@@ -18,7 +18,7 @@ inner_is true white is not = refl
 inner_is false true is not = absurd (cc not)
 inner_is false false is not = absurd (cc is)
 
-and_true : (a b : Bool) → a ≡ true → b ≡ true → (a && b) ≡ true
+pub and_true : (a b : Bool) → a ≡ true → b ≡ true → (a && b) ≡ true
 and_true true b one two = two
 and_true false b one two = absurd (cc one)
 
@@ -57,7 +57,7 @@ numerals_read (n ∷ (next ∷ more)) (is, (parted, others)) =
     ap (words_from []) (append_assoc n.word n.blanks rest) ∙ digits_read [] n.word (n.blanks ++ rest) is.digits ∙ word_read n.word n.blanks rest parted is.white
     ∙ ap (λ ws. ws ++ words_from [] rest) (ended_word n.word is.some) ∙ ap (λ ws. n.word ∷ ws) (numerals_read (next ∷ more) others)
 
-row_words : (s : List ℕ) (words : List (List ℕ)) → IsRow s words → words_from [] s ≡ words
+pub row_words : (s : List ℕ) (words : List (List ℕ)) → IsRow s words → words_from [] s ≡ words
 row_words s words row =
     ap (words_from []) row.spelled ∙ blanks_read row.lead (flat_map numeral_spelling row.numerals) row.blank ∙ numerals_read row.numerals row.each ∙ sym row.named
 

@@ -1,8 +1,11 @@
 -- The numbers of an encoded sequence as the grammar has them (RFC 5228, 2.4.2.4).
-use Rattle.std.specs.Prelude.{◌≡◌, ◌≢◌, ℕ, List, [], ◌∷◌, ◌++◌, map, IsTrue}
+use Rattle.std.specs.Prelude.{◌≡◌, ◌≢◌, ℕ, List, [], ◌∷◌, ◌++◌, length, map, codes, IsTrue}
 use Rattle.std.specs.List.{list_all, flat_map}
+use Rattle.octets.specs.Ascii.{lowered}
+use Rattle.sievelex.specs.declared.encoded.Coding.{Coding}
+use Rattle.sievelex.specs.declared.encoded.Coding.TheVariants.{Hex, Unicode}
 use Rattle.sievelex.specs.Class.{is_white}
-use Rattle.sievelex.specs.Encoded.{is_hex}
+use Rattle.sievelex.specs.Encoded.{is_hex, values_of, valued, sequence_at}
 
 -- a number as it is written, and the blanks after it
 pub record Numeral : Type 0 where
@@ -32,3 +35,30 @@ pub record IsRow (s : List ℕ) (words : List (List ℕ)) : Type 0 where
   pub each : AreNumerals numerals
   pub spelled : s ≡ lead ++ flat_map numeral_spelling numerals
   pub named : words ≡ map (λ n. n.word) numerals
+
+-- how a sequence opens, in any ASCII case
+abbrev pub opening : Coding → List ℕ
+opening Hex = codes "${hex:"
+opening Unicode = codes "${unicode:"
+
+-- a sequence with these words: "${hex:" hex-pair-seq "}", or "${unicode:" unicode-hex-seq "}", but for how many digits a hex-pair has
+pub record IsSequence (coding : Coding) (s : List ℕ) (words : List (List ℕ)) : Type 0 where
+  pub front : List ℕ
+  pub row : List ℕ
+  pub opens : lowered front ≡ opening coding
+  pub numbers : IsRow row words
+  pub some : words ≢ []
+  pub spelled : s ≡ front ++ (row ++ 125 ∷ [])
+
+-- it is read by its words and to its end, whatever follows it
+abbrev pub IsRead : Coding → List ℕ → List (List ℕ) → List ℕ → Type 0
+IsRead coding s words rest = sequence_at (s ++ rest) ≡ valued coding (length s) (values_of coding words)
+
+-- a sequence stands at the front
+pub record BeginsWithSequence (text : List ℕ) : Type 0 where
+  pub coding : Coding
+  pub sequence : List ℕ
+  pub rest : List ℕ
+  pub words : List (List ℕ)
+  pub parts : text ≡ sequence ++ rest
+  pub is : IsSequence coding sequence words
