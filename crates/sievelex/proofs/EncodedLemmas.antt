@@ -63,7 +63,7 @@ length_more word b = length-append word (b ∷ [])
 pub words_digit : (word : List ℕ) (b : ℕ) (s : List ℕ) → is_white b ≡ false → words_from word (b ∷ s) ≡ words_from (word ++ b ∷ []) s
 words_digit word b s is = ap (λ c. cond c (ended word ++ words_from [] s) (words_from (word ++ b ∷ []) s)) is
 
-words_white : (word : List ℕ) (b : ℕ) (s : List ℕ) → is_white b ≡ true → words_from word (b ∷ s) ≡ ended word ++ words_from [] s
+pub words_white : (word : List ℕ) (b : ℕ) (s : List ℕ) → is_white b ≡ true → words_from word (b ∷ s) ≡ ended word ++ words_from [] s
 words_white word b s is = ap (λ c. cond c (ended word ++ words_from [] s) (words_from (word ++ b ∷ []) s)) is
 
 module _ (coding : Coding) (value word : List ℕ) where

@@ -15,6 +15,8 @@ pub mod OctetLemmas
 pub mod Opening
 pub mod Packing
 pub mod Prefixes
+pub mod RowLemmas
+pub mod SequenceLemmas
 pub mod Scanned
 pub mod Several
 pub mod Spaces

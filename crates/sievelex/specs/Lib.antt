@@ -8,6 +8,7 @@ pub mod Finding
 pub mod Front
 pub mod Inside
 pub mod Lines
+pub mod Rows
 pub mod Shape
 pub mod Skip
 pub mod Space

@@ -1,9 +1,26 @@
 //! Laws of the definitions, each the contract of a function that does nothing.
-ghost use Rattle.std.specs.Prelude.{◌≡◌, ℕ, List};
+ghost use Rattle.std.specs.Prelude.{◌≡◌, ◌↔◌, ℕ, List, [], IsTrue};
+ghost use Rattle.std.specs.List.{list_all};
 ghost use Rattle.sievelex.specs.declared.token.Token.{Token};
+ghost use Rattle.sievelex.specs.declared.encoded.Coding.{Coding};
+ghost use Rattle.sievelex.specs.declared.encoded.Sequence.TheVariants.{Absent};
+ghost use Rattle.sievelex.specs.Encoded.{is_inner, words_from, sequence_at};
+ghost use Rattle.sievelex.specs.Rows.{IsRow, IsSequence, IsRead, BeginsWithSequence};
 ghost use Rattle.sievelex.specs.Spelling.{Spells};
 
 /// A text has one list of tokens at most.
 pub fn tokens_of_a_text()
     ensures { (text : List ℕ) (one two : List Token) → Spells text one → Spells text two → one ≡ two }
+{}
+
+/// The numbers that are read of digits and white octets are those that the grammar has there (RFC 5228, 2.4.2.4: hex-pair-seq,
+/// unicode-hex-seq).
+pub fn numbers_of_a_sequence()
+    ensures { (s : List ℕ) (words : List (List ℕ)) → IsTrue (list_all is_inner s) → (words_from [] s ≡ words) ↔ IsRow s words }
+{}
+
+/// Each sequence of the grammar is read as one, whatever follows it, and nothing else is (RFC 5228, 2.4.2.4).
+pub fn sequences_of_the_grammar()
+    ensures read { (coding : Coding) (s rest : List ℕ) (words : List (List ℕ)) → IsSequence coding s words → IsRead coding s words rest }
+    ensures only { (text : List ℕ) → (sequence_at text ≡ Absent → ⊥) → BeginsWithSequence text }
 {}
