@@ -112,7 +112,7 @@ module _ {R : Type 0} (shows : R → Accounts → Type 0) (d e : MailDaemon) (r 
   noted Away w is makes = (w, refl, nothing w is makes)
   noted (Freed event answer) w is makes = freed event answer w is makes.0 makes.1
   noted Spoke w is makes = (w, refl, nothing w is makes)
-  noted Answered w is makes = absurd makes
+  noted Answered w is makes = (w, refl, nothing w is makes)
   noted (Asked others user lookup) w is makes = absurd makes
   noted (Looked wanted) w is makes = absurd makes
   noted (Moved others moving) w is makes = absurd makes
