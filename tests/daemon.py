@@ -221,6 +221,35 @@ def crowd():
     return "the 51st is greeted while one of 50 isn't logged in, which hears BYE; else once one of them is gone, and the next one behind a LOGOUT"
 
 
+def share():
+    """With --memory 1 clients that aren't logged in hold 128 KiB together, beside 8 KiB of each: who passes that hears BYE, while one that is
+    logged in stores a script, and another logs in."""
+    store = new_store("alice")
+    server, port = store.daemon("--memory", "1")
+    user = logged_in(port)
+    guests = [connect(port) for _ in range(20)]
+    for guest in guests:
+        try:
+            guest.send(b'PUTSCRIPT "a" {200000+}\r\n' + b"x" * 60_000)
+        except Gone:
+            pass
+        time.sleep(0.02)
+    stored = user.put(b"big", b"# " + b"x" * 300_000 + b"\r\nkeep;\r\n")
+    other = connect(port)
+    entered = other.log_in("alice")
+    told = []
+    for guest in guests:
+        guest.sock.settimeout(0.2)
+        try:
+            told.append(guest.sock.recv(100))
+        except OSError:
+            pass
+    end(server)
+    assert set(told) == {b'BYE (TRYLATER) "Too much to hold."\r\n'} and len(told) == 18, told
+    assert stored.startswith(b"OK") and entered.startswith(b"OK"), (stored, entered)
+    return "of 20 clients that send 60 kB each without a login 18 hear BYE; a script of 300 kB is stored, and another client logs in"
+
+
 def deaf():
     """A client that reads nothing holds up nobody, and its answers don't pile up."""
     store = new_store("alice", "bob")
@@ -515,7 +544,7 @@ def growth():
     return f"resident {figures[first][0]} kB after {first} connections, {figures[last][0]} kB after {last}; descriptors {figures[first][1]} and {figures[last][1]}"
 
 
-TRIALS = [says, examples, octets, rubbish, silent, fifty, crowd, deaf, guesses, hostile, waits, away, fails, rests, tells, killed, growth]
+TRIALS = [says, examples, octets, rubbish, silent, fifty, crowd, share, deaf, guesses, hostile, waits, away, fails, rests, tells, killed, growth]
 
 
 if __name__ == "__main__":

@@ -26,6 +26,9 @@ STATES = {
 }
 
 
+TOO_MUCH = b'BYE (TRYLATER) "Too much to hold."\r\n'
+
+
 class Peer:
     """A client of LMTP."""
 
@@ -251,20 +254,15 @@ def send_on(peer, part):
         pass
 
 
-def told_at_end(peer):
-    """The reply to the end of a text; nothing where there was no room even for that, and the connection ended."""
-    try:
-        return peer.say(b".\r\n")[0]
-    except OSError:
-        return b""
-
-
 def room():
-    """All that 70 clients send at once, who end nothing: together they hold 64 MiB, and who passes that is told so."""
+    """All that 70 clients send at once, who end nothing: together they hold 64 MiB, those that aren't logged in 8, and who passes that is
+    told so. Each of 20 peers is told what became of its text, and who is logged in goes on."""
     store = new_store("alice")
     size, mib = max(trials.some(30), 5) << 20, 64
     server, sieve, port = daemon(store, "--managesieve", "0", "--lmtp", "0")
     before = memory(server, "VmHWM")
+    user = connect(sieve)
+    user.log_in("alice")
     peers = [Peer(port) for _ in range(20)]
     for peer in peers:
         greet(peer)
@@ -273,19 +271,25 @@ def room():
     for _ in range(size // len(part)):
         for peer in peers:
             send_on(peer, part)
-    clients, gone = [connect(sieve) for _ in range(50)], 0
+    clients, over = [connect(sieve) for _ in range(49)], 0
     literal = b'PUTSCRIPT {1048576+}\r\n' + b"y" * 1_048_576 + b" {1048576+}\r\n" + b"y" * 1_048_000
     for client in clients:
         try:
             client.sock.sendall(literal)
         except OSError:
-            gone += 1
+            pass
     # What they sent is read once this is answered: the daemon reads of each in turn.
     time.sleep(1)
     most = memory(server, "VmHWM")
-    told = [told_at_end(peer) for peer in peers]
+    noop = user.ask(b"NOOP")[-1]
+    for client in clients:
+        client.sock.settimeout(0.1)
+        try:
+            over += client.sock.recv(100) == TOO_MUCH
+        except OSError:
+            pass
+    told = [peer.say(b".\r\n")[0] for peer in peers]
     filed, refused = told.count(b"250 2.1.5 file INBOX\r\n"), told.count(b"452 4.3.1 Out of memory, try later\r\n")
-    ended = told.count(b"")
     for one in [*clients, *peers]:
         one.close()
     time.sleep(1)
@@ -294,11 +298,12 @@ def room():
     again = peer.say(b"MAIL FROM:<s@x> SIZE=33000000\r\n")[0]
     delivered = memory(server, "VmHWM")
     end(server)
-    assert filed + refused + ended == 20 and filed >= 1 and refused + ended >= 1, told
+    assert filed + refused == 20 and filed >= 1 and refused >= 1, told
+    assert noop == b'OK "Done."\r\n' and over >= 40, (noop, over)
     assert count_of(store, "alice") == filed
     assert again == b"250 2.1.0 Ok\r\n", again
     assert most - before < 3 * mib * 1024, (before, most)
-    return f"20 texts of {size >> 20} MiB and 50 scripts of 2 MiB at once, of which {mib} MiB may be held: {filed} filed, {refused} told 452, {ended} disconnected, {gone} scripts cut off; {most} kB at most, {before} before, {delivered} with the deliveries"
+    return f"20 texts of {size >> 20} MiB and 49 scripts of 2 MiB at once, of which {mib} MiB may be held: {filed} filed, {refused} told 452, {over} scripts told BYE; {most} kB at most, {before} before, {delivered} with the deliveries"
 
 
 def little_room():

@@ -5,7 +5,7 @@ use Rattle.lmtp.specs.Dialogues.{Phase, Asking, Sending, Over, Dialogue, given, 
 use Rattle.lmtp.specs.Lines.{line_end, HasNoLineEnd, max_line, Finds}
 use Rattle.lmtp.specs.Orders.{ReadsOrder}
 use Rattle.lmtp.specs.Talks.{phase_of, IsSound}
-use Rattle.lmtp.specs.Texts.{StandsFor}
+use Rattle.lmtp.specs.Texts.{StandsFor, held_text}
 use Rattle.lmtp.specs.Turns.{Answers, Resolves, Replies, max_text, Declines, size_of, lacks_room}
 use Rattle.lmtp.specs.declared.line.Found.TheVariants.{TooLong}
 use Rattle.lmtp.specs.declared.order.Order.{Order}
@@ -120,7 +120,11 @@ IsDropped t = t.stage ≡ stage.Sending → (t.text.kept ≡ []) × IsSome t.tex
 
 -- how many octets of lines and of a text it holds
 abbrev pub held_by : Receiver → ℕ
-held_by r = length r.unread + length r.talk.text.kept
+held_by r = length r.unread + held_text r.talk.text
+
+-- no more than that
+abbrev pub HoldsNoMore : Receiver → Receiver → Type 0
+HoldsNoMore r s = held_by s ≤ held_by r
 
 -- ---- what comes next
 

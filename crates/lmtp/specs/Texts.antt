@@ -1,6 +1,6 @@
 -- The text of a message behind DATA, as it is sent (RFC 5321, section 4.5.2): its lines, a dot before each that begins with one, and a line
 -- that is a dot alone.
-use Rattle.std.specs.Prelude.{◌≡◌, ◌≢◌, ℕ, ◌<◌, ◌≤◌, ◌==◌, if◌then◌else◌, List, [], ◌∷◌, ◌++◌, length, Option, Some, None, Result, Ok, Err}
+use Rattle.std.specs.Prelude.{◌≡◌, ◌≢◌, ℕ, ◌+◌, ◌<◌, ◌≤◌, ◌==◌, if◌then◌else◌, List, [], ◌∷◌, ◌++◌, length, Option, Some, None, Result, Ok, Err}
 use Rattle.std.specs.Borrow.{Bor}
 use Rattle.std.specs.List.{All, flat_map}
 use Rattle.lmtp.specs.Lines.{line_end, IsLine}
@@ -68,6 +68,11 @@ abbrev pub EndsAt : Place → List ℕ → Type 0
 EndsAt place [] = place ≡ Ended
 EndsAt place (octet ∷ rest) = (place ≢ Ended) × EndsAt (after place octet) rest
 
+-- so many octets of it aren't kept yet though they may be of the text: a CR behind a dot, which may begin the end
+abbrev pub put_by : Place → ℕ
+put_by DotReturn = 1
+put_by other = 0
+
 -- both say the same
 pub record TextsAgree : Type 0 where
   pub ends : (sent text : List ℕ) → IsText sent text → EndsAt Start sent
@@ -86,6 +91,10 @@ abbrev pub Keeps : Text → List ℕ → Option Trouble → Type 0
 Keeps t text None = (t.kept ≡ text) × (length text ≤ t.limit)
 Keeps t text (Some TooLarge) = (t.kept ≡ []) × (t.limit < length text)
 Keeps t text (Some Memory) = t.kept ≡ []
+
+-- how many octets it holds
+abbrev pub held_text : Text → ℕ
+held_text t = length t.kept + put_by t.place
 
 -- it stands for these octets
 pub record StandsFor (t : Text) (sent : List ℕ) : Type 0 where

@@ -1,5 +1,5 @@
 //! The server's side of a dialogue.
-ghost use Rattle.std.specs.Prelude.{◌≡◌, ◌≢◌, ◌⊎◌, ◌↔◌, ◌≤◌, length, ◌++◌, true, IsTrue, IfOk, OnOk, OnErr};
+ghost use Rattle.std.specs.Prelude.{◌≡◌, ◌≢◌, ◌⊎◌, ◌↔◌, ◌+◌, ◌≤◌, length, ◌++◌, true, IsTrue, IfOk, OnOk, OnErr};
 ghost use Rattle.lmtp.specs.Dialogues.{Dialogue, new_dialogue};
 ghost use Rattle.lmtp.specs.Lines.{Finds};
 ghost use Rattle.lmtp.specs.Receivers as s;
@@ -107,6 +107,7 @@ impl Receiver {
     /// Lack of memory is the only error, and the output then stays.
     pub fn new(alloc: Global, host: &[u8], out: &mut Octets) -> Result<Receiver, AllocError>
         ensures begins { IfOk result (λ receiver. s.StandsIn receiver new_dialogue) }
+        ensures empty { IfOk result (λ receiver. s.held_by receiver ≡ 0) }
         ensures hello { IfOk result (λ receiver. receiver.talk.hello ≡ r.capabilities host.now) }
         ensures greets { OnOk result (out.new ≡ out.old ++ r.greeting host.now) }
         ensures err { OnErr result (out.new ≡ out.old) }
@@ -134,6 +135,7 @@ impl Receiver {
     /// Lack of memory is the only error; nothing changes then. Time is linear in the octets of the piece, and in those that are unread.
     pub fn give(&mut self, piece: &[u8]) -> Result<(), AllocError>
         ensures hears { OnOk result (s.Hears self.old piece.now self.new) }
+        ensures held { s.held_by self.new ≤ s.held_by self.old + length piece.now }
         ensures hello { self.new.talk.hello ≡ self.old.talk.hello }
         ensures err { OnErr result (self.new ≡ self.old) }
     {
@@ -181,6 +183,7 @@ impl Receiver {
         ensures ok { OnOk result (s.Goes (Answers self.old.talk.hello) self.old self.new out.old out.new) }
         ensures line { OnOk result (s.SaysNext self.old self.new out.old out.new) }
         ensures hello { self.new.talk.hello ≡ self.old.talk.hello }
+        ensures held { s.HoldsNoMore self.old self.new }
         ensures err { OnErr result ((self.new ≡ self.old) × (out.new ≡ out.old)) }
     {
         match self.talk.stage {
@@ -194,6 +197,7 @@ impl Receiver {
         ensures ok { OnOk result (s.Goes (Answers self.old.talk.hello) self.old self.new out.old out.new) }
         ensures line { OnOk result (s.SaysNext self.old self.new out.old out.new) }
         ensures hello { self.new.talk.hello ≡ self.old.talk.hello }
+        ensures held { s.HoldsNoMore self.old self.new }
         ensures err { OnErr result ((self.new ≡ self.old) × (out.new ≡ out.old)) }
     {
         let Found::Line(count) = first_line(self.unread.as_slice()) else {
@@ -215,6 +219,7 @@ impl Receiver {
     pub fn refuse(&mut self, room: u64, out: &mut Octets) -> Result<bool, AllocError>
         ensures ok { IfOk result (λ did. s.Refuses room self.old self.new out.old out.new did) }
         ensures hello { self.new.talk.hello ≡ self.old.talk.hello }
+        ensures held { s.HoldsNoMore self.old self.new }
         ensures err { OnErr result ((self.new ≡ self.old) × (out.new ≡ out.old)) }
     {
         match self.talk.stage {
@@ -227,6 +232,7 @@ impl Receiver {
         requires { self.old.talk.stage ≡ Stage.Ready }
         ensures ok { IfOk result (λ did. s.Refuses room self.old self.new out.old out.new did) }
         ensures hello { self.new.talk.hello ≡ self.old.talk.hello }
+        ensures held { s.HoldsNoMore self.old self.new }
         ensures err { OnErr result ((self.new ≡ self.old) × (out.new ≡ out.old)) }
     {
         let Found::Line(count) = first_line(self.unread.as_slice()) else {
@@ -259,6 +265,7 @@ impl Receiver {
     pub fn resolve(&mut self, lookup: Lookup, out: &mut Octets) -> Result<(), AllocError>
         ensures ok { OnOk result (s.Goes (λ d. Resolves d lookup) self.old self.new out.old out.new) }
         ensures hello { self.new.talk.hello ≡ self.old.talk.hello }
+        ensures held { s.HoldsNoMore self.old self.new }
         ensures err { OnErr result ((self.new ≡ self.old) × (out.new ≡ out.old)) }
     {
         match self.talk.stage {
@@ -274,6 +281,7 @@ impl Receiver {
     pub fn admit(&mut self, lookup: Lookup)
         ensures goes { s.Admits lookup self.old self.new }
         ensures hello { self.new.talk.hello ≡ self.old.talk.hello }
+        ensures held { s.HoldsNoMore self.old self.new }
     {
         match self.talk.stage {
             Stage::Asking => self.talk.admit(lookup),
@@ -288,6 +296,7 @@ impl Receiver {
     pub fn report(&mut self, outcome: Outcome<'_>, out: &mut Octets) -> Result<(), AllocError>
         ensures ok { OnOk result (s.Goes (λ d. Replies d outcome.entry) self.old self.new out.old out.new) }
         ensures hello { self.new.talk.hello ≡ self.old.talk.hello }
+        ensures held { s.HoldsNoMore self.old self.new }
         ensures err { OnErr result ((self.new ≡ self.old) × (out.new ≡ out.old)) }
     {
         match self.talk.stage {
@@ -300,6 +309,7 @@ impl Receiver {
         requires { self.old.talk.stage ≡ Stage.Sending }
         ensures ok { OnOk result (s.Goes (λ d. Replies d outcome.entry) self.old self.new out.old out.new) }
         ensures hello { self.new.talk.hello ≡ self.old.talk.hello }
+        ensures held { s.HoldsNoMore self.old self.new }
         ensures err { OnErr result ((self.new ≡ self.old) × (out.new ≡ out.old)) }
     {
         if !self.talk.text.has_ended() {
@@ -315,6 +325,7 @@ impl Receiver {
     pub fn pass(&mut self)
         ensures goes { s.Passes self.old self.new }
         ensures hello { self.new.talk.hello ≡ self.old.talk.hello }
+        ensures held { s.HoldsNoMore self.old self.new }
     {
         match self.talk.stage {
             Stage::Sending => self.pass_next(),
@@ -326,6 +337,7 @@ impl Receiver {
         requires { self.old.talk.stage ≡ Stage.Sending }
         ensures goes { s.Passes self.old self.new }
         ensures hello { self.new.talk.hello ≡ self.old.talk.hello }
+        ensures held { s.HoldsNoMore self.old self.new }
     {
         if !self.talk.text.has_ended() {
             return;
@@ -341,6 +353,7 @@ impl Receiver {
         ensures dropped { s.IsDropped self.new.talk }
         ensures other { self.old.talk.stage ≢ Stage.Sending → self.new ≡ self.old }
         ensures hello { self.new.talk.hello ≡ self.old.talk.hello }
+        ensures held { s.HoldsNoMore self.old self.new }
     {
         match self.talk.stage {
             Stage::Sending => self.talk.text.give_up(),
@@ -352,7 +365,7 @@ impl Receiver {
     pub fn held(&self) -> usize
         ensures { result ≡ s.held_by self.now }
     {
-        self.unread.as_slice().len() + self.talk.text.kept.as_slice().len()
+        self.unread.as_slice().len() + self.talk.text.held()
     }
 
     /// What goes on.
@@ -366,6 +379,7 @@ impl Receiver {
     fn take_in(&mut self)
         ensures takes { s.TakesIn self.old self.new }
         ensures talk { self.new.talk.hello ≡ self.old.talk.hello }
+        ensures held { s.HoldsNoMore self.old self.new }
     {
         match self.talk.stage {
             Stage::Sending => self.feed_text(),
@@ -378,6 +392,7 @@ impl Receiver {
         requires { self.old.talk.stage ≡ Stage.Sending }
         ensures takes { s.TakesIn self.old self.new }
         ensures talk { self.new.talk.hello ≡ self.old.talk.hello }
+        ensures held { s.HoldsNoMore self.old self.new }
     {
         let taken = self.talk.text.feed(self.unread.as_slice());
         self.unread.drop_front(taken);
@@ -387,6 +402,7 @@ impl Receiver {
         requires { s.takes_lines self.old.talk.stage ≡ true }
         ensures takes { s.TakesIn self.old self.new }
         ensures talk { self.new.talk.hello ≡ self.old.talk.hello }
+        ensures held { s.HoldsNoMore self.old self.new }
     {
         if self.long {
             self.drop_line();
@@ -401,6 +417,7 @@ impl Receiver {
         requires long { (self.old.long ≡ true) ⊎ Finds Found.TooLong self.old.unread }
         ensures takes { s.TakesIn self.old self.new }
         ensures talk { self.new.talk.hello ≡ self.old.talk.hello }
+        ensures held { s.HoldsNoMore self.old self.new }
     {
         self.long = true;
         let count = skip_line(self.unread.as_slice());

@@ -1,5 +1,5 @@
 //! The text of a message.
-ghost use Rattle.std.specs.Prelude.{if◌then◌else◌, ◌≡◌, ◌≢◌, ◌↔◌, ℕ, ◌==◌, true, ◌<◌, ◌≤◌, ◌++◌, ◌∷◌, [], List, Some, length, take, slice_index, IsSome, IsTrue};
+ghost use Rattle.std.specs.Prelude.{if◌then◌else◌, ◌≡◌, ◌≢◌, ◌↔◌, ℕ, ◌==◌, true, ◌+◌, ◌^◌, ◌<◌, ◌≤◌, ◌++◌, ◌∷◌, [], List, Some, length, take, slice_index, IsSome, IsTrue};
 ghost use Rattle.lmtp.specs.declared.text.Place.TheVariants.{Ended as ended};
 ghost use Rattle.lmtp.specs.Texts as s;
 
@@ -48,6 +48,7 @@ impl Text {
     /// A text of at most so many octets, before the first one. Takes no memory.
     pub fn new(alloc: Global, limit: usize) -> Text
         ensures stands { s.StandsFor result [] }
+        ensures empty { s.held_text result ≡ 0 }
         ensures limit { result.limit ≡ limit }
     {
         Text {
@@ -69,6 +70,25 @@ impl Text {
         }
     }
 
+    /// How many octets it holds: those that are kept, and a CR behind a dot, which may begin the end. Constant time.
+    pub fn held(&self) -> usize
+        ensures value { result ≡ s.held_text self.now }
+        ensures fits { result ≤ 2 ^ 63 }
+    {
+        self.kept.as_slice().len() + self.put_off()
+    }
+
+    // How many octets are held that aren't kept.
+    fn put_off(&self) -> usize
+        ensures value { result ≡ s.put_by self.now.place }
+        ensures small { result ≤ 1 }
+    {
+        match self.place {
+            Place::DotReturn => 1,
+            _ => 0,
+        }
+    }
+
     /// Takes the octets of a piece in turn until the text has ended, and gives how many it took: all of them where it hasn't.
     ///
     /// Time is linear in the octets taken. Where there is no memory, or more octets than the limit, the text is dropped and the
@@ -77,6 +97,7 @@ impl Text {
         ensures within { result ≤ length piece.now }
         ensures feeds { s.Feeds self.old (take result piece.now) self.new }
         ensures whole { self.new.place ≢ ended → result ≡ length piece.now }
+        ensures held { s.held_text self.new ≤ s.held_text self.old + result }
         ensures limit { self.new.limit ≡ self.old.limit }
     {
         let mut taken = 0;
@@ -121,6 +142,7 @@ impl Text {
         ensures within { result ≤ length octets.now }
         ensures feeds { s.Feeds self.old (take result octets.now) self.new }
         ensures none { result ≡ 0 → length octets.now ≡ 0 }
+        ensures held { s.held_text self.new ≤ s.held_text self.old + result }
         ensures limit { self.new.limit ≡ self.old.limit }
     {
         let count = self.feed_run(octets);
@@ -138,6 +160,7 @@ impl Text {
     fn feed_run(&mut self, octets: &[u8]) -> usize
         ensures within { result ≤ length octets.now }
         ensures feeds { s.Feeds self.old (take result octets.now) self.new }
+        ensures held { s.held_text self.new ≤ s.held_text self.old + result }
         ensures place { self.new.place ≡ self.old.place }
         ensures limit { self.new.limit ≡ self.old.limit }
     {
@@ -153,6 +176,7 @@ impl Text {
     fn turn(&mut self, octet: u8)
         requires { self.old.place ≢ ended }
         ensures feeds { s.Feeds self.old (octet ∷ []) self.new }
+        ensures held { s.held_text self.new ≤ s.held_text self.old + 1 }
         ensures limit { self.new.limit ≡ self.old.limit }
     {
         self.gain(octet);
@@ -162,6 +186,7 @@ impl Text {
     // What the text has more after one octet joins it.
     fn gain(&mut self, octet: u8)
         ensures keeps { (text : List ℕ) → s.Keeps self.old text self.old.trouble → s.Keeps self.new (text ++ s.gained self.old.place octet) self.new.trouble }
+        ensures held { length self.new.kept + s.put_by (s.after self.old.place octet) ≤ s.held_text self.old + 1 }
         ensures place { self.new.place ≡ self.old.place }
         ensures limit { self.new.limit ≡ self.old.limit }
     {
@@ -179,6 +204,7 @@ impl Text {
     // An octet joins the text, but that one.
     fn append_unless(&mut self, octet: u8, but: u8)
         ensures keeps { (text : List ℕ) → s.Keeps self.old text self.old.trouble → s.Keeps self.new (text ++ (if octet == but then [] else octet ∷ [])) self.new.trouble }
+        ensures held { length self.new.kept ≤ length self.old.kept + (if octet == but then 0 else 1) }
         ensures place { self.new.place ≡ self.old.place }
         ensures limit { self.new.limit ≡ self.old.limit }
     {
@@ -190,6 +216,7 @@ impl Text {
     // Octets join the text, or it isn't kept.
     fn append(&mut self, octets: &[u8])
         ensures keeps { (text : List ℕ) → s.Keeps self.old text self.old.trouble → s.Keeps self.new (text ++ octets.now) self.new.trouble }
+        ensures held { length self.new.kept ≤ length self.old.kept + length octets.now }
         ensures place { self.new.place ≡ self.old.place }
         ensures limit { self.new.limit ≡ self.old.limit }
     {

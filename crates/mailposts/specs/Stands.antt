@@ -2,7 +2,7 @@
 use Rattle.std.specs.Prelude.{◌≡◌, ◌⊎◌, ◌<◌, ℕ, ◌+◌, Bool, true, false, if◌then◌else◌, List, [], ◌∷◌, ◌++◌, length, take, ◌≤◌, Option, Some, None}
 use Rattle.std.specs.Vec.{vec_len, vec_capacity}
 use Rattle.lmtp.specs.Dialogues.{Asking, Dialogue}
-use Rattle.lmtp.specs.Receivers.{StandsIn, ComesNext}
+use Rattle.lmtp.specs.Receivers.{StandsIn, ComesNext, HoldsNoMore as ReceiverHolds}
 use Rattle.lmtp.specs.declared.receiver.Next.{Next}
 use Rattle.lmtp.specs.declared.receiver.Next.TheVariants as next
 use Rattle.lmtp.specs.declared.receiver.Lookup.{Lookup}
@@ -98,6 +98,10 @@ Keeps c e = (p : Post) → Stands c p → Stands e p
 
 abbrev pub Hears : ℕ → List ℕ → Code → Code → Type 0
 Hears now piece c e = (p : Post) → Stands c p → Stands e (post_heard now piece p)
+
+-- no more octets of lines and of a text are held
+abbrev pub HoldsNoMore : Code → Code → Type 0
+HoldsNoMore c e = ReceiverHolds c.receiver e.receiver
 
 -- this was done for it, and said
 abbrev pub Does : ℕ → Deed → List ℕ → Code → Code → Type 0

@@ -21,6 +21,7 @@ impl Post {
     /// Lack of memory is the only error.
     pub fn demand(&mut self, now: u64) -> Result<Demand, AllocError>
         ensures keeps { s.Keeps self.old self.new }
+        ensures receiver { self.new.receiver ≡ self.old.receiver }
         ensures slot { OnOk result (s.HasSlot self.new) }
         ensures demands { IfOk result (s.Demands now self.new) }
     {

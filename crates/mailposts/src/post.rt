@@ -1,5 +1,5 @@
 //! The state of one connection.
-ghost use Rattle.std.specs.Prelude.{◌≡◌, ◌≢◌, ◌<◌, List, [], ◌∷◌, ◌++◌, length, Some, IfOk, OnOk, OnErr};
+ghost use Rattle.std.specs.Prelude.{◌≡◌, ◌≢◌, ◌+◌, ◌<◌, ◌≤◌, List, [], ◌∷◌, ◌++◌, length, Some, IfOk, OnOk, OnErr};
 ghost use Rattle.mailposts.specs.declared.addressee.Addressee.{Addressee};
 ghost use Rattle.lmtp.specs.Receivers as receivers;
 ghost use Rattle.lmtp.specs.Replies as replies;
@@ -46,6 +46,7 @@ impl Post {
     ) -> Result<Post, AllocError>
         requires { out.old ≡ [] }
         ensures begins { IfOk result (λ post. s.Stands post (posts.new_post names host.now now)) }
+        ensures empty { IfOk result (λ post. receivers.held_by post.receiver ≡ 0) }
         ensures greets { OnOk result (out.new ≡ replies.greeting host.now) }
         ensures err { OnErr result (out.new ≡ out.old) }
     {
@@ -80,6 +81,7 @@ impl Post {
     /// Lack of memory is the only error; nothing changes then.
     pub fn hear(&mut self, now: u64, piece: &[u8]) -> Result<(), AllocError>
         ensures hears { OnOk result (s.Hears now piece.now self.old self.new) }
+        ensures held { receivers.held_by self.new.receiver ≤ receivers.held_by self.old.receiver + length piece.now }
         ensures err { OnErr result (self.new ≡ self.old) }
     {
         let sending = is_sending(self.receiver.stage());
@@ -102,6 +104,7 @@ impl Post {
         ensures keeps { s.Keeps self.old self.new }
         ensures dropped { receivers.IsDropped self.new.receiver.talk }
         ensures other { self.old.receiver.talk.stage ≢ Stage.Sending → self.new ≡ self.old }
+        ensures held { s.HoldsNoMore self.old self.new }
     {
         self.receiver.drop_text();
     }
@@ -113,6 +116,7 @@ impl Post {
     pub fn refuse(&mut self, now: u64, room: u64, out: &mut Octets) -> Result<bool, AllocError>
         requires out { out.old ≡ [] }
         ensures ok { IfOk result (λ did. s.Refuses now room out.new did self.old self.new) }
+        ensures held { s.HoldsNoMore self.old self.new }
         ensures err { OnErr result ((self.new ≡ self.old) × (out.new ≡ out.old)) }
     {
         let did = self.receiver.refuse(room, out)?;
@@ -128,7 +132,8 @@ impl Post {
     pub fn answer(&mut self, now: u64, out: &mut Octets) -> Result<(), AllocError>
         requires out { out.old ≡ [] }
         requires line { s.Demands now self.old demands.Line }
-        ensures { OnOk result (s.Does now Answered out.new self.old self.new) }
+        ensures does { OnOk result (s.Does now Answered out.new self.old self.new) }
+        ensures held { s.HoldsNoMore self.old self.new }
     {
         self.receiver.answer(out)?;
         self.go_on(now);
@@ -140,7 +145,8 @@ impl Post {
     /// Lack of memory is the only error.
     pub fn put_off(&mut self, now: u64) -> Result<Octets, AllocError>
         requires { s.Demands now self.old demands.PutOff }
-        ensures { IfOk result (λ said. s.Does now Answered said self.old self.new) }
+        ensures does { IfOk result (λ said. s.Does now Answered said self.old self.new) }
+        ensures held { s.HoldsNoMore self.old self.new }
     {
         let room = Room::new(self.alloc)?;
         Ok(self.resolve(now, Lookup::Away, room))
@@ -149,7 +155,8 @@ impl Post {
     /// The store isn't to be had, and is asked for again.
     pub fn await_store(&mut self, now: u64)
         requires { s.AsksIt now self.old }
-        ensures { s.Does now Away [] self.old self.new }
+        ensures does { s.Does now Away [] self.old self.new }
+        ensures held { s.HoldsNoMore self.old self.new }
     {
         self.tally = self.tally.away(now);
     }
@@ -159,7 +166,8 @@ impl Post {
         requires found { posts.IsFound lookup }
         requires asked { s.Demands now self.old (demands.Account question) }
         requires slot { s.HasSlot self.old }
-        ensures { s.Does now (Asked question.user lookup) result self.old self.new }
+        ensures does { s.Does now (Asked question.user lookup) result self.old self.new }
+        ensures held { s.HoldsNoMore self.old self.new }
     {
         let Question {
             user,
@@ -198,7 +206,8 @@ impl Post {
 
     // The recipient is answered.
     fn resolve(&mut self, now: u64, lookup: Lookup, room: Room) -> Octets
-        ensures { s.ResolvesIt now lookup result self.old self.new }
+        ensures resolves { s.ResolvesIt now lookup result self.old self.new }
+        ensures held { s.HoldsNoMore self.old self.new }
     {
         self.receiver.admit(lookup);
         self.tally.tried = 0;
@@ -211,7 +220,8 @@ impl Post {
     /// Lack of memory is the only error.
     pub fn reply(&mut self, now: u64, became: Became) -> Result<Octets, AllocError>
         requires { s.Demands now self.old (demands.Reply became) }
-        ensures { IfOk result (λ said. s.Does now Answered said self.old self.new) }
+        ensures does { IfOk result (λ said. s.Does now Answered said self.old self.new) }
+        ensures held { s.HoldsNoMore self.old self.new }
     {
         let room = Room::new(self.alloc)?;
         Ok(self.tell(now, became, room))
@@ -220,14 +230,16 @@ impl Post {
     /// A message was brought to the store, and this became of it. What is said. Takes no memory.
     pub fn brought(&mut self, now: u64, parcel: &Parcel, became: Became, room: Room) -> Octets
         requires { s.Demands now self.old (demands.Delivery parcel.now) }
-        ensures { s.Does now (Brought parcel.now became) result self.old self.new }
+        ensures does { s.Does now (Brought parcel.now became) result self.old self.new }
+        ensures held { s.HoldsNoMore self.old self.new }
     {
         self.tell(now, became, room)
     }
 
     // The reply to the next recipient is made.
     fn tell(&mut self, now: u64, became: Became, room: Room) -> Octets
-        ensures { s.TellsIt now became result self.old self.new }
+        ensures tells { s.TellsIt now became result self.old self.new }
+        ensures held { s.HoldsNoMore self.old self.new }
     {
         let line = room.say(became.outcome());
         self.receiver.pass();
@@ -252,7 +264,8 @@ impl Post {
 
     // What follows from what goes on in the dialogue.
     fn go_on(&mut self, now: u64)
-        ensures { s.GoesOn now self.old self.new }
+        ensures goes { s.GoesOn now self.old self.new }
+        ensures receiver { self.new.receiver ≡ self.old.receiver }
     {
         self.settle(now);
         self.comes = wanted_for(self.receiver.next());

@@ -1,14 +1,14 @@
 -- What all hold, counted off what they may.
-use Rattle.std.proofs.Common.{◌≡◌, ◌∙◌, inl, inr, ℕ, ◌+◌, ◌-◌, Bool, true, cond, List, [], ◌∷◌, Option, Some, None, sym, ap, subst, arith}
+use Rattle.std.proofs.Common.{◌≡◌, ◌∙◌, inl, inr, ℕ, ◌+◌, ◌-◌, ◌≤◌, length, true, cond, List, [], ◌∷◌, Option, Some, None, sym, ap, subst, arith}
 use Rattle.std.specs.Cmp.{eq_by_cmp_equiv, nat_cmp_total}
 use Rattle.lmtp.specs.Receivers.{held_by}
 use Rattle.mailengine.specs.Hosts.{Kept}
-use Rattle.mailposts.specs.Stands.{Keeps, Hears}
+use Rattle.mailposts.specs.Stands.{Keeps, Hears, HoldsNoMore}
 use Rattle.mailposts.specs.declared.post.Post.{Post}
 use Rattle.wires.specs.Talk.{same}
-use Rattle.sieveddaemon.specs.Bounds.{unread_of, unread_in, held_in}
+use Rattle.sieveddaemon.specs.Bounds.{unread_of, unread_in, guest_unread, guests_in, held_in}
 use Rattle.sieveddaemon.specs.DaemonRules.{LacksFor}
-use Rattle.sieveddaemon.specs.MailRules.{post_at, Posts, SameHost, DropsText, KeepsText, KeepsPosts, TakesPiece, LacksBy}
+use Rattle.sieveddaemon.specs.MailRules.{post_at, Posts, SameHost, KeepsText, KeepsPosts, TakesPiece, LacksBy}
 use Rattle.sieveddaemon.specs.Places.{client_at}
 use Rattle.sieveddaemon.specs.declared.daemon.Daemon.{Daemon}
 use Rattle.sieveddaemon.specs.declared.mail.MailDaemon.{MailDaemon}
@@ -21,6 +21,10 @@ abbrev pub less_unread : Kept → ℕ → List (ℕ × Place) → ℕ
 less_unread sessions left [] = left
 less_unread sessions left (it ∷ entries) = less_unread sessions (left - unread_of (client_at sessions it.0)) entries
 
+abbrev pub less_guests : Kept → ℕ → List (ℕ × Place) → ℕ
+less_guests sessions left [] = left
+less_guests sessions left (it ∷ entries) = less_guests sessions (left - guest_unread (client_at sessions it.0)) entries
+
 abbrev pub less_held : ℕ → List (ℕ × Post) → ℕ
 less_held left [] = left
 less_held left (it ∷ entries) = less_held (left - held_by it.1.receiver) entries
@@ -32,6 +36,11 @@ pub all_unread : (sessions : Kept) (left : ℕ) (entries : List (ℕ × Place)) 
 all_unread sessions left [] = omega arith
 all_unread sessions left (it ∷ entries) =
     all_unread sessions (left - unread_of (client_at sessions it.0)) entries ∙ two_off left (unread_of (client_at sessions it.0)) (unread_in sessions entries)
+
+pub all_guests : (sessions : Kept) (left : ℕ) (entries : List (ℕ × Place)) → less_guests sessions left entries ≡ left - guests_in sessions entries
+all_guests sessions left [] = omega arith
+all_guests sessions left (it ∷ entries) =
+    all_guests sessions (left - guest_unread (client_at sessions it.0)) entries ∙ two_off left (guest_unread (client_at sessions it.0)) (guests_in sessions entries)
 
 pub all_held : (left : ℕ) (entries : List (ℕ × Post)) → less_held left entries ≡ left - held_in entries
 all_held left [] = omega arith
@@ -61,6 +70,9 @@ kept_posts d id count m (inr is) = inr is.1
 heard_over : (now : ℕ) (piece : List ℕ) (before mid after : Post) → Keeps before mid → Hears now piece mid after → Hears now piece before after
 heard_over now piece before mid after keeps hears = λ p stands. hears p (keeps p stands)
 
+held_over : (before mid after : Post) (count : ℕ) → HoldsNoMore before mid → held_by after.receiver ≤ held_by mid.receiver + count → held_by after.receiver ≤ held_by before.receiver + count
+held_over before mid after count less more = omega (arith, less, more)
+
 -- what is heard behind that is heard
 pub takes_behind : (d m e : MailDaemon) (now id : ℕ) (piece : List ℕ) → KeepsPosts d id m → TakesPiece m now id piece e → TakesPiece d now id piece e
 takes_behind d m e now id piece (inl is) takes = subst (λ (x : MailDaemon). TakesPiece x now id piece e) is takes
@@ -73,6 +85,7 @@ takes_behind d m e now id piece (inr drops) takes =
       was = drops.was;
       after = takes.after;
       hears = heard_over now piece drops.before takes.before takes.after (subst (λ (x : Post). Keeps drops.before x) one drops.keeps) takes.hears;
+      held = held_over drops.before takes.before takes.after (length piece) (subst (λ (x : Post). HoldsNoMore drops.before x) one drops.held) takes.held;
       posts = posts_over d m e id (Some drops.after) (Some takes.after) drops.posts takes.posts;
       daemon = takes.daemon ∙ drops.daemon;
       host = hosts d m e drops.host takes.host;

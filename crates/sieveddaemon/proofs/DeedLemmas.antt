@@ -1,12 +1,13 @@
 -- One step of a client of LMTP, put together from what is told and known.
-use Rattle.std.proofs.Common.{◌≡◌, ℕ, Bool, true, false, List, Some, None, IsTrue, inl, inr, refl, sym, ◌∙◌, ap}
+use Rattle.std.proofs.Common.{◌≡◌, ◌≤◌, ℕ, Bool, true, false, List, Some, None, IsTrue, inl, inr, refl, sym, ◌∙◌, ap, subst, arith}
+use Rattle.lmtp.specs.Receivers.{held_by}
 use Rattle.lmtp.specs.declared.receiver.Lookup.{Lookup}
 use Rattle.mailstore.specs.Account.{Accounts}
 use Rattle.mailengine.specs.declared.answer.Answer.{Answer}
 use Rattle.mailengine.specs.declared.event.Event.{Event}
 use Rattle.mailengine.specs.declared.clients.Clients.{Clients}
 use Rattle.mailposts.specs.Posts.{Deed, Answered, Declined, Asked, Away, Brought}
-use Rattle.mailposts.specs.Stands.{Keeps, Does, Demands, AsksIt}
+use Rattle.mailposts.specs.Stands.{Keeps, Does, Demands, AsksIt, HoldsNoMore}
 use Rattle.mailposts.specs.declared.addressee.Became.{Became}
 use Rattle.mailposts.specs.declared.demand.Demand.TheVariants as demand
 use Rattle.mailposts.specs.declared.demand.Parcel.{Parcel}
@@ -26,6 +27,13 @@ use Rattle.sieveddaemon.specs.declared.note.Note.TheVariants as note
 -- a deed behind what keeps the connection as it is
 pub behind : (now : ℕ) (deed : Deed) (said : List ℕ) (before mid after : Post) → Keeps before mid → Does now deed said mid after → Does now deed said before after
 behind now deed said before mid after keeps does = λ p stands. does p (keeps p stands)
+
+-- no more is held behind it
+pub less_behind : (before mid after : Post) → mid.receiver ≡ before.receiver → HoldsNoMore mid after → HoldsNoMore before after
+less_behind before mid after same less = subst (λ r. held_by after.receiver ≤ held_by r) same less
+
+pub less_then : (before mid after : Post) → HoldsNoMore before mid → HoldsNoMore mid after → HoldsNoMore before after
+less_then before mid after one two = omega (arith, one, two)
 
 -- the store is asked for an account, or for a delivery
 pub asks_account : (now : ℕ) (c : Post) (question : Question) → Demands now c (demand.Account question) → AsksIt now c
@@ -47,7 +55,7 @@ size_of (Declined size) = size
 size_of deed = 0
 
 module _ {O R : Type 0} (tells : O → Bool) (seen : O → List (Act Note)) (rest : O → R) (shows : List Event → R → Accounts → Type 0) (clean : R → Type 0) (sure : (o : O) → IsTrue (tells o) → clean (rest o))
-    (o p : O) (d : Daemon) (c : Clients) (now id : ℕ) (said : List ℕ) (before after : Post) (room : ℕ) where
+    (o p : O) (d : Daemon) (c : Clients) (now id : ℕ) (said : List ℕ) (before after : Post) (room : ℕ) (less : HoldsNoMore before after) where
   abbrev One : Daemon → Type 0
   One e = DoesOneIf tells seen rest shows room o d before now id said p e after
 
@@ -55,7 +63,7 @@ module _ {O R : Type 0} (tells : O → Bool) (seen : O → List (Act Note)) (res
   answered does told still = λ tell. (
     note.Answered,
     told tell,
-    record { deed = Answered; is = inl refl; does = does; spare = λ size. other_deed room size Answered refl; stores = record { shown = still tell; kept = λ clients has. has }; places = refl; holding = refl },
+    record { deed = Answered; is = inl refl; does = does; spare = λ size. other_deed room size Answered refl; held = less; stores = record { shown = still tell; kept = λ clients has. has }; places = refl; holding = refl },
   )
 
   -- a MAIL was refused that announces more than there is room for
@@ -68,6 +76,7 @@ module _ {O R : Type 0} (tells : O → Bool) (seen : O → List (Act Note)) (res
       is = inr (room, refl);
       does = does;
       spare = λ size is. sym (ap size_of is);
+      held = less;
       stores = record { shown = still tell; kept = λ clients has. has };
       places = refl;
       holding = refl;
@@ -79,14 +88,14 @@ module _ {O R : Type 0} (tells : O → Bool) (seen : O → List (Act Note)) (res
   asked user lookup looks does h had = λ tell. (
     note.Asked looks.0 user lookup,
     looks.2 tell,
-    record { deed = Asked user lookup; is = refl; does = does; spare = λ size. other_deed room size (Asked user lookup) refl; stores = looks.1 (sure p tell); places = refl; holding = had },
+    record { deed = Asked user lookup; is = refl; does = does; spare = λ size. other_deed room size (Asked user lookup) refl; held = less; stores = looks.1 (sure p tell); places = refl; holding = had },
   )
 
   pub unasked : (user : List ℕ) → LooksUp tells seen rest shows clean id user o d.clients.sessions None p c.sessions → Does now Away said before after → One (record d { clients = c })
   unasked user looks does = λ tell. (
     note.Away,
     looks.1 tell,
-    record { deed = Away; is = refl; does = does; spare = λ size. other_deed room size Away refl; stores = looks.0 (sure p tell); places = refl; holding = refl },
+    record { deed = Away; is = refl; does = does; spare = λ size. other_deed room size Away refl; held = less; stores = looks.0 (sure p tell); places = refl; holding = refl },
   )
 
   pub brought : (parcel : Parcel) (answer : Answer) (became : Became) → Delivers tells seen rest shows clean id parcel o d.clients.sessions (Some answer) p c.sessions → IsBecame parcel.sender answer became
@@ -94,20 +103,20 @@ module _ {O R : Type 0} (tells : O → Bool) (seen : O → List (Act Note)) (res
   brought parcel answer became delivers is does h had = λ tell. (
     note.Did delivers.1.0 (delivery_of parcel delivers.0) answer,
     delivers.1.2 tell,
-    record { deed = Brought parcel became; is = (parcel, delivers.0, became, refl, is, refl); does = does; spare = λ size. other_deed room size (Brought parcel became) refl; stores = delivers.1.1 (sure p tell); places = refl; holding = had },
+    record { deed = Brought parcel became; is = (parcel, delivers.0, became, refl, is, refl); does = does; spare = λ size. other_deed room size (Brought parcel became) refl; held = less; stores = delivers.1.1 (sure p tell); places = refl; holding = had },
   )
 
   pub unbrought : (parcel : Parcel) → Delivers tells seen rest shows clean id parcel o d.clients.sessions None p c.sessions → Does now Away said before after → One (record d { clients = c })
   unbrought parcel delivers does = λ tell. (
     note.Away,
     delivers.1.1 tell,
-    record { deed = Away; is = refl; does = does; spare = λ size. other_deed room size Away refl; stores = delivers.1.0 (sure p tell); places = refl; holding = refl },
+    record { deed = Away; is = refl; does = does; spare = λ size. other_deed room size Away refl; held = less; stores = delivers.1.0 (sure p tell); places = refl; holding = refl },
   )
 
 -- one step of a connection that is as it was
 pub one_behind : {O R : Type 0} (tells : O → Bool) (seen : O → List (Act Note)) (rest : O → R) (shows : List Event → R → Accounts → Type 0) (o p : O) (d e : Daemon) (before mid after : Post) (now id : ℕ) (said : List ℕ) (room : ℕ)
-    → Keeps before mid → DoesOneIf tells seen rest shows room o d mid now id said p e after → DoesOneIf tells seen rest shows room o d before now id said p e after
-one_behind tells seen rest shows o p d e before mid after now id said room keeps one = λ tell.
+    → Keeps before mid → mid.receiver ≡ before.receiver → DoesOneIf tells seen rest shows room o d mid now id said p e after → DoesOneIf tells seen rest shows room o d before now id said p e after
+one_behind tells seen rest shows o p d e before mid after now id said room keeps same one = λ tell.
     let s = one tell in (
       s.0,
       s.1,
@@ -116,6 +125,7 @@ one_behind tells seen rest shows o p d e before mid after now id said room keeps
         is = s.2.is;
         does = behind now s.2.deed said before mid after keeps s.2.does;
         spare = s.2.spare;
+        held = less_behind before mid after same s.2.held;
         stores = s.2.stores;
         places = s.2.places;
         holding = s.2.holding;

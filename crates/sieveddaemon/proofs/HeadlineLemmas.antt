@@ -1,5 +1,5 @@
 -- From the moves of a life to its headline.
-use Rattle.std.proofs.Common.{◌≡◌, ℕ, ◌==◌, Bool, true, false, List, [], ◌∷◌, ◌++◌, Option, Some, None, IfSome, refl, sym, ◌∙◌, ap, subst}
+use Rattle.std.proofs.Common.{◌≡◌, ℕ, ◌==◌, Bool, true, false, List, [], ◌∷◌, ◌++◌, Option, Some, None, IfSome, refl, sym, ◌∙◌, ap, subst, arith}
 use Rattle.std.specs.Ordering.{nat_cmp}
 use Rattle.std.specs.BTreeMap as tree
 use Rattle.std.specs.Map.{lookup}
@@ -28,17 +28,21 @@ use Rattle.sieveddaemon.specs.Acts.{Line, no_line, LeadsBy, LacksThen, LeadsIn, 
 use Rattle.sieveddaemon.specs.DaemonRules.{lmtp, place_at}
 use Rattle.sieveddaemon.specs.Desk.{IsWorld}
 use Rattle.sieveddaemon.specs.Headline.{world_of, HoldsAfter, Headline, IsNew}
+use Rattle.sieveddaemon.specs.Holding.{firm_client, firm_post, firm_at, IsBounded}
 use Rattle.sieveddaemon.specs.MailActs.{MailLine, Tells, TellsOn}
 use Rattle.sieveddaemon.specs.MailRules.{mail_rules, post_at}
+use Rattle.sieveddaemon.specs.Places.{client_at}
 use Rattle.sieveddaemon.specs.Moves.{LetAt, MovedAt, takes_of, answers_of}
 use Rattle.sieveddaemon.specs.declared.mail.MailDaemon.{MailDaemon}
 use Rattle.sieveddaemon.specs.declared.note.Note.{Note}
 use Rattle.sieveddaemon.specs.declared.note.Note.TheVariants.{Did, Away, Freed, Spoke, Answered, Asked, Looked, Moved}
 use Rattle.sieveddaemon.proofs.EventLemmas.{runs_then, runs_one, none_open}
+use Rattle.sieveddaemon.proofs.HoldingLemmas.{grown, bounded_then}
 use Rattle.sieveddaemon.proofs.LeadLemmas.{Led, leads}
 use Rattle.sieveddaemon.proofs.LineLemmas.{TiedBy, moment_is, tied_after, right_at}
 use Rattle.sieveddaemon.proofs.MailLemmas.{IsSetUp, stays_set_up, BoundBy, FitsBy as MailFits, words_of as mail_words, mail_after}
 use Rattle.sieveddaemon.proofs.SentLemmas.{front}
+use Rattle.sieveddaemon.proofs.SumLemmas.{sums_nothing}
 use Rattle.sieveddaemon.proofs.TurnLemmas.{IsFull, fulls}
 use Rattle.sieveddaemon.proofs.WordLemmas.{FitsBy, words_of, none_sent, line_after}
 
@@ -126,6 +130,20 @@ module _ {R : Type 0} (shows : List Event → R → Accounts → Type 0) where
       (leads shows tried m.machine mid.machine m.rest mid.rest m.service mid.service (acts_of moves) (lacks_then mid moves n passes.4) one.act one.said w one.turns one.leaves here stands) in
       let more = leads_on tried mid moves n led.0 (among_right tried (tried_at move.act) (tried_in (acts_of moves)) are) passes.4 led.2 in
       (more.0, (led.0, led.1, more.1), more.2)
+
+  -- what all hold
+  bounded_on : (tried : List Event) (m : Moment MailDaemon Note R) (moves : List (Move Note)) (n : Moment MailDaemon Note R) (w : World) → AreTried tried (tried_in (acts_of moves)) → Passes (mail_rules shows) m moves n → Stands tried m w
+      → IsBounded m.machine → IsBounded n.machine
+  bounded_on tried m [] n w are passes stands was = subst (λ (k : Moment MailDaemon Note R). IsBounded k.machine) (sym passes) was
+  bounded_on tried m (move ∷ moves) n w are passes stands was =
+      let mid = passes.0 in
+      let one = passes.1 in
+      let here : AreTried tried (tried_at one.act) =
+      subst (λ a. AreTried tried (tried_at a)) (sym passes.2) (among_left tried (tried_at move.act) (tried_in (acts_of moves)) are) in
+      let led : Led shows tried m.machine mid.machine m.rest mid.rest w one.act (acts_of moves) =
+      leads shows tried m.machine mid.machine m.rest mid.rest m.service mid.service (acts_of moves) (lacks_then mid moves n passes.4) one.act one.said w one.turns one.leaves here stands in
+      let more = grown m.machine mid.machine w led.0 one.act (acts_of moves) stands.sessions led.2.sessions led.1 in
+      bounded_on tried mid moves n led.0 (among_right tried (tried_at move.act) (tried_in (acts_of moves)) are) passes.4 led.2 (bounded_then shows tried m.machine mid.machine m.rest mid.rest m.service mid.service one.act one.said one.turns more w stands was)
 
   -- the moment behind one move
   moment_then : (m mid : Moment MailDaemon Note R) (one : Moves (mail_rules shows) m mid) (act : Act Note) → one.act ≡ act → mid.service.moment ≡ moment_after m.service.moment act
@@ -243,6 +261,12 @@ module _ {R : Type 0} (shows : List Event → R → Accounts → Type 0) where
     mail_begins : (id : ℕ) → MailAt m.machine.names m.machine.host id m None
     mail_begins id = record { set_up = record { named = refl; hosted = refl }; bound = tt; fits = tt }
 
+    nothing_firm : (id : ℕ) → firm_at m.machine id ≡ 0
+    nothing_firm id = omega (arith, ap (λ o. firm_client o (client_at m.machine.daemon.clients.sessions id)) (no_place id), ap firm_post (no_post id))
+
+    bounded_begins : IsBounded m.machine
+    bounded_begins count = omega (arith, sums_nothing count (firm_at m.machine) nothing_firm)
+
     holds : (moves : List (Move Note)) (n : Moment MailDaemon Note R) → Passes (mail_rules shows) m moves n
         → (v : World) × HoldsAfter m.machine.names m.machine.host (world_of start) m.service.moment (acts_of moves) v × Stands (tried_in (acts_of moves)) n v
     holds moves n passes =
@@ -279,4 +303,5 @@ module _ {R : Type 0} (shows : List Event → R → Accounts → Type 0) where
           holds = all.1;
           shown = all.2;
           left = left (tried_in (acts_of moves)) n.rest all.0.accounts all.2.shown;
+          bounded = bounded_on (tried_in (acts_of moves)) m moves n (world_of start) (among_themselves (tried_in (acts_of moves))) passes (stands (tried_in (acts_of moves))) bounded_begins;
         }

@@ -113,7 +113,7 @@ module _ {R : Type 0} (shows : List Event → R → Accounts → Type 0) (tried 
   noted Away w are is makes = (w, refl, nothing w is makes)
   noted (Freed event answer) w are is makes = freed event answer w is makes.0 makes.1
   noted Spoke w are is makes = (w, refl, nothing w is makes)
-  noted Answered w are is makes = absurd makes
+  noted Answered w are is makes = (w, refl, nothing w is makes)
   noted (Asked others user lookup) w are is makes = absurd makes
   noted (Looked wanted) w are is makes = absurd makes
   noted (Moved others moving) w are is makes = absurd makes

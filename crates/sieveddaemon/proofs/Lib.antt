@@ -3,6 +3,7 @@ pub mod DeedLemmas
 pub mod EventLemmas
 pub mod Examples
 pub mod HeadlineLemmas
+pub mod HoldingLemmas
 pub mod LeadLemmas
 pub mod LineLemmas
 pub mod MailExamples
@@ -11,5 +12,7 @@ pub mod MoveLemmas
 pub mod RoomLemmas
 pub mod SentLemmas
 pub mod StepLemmas
+pub mod SumLemmas
 pub mod TurnLemmas
+pub mod UnreadLemmas
 pub mod WordLemmas

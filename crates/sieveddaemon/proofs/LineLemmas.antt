@@ -24,6 +24,7 @@ use Rattle.sieveddaemon.specs.Waiting.{Allows, IsDue, waits_behind}
 use Rattle.sieveddaemon.specs.declared.daemon.Daemon.{Daemon}
 use Rattle.sieveddaemon.specs.declared.mail.MailDaemon.{MailDaemon}
 use Rattle.sieveddaemon.specs.declared.note.Note.{Note}
+use Rattle.sieveddaemon.specs.declared.place.Fit.{Fit}
 use Rattle.sieveddaemon.specs.declared.place.Place.{Place}
 use Rattle.sieveddaemon.specs.declared.place.Waits.{Waits as Waiting}
 use Rattle.sieveddaemon.specs.declared.place.Waits.TheVariants as waits
@@ -36,19 +37,19 @@ moment_is now (Timed moment) later is = is
 moment_is now _ later is = is
 
 -- one that is to go on has come to its moment
-due_by : (now : ℕ) (w : Waiting) (c : SessionClient) → task_wanted now (want_by w c) ≡ Step → IsDue now w
-due_by now waits.Nothing c is = tt
-due_by now (waits.Store since again) c is = tt
-due_by now waits.Refused c is = tt
-due_by now (waits.Reply until text) c is = by (nat_lt now until) refl is
+due_by : (now : ℕ) (w : Waiting) (whether : Fit) (c : SessionClient) → task_wanted now (want_by w whether c) ≡ Step → IsDue now w
+due_by now waits.Nothing whether c is = tt
+due_by now (waits.Store since again) whether c is = tt
+due_by now waits.Refused whether c is = tt
+due_by now (waits.Reply until text) whether c is = by (nat_lt now until) refl is
   where
     by : (b : Bool) → nat_lt now until ≡ b → cond b Rest Step ≡ Step → until ≤ now
     by true at is = let never : ⊥ = cc in absurd never
     by false at is = ltb-false now until at
 
-due_at : (now : ℕ) (place : Place) (c : Option SessionClient) → task_wanted now (want_of (Some place) c) ≡ Step → IsDue now place.waits
+pub due_at : (now : ℕ) (place : Place) (c : Option SessionClient) → task_wanted now (want_of (Some place) c) ≡ Step → IsDue now place.waits
 due_at now place None is = let never : ⊥ = cc in absurd never
-due_at now place (Some c) is = due_by now place.waits c is
+due_at now place (Some c) is = due_by now place.waits place.fit c is
 
 -- ---- what is known of one connection, behind an act of another or of its own
 
@@ -173,7 +174,7 @@ module _ {R : Type 0} (shows : List Event → R → Accounts → Type 0) (d e : 
     given n piece said (inl g) =
         touched_still n (Some g.after) (place_at d.daemon n) (touch_post d e n (Some g.after) g.posts (λ other. ap (λ (k : Daemon). place_at k other) g.daemon)) l (λ is. absurd (no_post n g.before g.was is)) tied
     given n piece said (inr g) =
-        let new : Place = place_given s.moment g.gives.before g.gives.client in
+        let new : Place = place_given s.moment g.gives.before g.gives.client g.whether in
         touched_still n None (Some new) (touch_same d e n (Some new) g.other g.same.posts g.gives.place.places) l (λ is. record { none = refl; waits = waits_at new l.waits (ours n g.gives.before g.gives.was is) }) tied
 
     heard : (n count : ℕ) (piece said : List ℕ) → Went (GivesBy d s.moment n piece said e) (LacksBy d n e) n (kind_of (client_of s n)) count said u.turn → Tied e id l

@@ -1,11 +1,13 @@
 -- Right cases of the definitions on clients of LMTP, and near misses.
-use Rattle.std.proofs.Common.{◌≡◌, ◌+◌, ◌<◌, ◌≤◌, inl, inr, length, ℕ, List, [], ◌∷◌, Option, Some, None, IfSome, codes, refl, sym, ◌∙◌, ap, subst, arith}
+use Rattle.std.proofs.Common.{◌≡◌, ◌+◌, ◌<◌, ◌≤◌, inl, inr, ℕ, List, [], ◌∷◌, Option, Some, None, IfSome, codes, refl, sym, ◌∙◌, ap, subst, arith}
 use Rattle.std.specs.FinMap.{get}
+use Rattle.lmtp.specs.Receivers.{held_by}
 use Rattle.lmtp.specs.Replies.{greeting}
 use Rattle.lmtp.specs.declared.name.Names.{Names}
 use Rattle.lmtp.specs.declared.receiver.Lookup.TheVariants.{Unknown}
 use Rattle.lmtp.specs.declared.reply.Reply.TheVariants.{NoSuchUser, LocalFault, BadSender}
 use Rattle.mailposts.specs.Posts.{Deed, Away, Declined}
+use Rattle.mailposts.specs.declared.post.Post.{Post}
 use Rattle.mailposts.specs.declared.addressee.Became.TheVariants.{Delivered, Refused}
 use Rattle.mailstore.specs.Account.{Account, known_one}
 use Rattle.mailstore.specs.declared.refusal.Refusal.TheVariants.{NoUser, Store, BadEnvelope}
@@ -17,8 +19,11 @@ use Rattle.wires.specs.Life.{IsFrontOf}
 use Rattle.wires.specs.declared.act.Act.{Act}
 use Rattle.wires.specs.declared.act.Act.TheVariants.{Came, Sent}
 use Rattle.sieveddaemon.specs.Acts.{LeadsBy}
-use Rattle.sieveddaemon.specs.Bounds.{held, bound}
-use Rattle.sieveddaemon.specs.MailRules.{KeepsText, Fits, SessionGives}
+use Rattle.sieveddaemon.specs.Bounds.{unread_of, held, bound, own, guests, share, IsGuestAt}
+use Rattle.sieveddaemon.specs.MailRules.{post_at, HasRoom, KeepsText, Fits, FitsAs}
+use Rattle.sieveddaemon.specs.Places.{client_at}
+use Rattle.sieveddaemon.specs.declared.place.Fit.TheVariants as fit
+use Rattle.sieveddaemon.proofs.SumLemmas.{full_post}
 use Rattle.sieveddaemon.specs.declared.mail.MailDaemon.{MailDaemon}
 use Rattle.sieveddaemon.specs.Deeds.{IsDeed, IsBecame, one_line, reply_to}
 use Rattle.sieveddaemon.specs.MailActs.{MailLine, new_mail, sent_more, TellsOn}
@@ -91,14 +96,23 @@ not_unspelled names host o told front = by told.0 told.1 told.2
 -- where there is room for the octets that come no text is dropped for them
 kept_where_it_fits : (d e : MailDaemon) (id count : ℕ) → held d + count ≤ bound d → KeepsText d id count e → e ≡ d
 kept_where_it_fits d e id count fits (inl is) = is.1
-kept_where_it_fits d e id count fits (inr is) = absurd (omega (arith, fits, is.0))
+kept_where_it_fits d e id count fits (inr is) = absurd (omega (arith, fits, is.0.all))
 
--- near misses: octets are taken with which all hold more than they may
-not_over : (d e : MailDaemon) (now id : ℕ) (piece said : List ℕ) → bound d < held d + length piece → SessionGives d now id piece said e → ⊥
-not_over d e now id piece said over gives = omega (arith, over, gives.room)
+-- near misses: octets fit with which all hold more than they may, or all that aren't logged in, and their client more than each may
+not_over : (d : MailDaemon) (id count : ℕ) → bound d < held d + count → own < unread_of (client_at d.daemon.clients.sessions id) + count → FitsAs d id count fit.Fits → ⊥
+not_over d id count over more (inl keeps) = omega (arith, over, keeps.all)
+not_over d id count over more (inr small) = omega (arith, more, small)
 
-no_text_over : (d e : MailDaemon) (id count : ℕ) → bound e < held e + count → Fits d id count e → ⊥
-no_text_over d e id count over fits = omega (arith, over, fits.room)
+no_guest_over : (d : MailDaemon) (id count : ℕ) → IsGuestAt d id → share d < guests d + count → own < unread_of (client_at d.daemon.clients.sessions id) + count → FitsAs d id count fit.Fits → ⊥
+no_guest_over d id count guest over more (inl keeps) = omega (arith, over, keeps.guests guest)
+no_guest_over d id count guest over more (inr small) = omega (arith, more, small)
+
+no_text_over : (d e : MailDaemon) (id count : ℕ) (post : Post) → post_at e id ≡ Some post → bound e < held e + count → own < held_by post.receiver + count → Fits d id count e → ⊥
+no_text_over d e id count post at over more fits = by fits.room
+  where
+    by : HasRoom e id count → ⊥
+    by (inl room) = omega (arith, over, room)
+    by (inr its) = omega (arith, more, its.2, ap full_post (sym at ∙ its.1))
 
 -- a MAIL is told as answered, and what it lacked is one number
 refused_for : IsDeed note.Answered (Declined 1000)

@@ -5,12 +5,11 @@ use Rattle.wires.specs.declared.act.Act.{Act}
 use Rattle.wires.specs.declared.act.Act.TheVariants.{Woke, Began, Timed, Late, Waits, Roused, Worked, Came, NoneCame, Crowded, Displaced, Listened, InUse, Heard, ReadBlocked, Over, Sent, WriteBlocked, Lost, Noted, Full, Again, Shut, Dropped, Ended}
 use Rattle.wires.specs.declared.service.Client.{Client}
 use Rattle.wires.specs.declared.service.Service.{Service}
-use Rattle.wires.specs.declared.service.Phase.TheVariants as phase
 use Rattle.wires.specs.declared.turn.Turn.{Turn}
 use Rattle.wires.specs.declared.turn.Turn.TheVariants.{Leaving}
 use Rattle.wires.specs.Life.{IsFrontOf}
 use Rattle.wires.specs.Rules.{Rules}
-use Rattle.wires.specs.Talk.{same, client_of, kind_of, waits, newcomer, Comes, Answers, Sends, Parts, OrNothing, Shuts, Drops, At, Talks, after_span, max_parting}
+use Rattle.wires.specs.Talk.{same, client_of, kind_of, waits, newcomer, Comes, Answers, Sends, Parts, OrNothing, Shuts, Drops, At, Talks}
 use Rattle.wires.specs.Turns.{Turns, Goes as Went, Parting, Opens as Enters}
 use Rattle.wires.proofs.TalkLemmas.{one_number, waits_of, no_piece, quiet}
 use Rattle.sieveddaemon.proofs.TurnLemmas.{IsEnd, ends}

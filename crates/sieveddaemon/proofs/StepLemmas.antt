@@ -17,14 +17,16 @@ use Rattle.wires.specs.Told.{TellsIf}
 use Rattle.sieveddaemon.specs.DaemonRules.{daemon_rules, place_at, AtPlace, AsksFor, Makes, Places, Renews}
 use Rattle.sieveddaemon.specs.Holds.{asked_at}
 use Rattle.sieveddaemon.specs.Desk.{Carries, IsDone, NothingDone, StillShowsIf}
-use Rattle.sieveddaemon.specs.Places.{client_at, renewed, is_out, is_user}
-use Rattle.sieveddaemon.specs.Waiting.{Allows, MayAsk, MayGiveUp, said_at_once, waits_after, waits_behind}
+use Rattle.sieveddaemon.specs.Places.{client_at, renewed, place_told, is_out, is_user}
+use Rattle.sieveddaemon.specs.Waiting.{Allows, MayAsk, MayGiveUp, said_at_once, too_much, waits_after, waits_behind}
 use Rattle.sieveddaemon.specs.declared.daemon.Daemon.{Daemon}
 use Rattle.sieveddaemon.specs.declared.daemon.Holding.{Holding}
 use Rattle.sieveddaemon.specs.declared.note.Note.{Note}
 use Rattle.sieveddaemon.specs.declared.note.Note.TheVariants.{Did, Away, Freed, Spoke, Answered, Asked, Looked, Moved}
+use Rattle.sieveddaemon.specs.declared.place.Fit.TheVariants as fit
 use Rattle.sieveddaemon.specs.declared.place.Place.{Place}
 use Rattle.sieveddaemon.specs.declared.place.Waits.{Waits}
+use Rattle.sieveddaemon.specs.declared.place.Waits.TheVariants as waits
 
 some_one : {X : Type 0} (a b : X) → Some a ≡ Some b → a ≡ b
 some_one a b is = cc
@@ -77,6 +79,7 @@ module _ {O R : Type 0} (tells : O → Bool) (seen : O → List (Act Note)) (res
       before = may.0;
       was = may.1;
       allows = λ due. (may.2, refl);
+      cause = tt;
       asks = asks;
       makes = subst (λ (k : CodeClients). IsDone shows carries.0 (Step id) answer (rest o) d.clients.sessions (rest p) k.sessions) (sym r.clients) (carries.1 (sure p tell));
       says = says;
@@ -95,6 +98,7 @@ module _ {O R : Type 0} (tells : O → Bool) (seen : O → List (Act Note)) (res
       before = may.0;
       was = may.1;
       allows = λ due. may.2;
+      cause = tt;
       asks = asks;
       makes = subst (λ (k : CodeClients). NothingDone shows (rest o) d.clients.sessions (rest p) k.sessions) (sym r.clients) (carries.0 (sure p tell));
       says = says;
@@ -114,6 +118,7 @@ module _ {O R : Type 0} (tells : O → Bool) (seen : O → List (Act Note)) (res
       before = before;
       was = was;
       allows = λ due. allows before was;
+      cause = tt;
       asks = tt;
       makes = (still tell, subst (λ (k : CodeClients). IsSessionEvent event answer d.clients.sessions k.sessions) (sym r.clients) made);
       says = says;
@@ -128,7 +133,7 @@ module _ {O R : Type 0} (tells : O → Bool) (seen : O → List (Act Note)) (res
   kept_makes Away keeps makes = record { shown = makes.shown; kept = λ clients has. makes.kept clients (keeps clients has) }
   kept_makes Spoke keeps makes = record { shown = makes.shown; kept = λ clients has. makes.kept clients (keeps clients has) }
   kept_makes (Freed event answer) keeps makes = (makes.0, λ w has. makes.1 w (keeps w.sessions has))
-  kept_makes Answered keeps makes = makes
+  kept_makes Answered keeps makes = record { shown = makes.shown; kept = λ clients has. makes.kept clients (keeps clients has) }
   kept_makes (Asked others user lookup) keeps makes = makes
   kept_makes (Looked wanted) keeps makes = makes
   kept_makes (Moved others moving) keeps makes = makes
@@ -150,8 +155,29 @@ module _ {O R : Type 0} (tells : O → Bool) (seen : O → List (Act Note)) (res
       record {
         note = s.note;
         grows = s.grows;
-        steps = record { before = g.before; was = g.was; allows = g.allows; asks = kept_asks s.note keeps g.asks; makes = kept_makes s.note keeps g.makes; says = g.says; place = g.place; holding = g.holding };
+        steps = record { before = g.before; was = g.was; allows = g.allows; cause = g.cause; asks = kept_asks s.note keeps g.asks; makes = kept_makes s.note keeps g.makes; says = g.says; place = g.place; holding = g.holding };
       }
+
+-- it was told that there was no room
+pub refused : {O R : Type 0} (tells : O → Bool) (seen : O → List (Act Note)) (rest : O → R) (shows : List Event → R → Accounts → Type 0) (o p : O) (d e : Daemon) (now id : ℕ) (said : List ℕ)
+    → AtPlace d id (λ place. (place.waits ≡ waits.Nothing) × (place.fit ≡ fit.Over)) → TellsIf tells seen o (Noted id Answered) p → StillShowsIf tells rest shows o p → said ≡ too_much
+    → ((before : Place) → place_at d id ≡ Some before → Places d id (Some (place_told now before (is_user (client_at d.clients.sessions id)))) e) → e.clients ≡ d.clients → e.holding ≡ d.holding
+    → StepsIf tells seen rest (daemon_rules shows) o d now id said p e
+refused tells seen rest shows o p d e now id said may told still says places clients holding tell = record {
+  note = Answered;
+  grows = told tell;
+  steps = record {
+    before = may.0;
+    was = may.1;
+    allows = λ due. subst (λ w. Allows now w id Answered) (sym may.2.0) tt;
+    cause = may.2.1;
+    asks = tt;
+    makes = record { shown = still tell; kept = subst (λ (k : CodeClients). KeepsClients d.clients.sessions k.sessions) (sym clients) (λ all has. has) };
+    says = says;
+    place = subst (λ (k : CodeClients). Places d id (Some (place_told now may.0 (is_user (client_at k.sessions id)))) e) (sym clients) (places may.0 may.1);
+    holding = holding;
+  };
+}
 
 -- given up, or stepped at once
 pub gives_up : (d : Daemon) (now id : ℕ) (answer : Answer) → AtPlace d id (λ place. MayGiveUp now place.waits) → (place : Place) → place_at d id ≡ Some place → Allows now place.waits id (Freed (GiveUp id) answer)

@@ -1,10 +1,10 @@
 -- How many octets all connections hold, and how many they may.
-use Rattle.std.specs.Prelude.{ℕ, ◌+◌, ◌-◌, ◌*◌, List, [], ◌∷◌, length, Option, Some, None}
+use Rattle.std.specs.Prelude.{◌≡◌, ◌⊎◌, ℕ, ◌+◌, ◌-◌, ◌*◌, ◌<◌, ◌≤◌, List, [], ◌∷◌, length, Option, Some, None, false, if◌then◌else◌}
 use Rattle.lmtp.specs.Receivers.{held_by}
 use Rattle.mailengine.specs.Hosts.{Kept}
 use Rattle.mailposts.specs.declared.post.Post.{Post}
 use Rattle.sessions.specs.Clients.{Client}
-use Rattle.sieveddaemon.specs.Places.{client_at}
+use Rattle.sieveddaemon.specs.Places.{client_at, is_user}
 use Rattle.sieveddaemon.specs.declared.mail.MailDaemon.{MailDaemon}
 use Rattle.sieveddaemon.specs.declared.place.Place.{Place}
 
@@ -16,6 +16,14 @@ unread_of (Some client) = length client.unread
 abbrev pub unread_in : Kept → List (ℕ × Place) → ℕ
 unread_in sessions [] = 0
 unread_in sessions (it ∷ entries) = unread_of (client_at sessions it.0) + unread_in sessions entries
+
+-- the same, of those alone where nobody is logged in
+abbrev pub guest_unread : Option Client → ℕ
+guest_unread o = if is_user o then 0 else unread_of o
+
+abbrev pub guests_in : Kept → List (ℕ × Place) → ℕ
+guests_in sessions [] = 0
+guests_in sessions (it ∷ entries) = guest_unread (client_at sessions it.0) + guests_in sessions entries
 
 -- of clients of LMTP: lines, and a text
 abbrev pub held_in : List (ℕ × Post) → ℕ
@@ -30,6 +38,35 @@ held d = unread_in d.daemon.clients.sessions d.daemon.places.entries + held_in d
 abbrev pub bound : MailDaemon → ℕ
 bound d = d.memory * 1024
 
+-- so many each client may hold whatever the others do: two pieces, so a line that isn't whole and a piece
+abbrev pub own : ℕ
+own = 8192
+
 -- for so many more there is room
 abbrev pub room : MailDaemon → ℕ
 room d = bound d - held d
+
+-- so many of them clients of ManageSieve hold where nobody is logged in, and so many they may: an eighth
+abbrev pub guests : MailDaemon → ℕ
+guests d = guests_in d.daemon.clients.sessions d.daemon.places.entries
+
+abbrev pub share : MailDaemon → ℕ
+share d = d.memory * 128
+
+-- nobody is logged in at a connection
+abbrev pub IsGuestAt : MailDaemon → ℕ → Type 0
+IsGuestAt d id = is_user (client_at d.daemon.clients.sessions id) ≡ false
+
+-- with so many octets more of a client of ManageSieve all hold what they may, and where nobody is logged in there, so do all such ones
+pub record KeepsBound (d : MailDaemon) (id count : ℕ) : Type 0 where
+  pub all : held d + count ≤ bound d
+  pub guests : IsGuestAt d id → guests d + count ≤ share d
+
+-- so many more of it fit: then, and where it holds no more with them than each may
+abbrev pub FitsClient : MailDaemon → ℕ → ℕ → Type 0
+FitsClient d id count = KeepsBound d id count ⊎ (unread_of (client_at d.daemon.clients.sessions id) + count ≤ own)
+
+-- they don't: it holds more than each may, and all hold more than they may, or such ones do, and it is one
+pub record PassesBound (d : MailDaemon) (id count : ℕ) : Type 0 where
+  pub its : own < unread_of (client_at d.daemon.clients.sessions id) + count
+  pub all : (bound d < held d + count) ⊎ (IsGuestAt d id × (share d < guests d + count))

@@ -20,7 +20,9 @@ use Rattle.sieveddaemon.specs.Waiting.{Allows, IsDue, said_with, greeting, idle}
 use Rattle.sieveddaemon.specs.declared.daemon.Daemon.{Daemon}
 use Rattle.sieveddaemon.specs.declared.daemon.Holding.{Holding}
 use Rattle.sieveddaemon.specs.declared.note.Note.{Note}
-use Rattle.sieveddaemon.specs.declared.note.Note.TheVariants.{Did, Away, Freed, Spoke, Looked, Moved}
+use Rattle.sieveddaemon.specs.declared.note.Note.TheVariants.{Did, Away, Freed, Spoke, Answered, Looked, Moved}
+use Rattle.sieveddaemon.specs.declared.place.Fit.{Fit}
+use Rattle.sieveddaemon.specs.declared.place.Fit.TheVariants as fit
 use Rattle.sieveddaemon.specs.declared.place.Place.{Place}
 use Rattle.sieveddaemon.specs.declared.place.Waits.{Waits}
 use Rattle.sieveddaemon.specs.declared.place.Waits.TheVariants as waits
@@ -74,15 +76,15 @@ pub record Opens (d : Daemon) (now id : ℕ) (said : List ℕ) (e : Daemon) : Ty
   pub event : Made (Open id) d e
   pub place : Knows d id (Some (new_place now)) e
 
--- octets of one join its session, and nothing is said
-pub record Gives (d : Daemon) (now id : ℕ) (piece said : List ℕ) (e : Daemon) : Type 0 where
+-- octets of one join its session, and nothing is said; whether there was room for them is known then
+pub record Gives (d : Daemon) (now id : ℕ) (piece : List ℕ) (whether : Fit) (said : List ℕ) (e : Daemon) : Type 0 where
   pub silent : said ≡ []
   pub event : Made (Give id piece) d e
   pub before : Place
   pub was : place_at d id ≡ Some before
   pub client : Client
   pub session : client_at d.clients.sessions id ≡ Some client
-  pub place : Knows d id (Some (place_given now before client)) e
+  pub place : Knows d id (Some (place_given now before client whether)) e
 
 -- where memory was lacking for one nothing more is known of it, and each session is as it was
 pub record LacksFor (d : Daemon) (id : ℕ) (e : Daemon) : Type 0 where
@@ -96,12 +98,13 @@ pub record Closes (d : Daemon) (id : ℕ) (e : Daemon) : Type 0 where
 
 -- ---- the daemon goes on with one
 
--- what a note says is done: an event by the store; nothing where it was away, or what was kept back is said; an event that asks no
+-- what a note says is done: an event by the store; nothing where it was away, what was kept back is said, or it is over; an event that asks no
 -- store, and is the same whatever accounts there are
 abbrev pub Makes : {R : Type 0} → (List Event → R → Accounts → Type 0) → R → Daemon → Note → R → Daemon → Type 0
 Makes shows r d (Did others event answer) q e = IsDone shows others event answer r d.clients.sessions q e.clients.sessions
 Makes shows r d Away q e = NothingDone shows r d.clients.sessions q e.clients.sessions
 Makes shows r d Spoke q e = NothingDone shows r d.clients.sessions q e.clients.sessions
+Makes shows r d Answered q e = NothingDone shows r d.clients.sessions q e.clients.sessions
 Makes shows r d (Freed event answer) q e = StillShows shows r q × IsSessionEvent event answer d.clients.sessions e.clients.sessions
 Makes shows r d _ q e = ⊥
 
@@ -111,6 +114,11 @@ AsksFor id (Did others event answer) kept = AsksStore (Step id) kept
 AsksFor id Away kept = AsksStore (Step id) kept
 AsksFor id note kept = Unit {0}
 
+-- it is over with a connection only where there was no room for what it sent
+abbrev pub HasCause : Note → Fit → Type 0
+HasCause Answered whether = whether ≡ fit.Over
+HasCause note whether = Unit {0}
+
 abbrev pub had_at : ℕ → Daemon → Daemon
 had_at now d = record d { holding = asked_at now d.holding }
 
@@ -119,6 +127,7 @@ pub record Goes {R : Type 0} (shows : List Event → R → Accounts → Type 0) 
   pub before : Place
   pub was : place_at d id ≡ Some before
   pub allows : IsDue now before.waits → Allows now before.waits id note
+  pub cause : HasCause note before.fit
   pub asks : AsksFor id note d.clients.sessions
   pub makes : Makes shows r d note q e
   pub says : said ≡ said_with before.waits note
@@ -186,7 +195,7 @@ daemon_rules shows = record {
   patience = patience_of;
   deadline = λ d id. due_of (place_at d id) (client_at d.clients.sessions id);
   opens = λ d now kind id said e. Opens d now id said e;
-  gives = λ d now id piece said e. Gives d now id piece said e;
+  gives = λ d now id piece said e. (whether : Fit) × Gives d now id piece whether said e;
   steps = λ d r now id note said e q. Goes shows d r now id note said e q;
   lates = λ d now id said e. (said ≡ idle) × (e ≡ d);
   works = λ d r now note e q. DoesWork shows d r now note e q;

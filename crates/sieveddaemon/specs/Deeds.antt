@@ -15,7 +15,7 @@ use Rattle.mailposts.specs.Posts.{Deed, Answered, Declined, Asked, Away, Brought
 use Rattle.mailposts.specs.declared.addressee.Became.{Became}
 use Rattle.mailposts.specs.declared.addressee.Became.TheVariants.{Delivered, Refused}
 use Rattle.mailposts.specs.declared.demand.Parcel.{Parcel}
-use Rattle.mailposts.specs.Stands.{Does}
+use Rattle.mailposts.specs.Stands.{Does, HoldsNoMore}
 use Rattle.mailposts.specs.declared.post.Post.{Post}
 use Rattle.reportlines.specs.Reports.{delivery_report}
 use Rattle.wires.specs.declared.act.Act.{Act}
@@ -70,12 +70,14 @@ Stores shows r before other q after = NothingDone shows r before q after
 
 -- ---- one step of a client of LMTP, apart from others
 
--- its note tells a deed for it, of which the store and the sessions have their part; where there is room for so many octets
+-- its note tells a deed for it, of which the store and the sessions have their part; where there is room for so many octets. It holds no more
+-- behind it
 pub record DoesOne {R : Type 0} (shows : List Event → R → Accounts → Type 0) (room : ℕ) (d : Daemon) (r : R) (before : Post) (now : ℕ) (note : Note) (said : List ℕ) (e : Daemon) (q : R) (after : Post) : Type 0 where
   pub deed : Deed
   pub is : IsDeed note deed
   pub does : Does now deed said before after
   pub spare : (size : ℕ) → deed ≡ Declined size → size ≡ room
+  pub held : HoldsNoMore before after
   pub stores : Stores shows r d.clients.sessions note q e.clients.sessions
   pub places : e.places ≡ d.places
   pub holding : e.holding ≡ holding_behind now note d.holding

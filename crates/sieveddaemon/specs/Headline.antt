@@ -16,6 +16,7 @@ use Rattle.wires.specs.declared.act.Act.{Act}
 use Rattle.wires.specs.declared.service.Service.{Service}
 use Rattle.sieveddaemon.specs.Acts.{LeadsOn, events_in, tried_in, AnswersIn, no_line, tell_on, AreRight}
 use Rattle.sieveddaemon.specs.Desk.{IsWorld}
+use Rattle.sieveddaemon.specs.Holding.{IsBounded}
 use Rattle.sieveddaemon.specs.MailActs.{MailLine, TellsOn}
 use Rattle.sieveddaemon.specs.declared.mail.MailDaemon.{MailDaemon}
 use Rattle.sieveddaemon.specs.declared.note.Note.{Note}
@@ -53,6 +54,8 @@ pub record Headline {R : Type 0} (shows : List Event → R → Accounts → Type
   pub holds : HoldsAfter names host (world_of start) now acts end
   pub shown : IsWorld (shows (tried_in acts)) r d.daemon.clients.sessions end
   pub left : (trees : Trees) → leaves r trees → MayLeave (tried_in acts) end.accounts trees
+  -- all connections together hold what they may
+  pub bounded : IsBounded d
 
 -- a daemon that knows no connection
 pub record IsNew (d : MailDaemon) : Type 0 where

@@ -4,6 +4,7 @@ pub mod DaemonRules
 pub mod Deeds
 pub mod Desk
 pub mod Headline
+pub mod Holding
 pub mod Holds
 pub mod MailActs
 pub mod MailRules

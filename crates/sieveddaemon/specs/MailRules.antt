@@ -2,13 +2,13 @@
 use Rattle.std.specs.Prelude.{◌≡◌, ◌⊎◌, ℕ, ◌+◌, ◌<◌, ◌≤◌, ◌==◌, length, Bool, true, false, cond, if◌then◌else◌, List, [], ◌∷◌, Option, Some, None}
 use Rattle.std.specs.Ordering.{nat_cmp}
 use Rattle.std.specs.BTreeMap as tree
-use Rattle.lmtp.specs.Receivers.{IsDropped}
+use Rattle.lmtp.specs.Receivers.{IsDropped, held_by}
 use Rattle.lmtp.specs.Replies.{greeting, line_of}
 use Rattle.lmtp.specs.declared.reply.Reply.TheVariants.{Idle}
 use Rattle.mailstore.specs.Account.{Accounts}
 use Rattle.mailengine.specs.declared.event.Event.{Event}
 use Rattle.mailposts.specs.Posts.{new_post}
-use Rattle.mailposts.specs.Stands.{Stands, Keeps, Hears}
+use Rattle.mailposts.specs.Stands.{Stands, Keeps, Hears, HoldsNoMore}
 use Rattle.mailposts.specs.Tallies.{wanted, due}
 use Rattle.mailposts.specs.declared.post.Post.{Post}
 use Rattle.mailposts.specs.declared.tally.Wanted.{Wanted}
@@ -17,7 +17,7 @@ use Rattle.wires.specs.Rules.{Rules}
 use Rattle.wires.specs.Talk.{same}
 use Rattle.wires.specs.declared.machine.Want.{Want}
 use Rattle.wires.specs.declared.machine.Want.TheVariants as want
-use Rattle.sieveddaemon.specs.Bounds.{held, bound, room}
+use Rattle.sieveddaemon.specs.Bounds.{held, bound, own, room, FitsClient, PassesBound}
 use Rattle.sieveddaemon.specs.DaemonRules.{lmtp, limit_of, displaced_of, place_at, least, patience_of, Opens, Gives, Goes, DoesWork, LacksFor, Closes, Forgets}
 use Rattle.sieveddaemon.specs.Deeds.{DoesOne}
 use Rattle.sieveddaemon.specs.Holds.{has_work}
@@ -25,6 +25,8 @@ use Rattle.sieveddaemon.specs.Places.{client_at, want_of, due_of}
 use Rattle.sieveddaemon.specs.Waiting.{idle}
 use Rattle.sieveddaemon.specs.declared.mail.MailDaemon.{MailDaemon}
 use Rattle.sieveddaemon.specs.declared.note.Note.{Note}
+use Rattle.sieveddaemon.specs.declared.place.Fit.{Fit}
+use Rattle.sieveddaemon.specs.declared.place.Fit.TheVariants as fit
 use Rattle.sieveddaemon.specs.declared.place.Place.{Place}
 
 -- how many connections of LMTP there may be: the next waits at the door
@@ -93,14 +95,28 @@ pub record DropsText (d : MailDaemon) (id : ℕ) (e : MailDaemon) : Type 0 where
   pub was : post_at d id ≡ Some before
   pub after : Post
   pub keeps : Keeps before after
+  pub held : HoldsNoMore before after
   pub dropped : IsDropped after.receiver.talk
   pub posts : Posts d id (Some after) e
   pub daemon : e.daemon ≡ d.daemon
   pub host : SameHost d e
 
--- so many octets may come of a client of LMTP: only where the bound would be passed its text is dropped
+-- with so many octets more a client of LMTP holds no more than each may
+abbrev pub IsOwn : MailDaemon → ℕ → ℕ → Type 0
+IsOwn d id count = (post : Post) × (post_at d id ≡ Some post) × (held_by post.receiver + count ≤ own)
+
+-- so many more of it fit: all hold what they may with them, or they are its own
+abbrev pub HasRoom : MailDaemon → ℕ → ℕ → Type 0
+HasRoom d id count = (held d + count ≤ bound d) ⊎ IsOwn d id count
+
+-- neither is so
+pub record LacksRoom (d : MailDaemon) (id count : ℕ) : Type 0 where
+  pub all : bound d < held d + count
+  pub its : (post : Post) → post_at d id ≡ Some post → own < held_by post.receiver + count
+
+-- so many octets may come of a client of LMTP: only where they don't fit its text is dropped
 abbrev pub KeepsText : MailDaemon → ℕ → ℕ → MailDaemon → Type 0
-KeepsText d id count e = ((held d + count ≤ bound d) × (e ≡ d)) ⊎ ((bound d < held d + count) × DropsText d id e)
+KeepsText d id count e = (HasRoom d id count × (e ≡ d)) ⊎ (LacksRoom d id count × DropsText d id e)
 
 -- of that client's text something may be dropped, and nothing else changes
 abbrev pub KeepsPosts : MailDaemon → ℕ → MailDaemon → Type 0
@@ -112,14 +128,15 @@ pub record TakesPiece (d : MailDaemon) (now id : ℕ) (piece : List ℕ) (e : Ma
   pub was : post_at d id ≡ Some before
   pub after : Post
   pub hears : Hears now piece before after
+  pub held : held_by after.receiver ≤ held_by before.receiver + length piece
   pub posts : Posts d id (Some after) e
   pub daemon : e.daemon ≡ d.daemon
   pub host : SameHost d e
 
--- and with them the bound isn't passed
+-- and they fit
 pub record Fits (d : MailDaemon) (id count : ℕ) (e : MailDaemon) : Type 0 where
   pub text : KeepsText d id count e
-  pub room : held e + count ≤ bound e
+  pub room : HasRoom e id count
 
 -- ---- connections come, say something, and go
 
@@ -127,6 +144,7 @@ pub record PostOpens (d : MailDaemon) (now id : ℕ) (said : List ℕ) (e : Mail
   pub says : said ≡ greeting d.host
   pub post : Post
   pub begins : Stands post (new_post d.names d.host now)
+  pub empty : held_by post.receiver ≡ 0
   pub posts : Posts d id (Some post) e
   pub daemon : Forgets d.daemon id e.daemon
   pub host : SameHost d e
@@ -142,7 +160,7 @@ pub record PostGives (d : MailDaemon) (now id : ℕ) (piece said : List ℕ) (e 
   pub posts : Posts d id (Some after) e
   pub daemon : e.daemon ≡ d.daemon
   pub host : SameHost d e
-  -- with the octets all hold what they may: that was so before they came, or its text was dropped for them
+  -- the octets fit: that was so before they came, or its text was dropped for them
   pub fitted : MailDaemon
   pub fits : Fits d id (length piece) fitted
   pub takes : TakesPiece fitted now id piece e
@@ -168,12 +186,19 @@ abbrev pub OpensBy : Bool → MailDaemon → ℕ → ℕ → List ℕ → MailDa
 OpensBy true d now id said e = PostOpens d now id said e
 OpensBy false d now id said e = SessionOpens d now id said e
 
--- octets of one come, for which there is room, and the daemon's own rules say what becomes of them
+-- whether so many octets of a client of ManageSieve fit: where they don't, it is over with it behind them
+abbrev pub FitsAs : MailDaemon → ℕ → ℕ → Fit → Type 0
+FitsAs d id count fit.Fits = FitsClient d id count
+FitsAs d id count fit.Over = PassesBound d id count
+FitsAs d id count fit.Told = ⊥
+
+-- octets of one come, and the daemon's own rules say what becomes of them
 pub record SessionGives (d : MailDaemon) (now id : ℕ) (piece said : List ℕ) (e : MailDaemon) : Type 0 where
   pub other : post_at d id ≡ None
-  pub gives : Gives d.daemon now id piece said e.daemon
+  pub whether : Fit
+  pub fits : FitsAs d id (length piece) whether
+  pub gives : Gives d.daemon now id piece whether said e.daemon
   pub same : SamePosts d e
-  pub room : held d + length piece ≤ bound d
 
 abbrev pub GivesBy : MailDaemon → ℕ → ℕ → List ℕ → List ℕ → MailDaemon → Type 0
 GivesBy d now id piece said e = PostGives d now id piece said e ⊎ SessionGives d now id piece said e

@@ -11,7 +11,9 @@ use Rattle.wires.specs.declared.machine.Want.{Want}
 use Rattle.wires.specs.declared.machine.Want.TheVariants.{More, Step, Until, Done}
 use Rattle.sieveddaemon.specs.Waiting.{waits_behind}
 use Rattle.sieveddaemon.specs.declared.note.Note.{Note}
-use Rattle.sieveddaemon.specs.declared.note.Note.TheVariants.{Did, Freed, Spoke}
+use Rattle.sieveddaemon.specs.declared.note.Note.TheVariants.{Did, Freed, Spoke, Answered}
+use Rattle.sieveddaemon.specs.declared.place.Fit.{Fit}
+use Rattle.sieveddaemon.specs.declared.place.Fit.TheVariants as fit
 use Rattle.sieveddaemon.specs.declared.place.Place.{Place}
 use Rattle.sieveddaemon.specs.declared.place.Waits.{Waits}
 use Rattle.sieveddaemon.specs.declared.place.Waits.TheVariants as waits
@@ -26,14 +28,20 @@ client_at kept id = option_map (λ session. session.client) (tree.get nat_cmp ke
 abbrev pub want_of_session : Client → Want
 want_of_session c = if c.closed then Done else if is_ready c then Step else More
 
-abbrev pub want_by : Waits → Client → Want
-want_by waits.Nothing c = want_of_session c
-want_by (waits.Store since again) c = Until again
-want_by waits.Refused c = Step
-want_by (waits.Reply until text) c = Until until
+-- where there was no room for what it sent, a step in which it is told so, and then nothing more
+abbrev pub want_in : Fit → Client → Want
+want_in fit.Fits c = want_of_session c
+want_in fit.Over c = Step
+want_in fit.Told c = Done
+
+abbrev pub want_by : Waits → Fit → Client → Want
+want_by waits.Nothing whether c = want_in whether c
+want_by (waits.Store since again) whether c = Until again
+want_by waits.Refused whether c = Step
+want_by (waits.Reply until text) whether c = Until until
 
 abbrev pub want_of : Option Place → Option Client → Want
-want_of (Some place) (Some c) = want_by place.waits c
+want_of (Some place) (Some c) = want_by place.waits place.fit c
 want_of _ _ = Done
 
 -- ---- when it is late
@@ -73,20 +81,20 @@ due_of _ _ = never
 
 -- one that has just come
 abbrev pub new_place : ℕ → Place
-new_place now = record { waits = waits.Nothing; guest = now; since = now }
+new_place now = record { waits = waits.Nothing; guest = now; since = now; fit = fit.Fits }
 
--- octets came: where nothing was unread they begin what comes next
-abbrev pub begun : ℕ → Place → Bool → Place
-begun now place begins = record place { since = if begins then now else place.since }
+-- octets came: where nothing was unread they begin what comes next; and whether there was room for them
+abbrev pub begun : ℕ → Place → Bool → Fit → Place
+begun now place begins fits = record { waits = place.waits; guest = place.guest; since = if begins then now else place.since; fit = fits }
 
-abbrev pub place_given : ℕ → Place → Client → Place
-place_given now place c = begun now place (length c.unread == 0)
+abbrev pub place_given : ℕ → Place → Client → Fit → Place
+place_given now place c fits = begun now place (length c.unread == 0) fits
 
 -- what is waited for changes: `answered`, where the next command is counted from now on; `user`, where somebody is logged in, who is a
 -- guest from now on at the earliest
 abbrev pub renewed : ℕ → Place → Waits → Bool → Bool → Place
 renewed now place w answered user =
-    record { waits = w; guest = if user then now else place.guest; since = if answered then now else place.since }
+    record { waits = w; guest = if user then now else place.guest; since = if answered then now else place.since; fit = place.fit }
 
 abbrev pub is_out : Answer → Bool
 is_out (Out progress octets) = true
@@ -102,6 +110,14 @@ abbrev pub is_user : Option Client → Bool
 is_user None = false
 is_user (Some c) = is_some c.user
 
+abbrev pub fit_behind : Fit → Note → Fit
+fit_behind whether Answered = fit.Told
+fit_behind whether _ = whether
+
 -- behind a note, with the session that is there then
 abbrev pub place_behind : ℕ → Place → Note → Option Client → Place
-place_behind now place note c = renewed now place (waits_behind now place.waits note) (is_answered note) (is_user c)
+place_behind now place note c = record (renewed now place (waits_behind now place.waits note) (is_answered note) (is_user c)) { fit = fit_behind place.fit note }
+
+-- behind one that says that there was no room
+abbrev pub place_told : ℕ → Place → Bool → Place
+place_told now place user = record (renewed now place waits.Nothing false user) { fit = fit.Told }

@@ -1,7 +1,9 @@
 -- What a connection waits for, what may be done for it then, and what is said.
-use Rattle.std.specs.Prelude.{◌≡◌, ℕ, ◌+◌, ◌≤◌, ◌<◌, nat_eq, Bool, ◌||◌, List, [], None, if◌then◌else◌, codes}
+use Rattle.std.specs.Prelude.{◌≡◌, ℕ, ◌+◌, ◌≤◌, ◌<◌, nat_eq, Bool, ◌||◌, List, [], Some, None, if◌then◌else◌, codes}
 use Rattle.std.specs.Cmp.Lexicographic.{pointwise}
 use Rattle.msproto.specs.Replies.{spelled}
+use Rattle.msproto.specs.declared.replies.Code.TheVariants as code
+use Rattle.msproto.specs.declared.replies.Status.TheVariants.{Bye}
 use Rattle.sessions.specs.Replies.{declined, farewell, capabilities}
 use Rattle.mailengine.specs.Hosts.{IsMade}
 use Rattle.mailengine.specs.declared.answer.Answer.{Answer}
@@ -10,7 +12,7 @@ use Rattle.mailengine.specs.declared.event.Event.{Event}
 use Rattle.mailengine.specs.declared.event.Event.TheVariants.{Step, GiveUp}
 use Rattle.wires.specs.Talk.{after_span}
 use Rattle.sieveddaemon.specs.declared.note.Note.{Note}
-use Rattle.sieveddaemon.specs.declared.note.Note.TheVariants.{Did, Away, Freed, Spoke}
+use Rattle.sieveddaemon.specs.declared.note.Note.TheVariants.{Did, Away, Freed, Spoke, Answered}
 use Rattle.sieveddaemon.specs.declared.place.Waits.{Waits}
 use Rattle.sieveddaemon.specs.declared.place.Waits.TheVariants as waits
 
@@ -27,12 +29,15 @@ max_away = 5000
 
 -- ---- what is said
 
--- to who comes; to who was idle (RFC 5804, 1.2)
+-- to who comes; to who was idle (RFC 5804, 1.2); to who sends what there is no room for (1.3)
 abbrev pub greeting : List ℕ
 greeting = spelled (capabilities None)
 
 abbrev pub idle : List ℕ
 idle = spelled (farewell (codes "Idle."))
+
+abbrev pub too_much : List ℕ
+too_much = spelled (record { lines = []; word = Some Bye; code = Some code.TryLater; text = Some (codes "Too much to hold.") })
 
 -- whether that is the answer to a login that failed: no other answer of the table is spelled so
 abbrev pub is_failure : List ℕ → Bool
@@ -54,6 +59,7 @@ abbrev pub said_with : Waits → Note → List ℕ
 said_with w (Did others event answer) = said_at_once answer
 said_with w (Freed event answer) = said_at_once answer
 said_with (waits.Reply until text) Spoke = text
+said_with w Answered = too_much
 said_with w _ = []
 
 -- ---- what is waited for then
@@ -97,12 +103,13 @@ AllowsFreed now w id (GiveUp n) answer = MayGiveUp now w × (n ≡ id)
 AllowsFreed now w id event answer = ⊥
 
 -- at a moment, for a connection that waits so: what comes first is stepped by the store, or that is away; or it is stepped at once, or
--- given up; or what was kept back is said, at its moment
+-- given up; or what was kept back is said, at its moment; or it is told that there was no room, where it waits for nothing
 abbrev pub Allows : ℕ → Waits → ℕ → Note → Type 0
 Allows now w id (Did others event answer) = MayAsk now w × (event ≡ Step id)
 Allows now w id Away = MayAsk now w
 Allows now w id (Freed event answer) = AllowsFreed now w id event answer
 Allows now (waits.Reply until text) id Spoke = until ≤ now
+Allows now waits.Nothing id Answered = Unit {0}
 Allows now w id note = ⊥
 
 -- something was kept back

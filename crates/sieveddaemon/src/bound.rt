@@ -1,10 +1,14 @@
 //! How many octets all connections hold, and for how many more there is room.
-ghost use Rattle.std.specs.Prelude.{◌≡◌, ◌≤◌, ◌<◌, ◌+◌, ◌-◌, true, false};
+ghost use Rattle.std.specs.Prelude.{◌≡◌, ◌⊎◌, ◌≤◌, ◌<◌, ◌+◌, ◌-◌, true, false, Some};
+ghost use Rattle.lmtp.specs.Receivers.{held_by};
+ghost use Rattle.mailposts.specs.declared.post.Post.{Post as PostOf};
 ghost use Rattle.sieveddaemon.specs.Bounds as bounds;
+ghost use Rattle.sieveddaemon.specs.MailRules as rules;
 ghost use Rattle.sieveddaemon.specs.Places.{client_at};
 
 use crate::mail::MailDaemon;
 use crate::place::Place;
+use crate::room::is_user;
 use mailengine::Clients;
 use mailposts::Post;
 use std::collections::BTreeMap;
@@ -12,12 +16,71 @@ use std::collections::BTreeMap;
 /// Octets of a KiB.
 const KIB: usize = 1024;
 
+/// So many octets each client may hold, whatever the others do.
+const OWN: usize = 8192;
+
+/// So many octets of each KiB clients of ManageSieve may hold who aren't logged in.
+const GUESTS: usize = 128;
+
 /// Whether there is room for so many octets more. Time is linear in the connections.
 pub fn has_room(mail: &MailDaemon, count: usize) -> bool
     ensures has { result ≡ true → bounds.held mail.now + count ≤ bounds.bound mail.now }
     ensures lacks { result ≡ false → bounds.bound mail.now < bounds.held mail.now + count }
 {
     count < left(mail)
+}
+
+/// Whether there is room for so many octets more of a client of ManageSieve: they are within what each may hold, or there is room for
+/// them, and where nobody is logged in there, also in the share of such ones. Time is linear in the connections.
+pub fn has_room_for(mail: &MailDaemon, id: u32, count: usize) -> bool
+    ensures has { result ≡ true → bounds.FitsClient mail.now id count }
+    ensures lacks { result ≡ false → bounds.PassesBound mail.now id count }
+{
+    if is_small(&mail.daemon.clients, id, count) {
+        return true;
+    }
+    keeps_bound(mail, id, count)
+}
+
+/// Whether all hold what they may with so many octets more of a client of ManageSieve.
+fn keeps_bound(mail: &MailDaemon, id: u32, count: usize) -> bool
+    ensures has { result ≡ true → bounds.KeepsBound mail.now id count }
+    ensures lacks { result ≡ false → (bounds.bound mail.now < bounds.held mail.now + count) ⊎ (bounds.IsGuestAt mail.now id × (bounds.share mail.now < bounds.guests mail.now + count)) }
+{
+    if !has_room(mail, count) {
+        return false;
+    }
+    if is_user(&mail.daemon.clients, id) {
+        return true;
+    }
+    count < left_to_guests(mail)
+}
+
+/// Whether a client of ManageSieve holds no more with so many octets than each may.
+fn is_small(clients: &Clients, id: u32, count: usize) -> bool
+    ensures has { result ≡ true → bounds.unread_of (client_at clients.now.sessions id) + count ≤ bounds.own }
+    ensures lacks { result ≡ false → bounds.own < bounds.unread_of (client_at clients.now.sessions id) + count }
+{
+    is_within(unread_of(clients, id), count)
+}
+
+/// Whether so many octets more of a client of LMTP are within what each may hold, whatever the others do.
+pub fn is_own(mail: &MailDaemon, id: u32, count: usize) -> bool
+    ensures has { result ≡ true → rules.IsOwn mail.now id count }
+    ensures lacks { result ≡ false → (post : PostOf) → rules.post_at mail.now id ≡ Some post → bounds.own < held_by post.receiver + count }
+{
+    match mail.posts.get(&id) {
+        Some(post) => is_within(post.held(), count),
+        None => false,
+    }
+}
+
+/// Whether so many octets and so many more are no more than each client may hold.
+fn is_within(held: usize, count: usize) -> bool
+    ensures has { result ≡ true → held + count ≤ bounds.own }
+    ensures lacks { result ≡ false → bounds.own < held + count }
+{
+    count <= OWN && held <= OWN - count
 }
 
 /// For how many octets more there is room. Time is linear in the connections.
@@ -34,6 +97,35 @@ fn left(mail: &MailDaemon) -> usize
     let most = mail.memory as usize * KIB + 1;
     let left = less_unread(most, &mail.daemon.clients, &mail.daemon.places);
     less_held(left, &mail.posts)
+}
+
+/// With how many octets more those who aren't logged in pass their share; 0 where they do.
+fn left_to_guests(mail: &MailDaemon) -> usize
+    ensures { result ≡ bounds.share mail.now + 1 - bounds.guests mail.now }
+{
+    let most = mail.memory as usize * GUESTS + 1;
+    less_guests(most, &mail.daemon.clients, &mail.daemon.places)
+}
+
+/// Less what clients of ManageSieve hold who aren't logged in.
+fn less_guests(most: usize, clients: &Clients, places: &BTreeMap<u32, Place>) -> usize
+    ensures { result ≡ most - bounds.guests_in clients.now.sessions places.now.entries }
+{
+    let mut left = most;
+    for (id, _) in places.iter() {
+        left = left.saturating_sub(guest_unread(clients, *id));
+    }
+    left
+}
+
+fn guest_unread(clients: &Clients, id: u32) -> usize
+    ensures { result ≡ bounds.guest_unread (client_at clients.now.sessions id) }
+{
+    if is_user(clients, id) {
+        0
+    } else {
+        unread_of(clients, id)
+    }
 }
 
 /// Less what clients of ManageSieve hold.

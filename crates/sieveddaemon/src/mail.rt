@@ -24,8 +24,9 @@ pub struct MailDaemon {
 impl MailDaemon {
     /// No connections. Where `moves`, mail moves on. Takes no memory.
     ///
-    /// Octets are heard of a connection only where with them all hold at most `memory` KiB (of ManageSieve what isn't answered, of LMTP
-    /// lines and texts), or the connection ends; a text of LMTP is dropped before.
+    /// Octets of a connection fit where it holds at most 8,192 with them, or all hold at most `memory` KiB (of ManageSieve what isn't
+    /// answered, of LMTP lines and texts), and those of ManageSieve that aren't logged in an eighth. For those of LMTP that don't a text
+    /// is dropped; one of ManageSieve is told so, and ends.
     pub fn new(alloc: Global, names: Names, host: Octets, moves: bool, memory: u32) -> MailDaemon
         ensures sessions { result.daemon.clients.sessions.entries ≡ [] }
         ensures places { result.daemon.places.entries ≡ [] }

@@ -3,8 +3,9 @@ ghost use Rattle.std.specs.Prelude.{◌≡◌, true, false, None, [], IsErr, IfS
 ghost use Rattle.sieveddaemon.specs.DaemonRules.{place_at};
 ghost use Rattle.sieveddaemon.specs.MailRules as rules;
 
-use crate::bound::has_room;
+use crate::bound::{has_room, has_room_for, is_own};
 use crate::mail::MailDaemon;
+use crate::place::Fit;
 use crate::session::{enter, hear, leave};
 use crate::step::forget;
 use lmtp::Reply;
@@ -74,16 +75,25 @@ pub fn hear_by(mail: &mut MailDaemon, now: u64, id: u32, piece: &[u8]) -> Result
     }
 }
 
-/// Octets of a client of ManageSieve come; where there is no room for them, it ends.
+/// Octets of a client of ManageSieve come; where there is no room for them, it is over with it behind them.
 fn hear_client(mail: &mut MailDaemon, now: u64, id: u32, piece: &[u8]) -> Result<(), AllocError>
     requires { rules.post_at mail.old id ≡ None }
     ensures ok { OnOk result (rules.SessionGives mail.old now id piece.now [] mail.new) }
     ensures err { OnErr result (rules.LacksBy mail.old id mail.new) }
 {
-    if !has_room(mail, piece.len()) {
-        return lack_post(mail, id);
+    let fit = fit_of(mail, id, piece.len());
+    hear(&mut mail.daemon, now, id, piece, fit)
+}
+
+/// Whether there is room for so many octets of a client of ManageSieve.
+fn fit_of(mail: &MailDaemon, id: u32, count: usize) -> Fit
+    ensures { rules.FitsAs mail.now id count result }
+{
+    if has_room_for(mail, id, count) {
+        Fit::Fits
+    } else {
+        Fit::Over
     }
-    hear(&mut mail.daemon, now, id, piece)
 }
 
 /// Octets of a client of LMTP come; where there is no room for them beside its text, that is dropped, and where there is none then, it
@@ -101,18 +111,31 @@ fn hear_post(mail: &mut MailDaemon, now: u64, id: u32, piece: &[u8]) -> Result<(
     take_piece(mail, now, id, piece)
 }
 
-/// Makes room for so many octets of a client of LMTP, by its text where that is needed. Whether there is some.
+/// Makes room for so many octets of a client of LMTP, by its text where that is needed. Whether there is some; there is for 8,192 octets
+/// of one whose text is dropped and that holds no line.
 fn fit(mail: &mut MailDaemon, id: u32, count: usize) -> bool
     ensures fits { result ≡ true → rules.Fits mail.old id count mail.new }
     ensures none { result ≡ false → rules.KeepsPosts mail.old id mail.new }
+    ensures lacks { result ≡ false → rules.LacksRoom mail.new id count }
 {
-    if has_room(mail, count) {
+    if may_take(mail, id, count) {
         return true;
     }
     if !drop_text(mail, id) {
         return false;
     }
-    has_room(mail, count)
+    may_take(mail, id, count)
+}
+
+/// Whether so many octets of a client of LMTP fit: all may hold them, or they are its own.
+fn may_take(mail: &MailDaemon, id: u32, count: usize) -> bool
+    ensures has { result ≡ true → rules.HasRoom mail.now id count }
+    ensures lacks { result ≡ false → rules.LacksRoom mail.now id count }
+{
+    if has_room(mail, count) {
+        return true;
+    }
+    is_own(mail, id, count)
 }
 
 /// Drops the text of a client of LMTP, where there is that client.

@@ -25,7 +25,8 @@ pub enum Note {
     },
     /// What was kept back was said.
     Spoke,
-    /// What comes first of a client of LMTP was answered, and no store was asked for it.
+    /// What comes first of a client of LMTP was answered, and no store was asked for it; or one of ManageSieve was told that there is no
+    /// room for what it sends.
     Answered,
     /// The store was asked whether there is an account of that name, and this was found.
     Asked {

@@ -14,6 +14,17 @@ pub enum Waits {
     Reply(u64, Octets),
 }
 
+/// Whether there was room for what a client sent.
+#[derive(Clone, Copy, Debug, PartialEq, Eq)]
+pub enum Fit {
+    /// There was.
+    Fits,
+    /// There was none for what came last. The client is told so in its next step.
+    Over,
+    /// It is told so, and nothing is wanted of it any more.
+    Told,
+}
+
 /// What the daemon knows of a connection beside its session. Moments are in milliseconds.
 #[derive(Drop)]
 pub struct Place {
@@ -22,4 +33,5 @@ pub struct Place {
     pub guest: u64,
     /// The moment of the last answer, or of the first octet after it.
     pub since: u64,
+    pub fit: Fit,
 }

@@ -7,7 +7,7 @@ ghost use Rattle.sieveddaemon.specs.Waiting as waiting;
 ghost use Rattle.sieveddaemon.specs.DaemonRules.{Opens, Gives, Closes, LacksFor};
 
 use crate::daemon::Daemon;
-use crate::place::{Place, Waits};
+use crate::place::{Fit, Place, Waits};
 use crate::step::{forget, is_out, lack};
 use mailengine::{Answer, Event, apply_free};
 use octets::Octets;
@@ -24,6 +24,7 @@ pub fn enter(daemon: &mut Daemon, now: u64, id: u32, out: &mut Octets) -> Result
         waits: Waits::Nothing,
         guest: now,
         since: now,
+        fit: Fit::Fits,
     };
     if daemon.places.insert(id, place).is_err() {
         return lack(daemon, id);
@@ -51,9 +52,15 @@ fn octets_of(alloc: Global, answer: Answer) -> Octets
     }
 }
 
-/// Octets of one come.
-pub fn hear(daemon: &mut Daemon, now: u64, id: u32, piece: &[u8]) -> Result<(), AllocError>
-    ensures ok { OnOk result (Gives daemon.old now id piece.now [] daemon.new) }
+/// Octets of one come, for which there was room or not.
+pub fn hear(
+    daemon: &mut Daemon,
+    now: u64,
+    id: u32,
+    piece: &[u8],
+    fit: Fit,
+) -> Result<(), AllocError>
+    ensures ok { OnOk result (Gives daemon.old now id piece.now fit [] daemon.new) }
     ensures err { OnErr result (LacksFor daemon.old id daemon.new) }
 {
     let Some(session) = daemon.clients.session(id) else {
@@ -66,17 +73,18 @@ pub fn hear(daemon: &mut Daemon, now: u64, id: u32, piece: &[u8]) -> Result<(), 
     if !is_out(&daemon.clients.give(id, piece)) {
         return lack(daemon, id);
     }
-    begin(&mut daemon.places, now, id, begins);
+    begin(&mut daemon.places, now, id, begins, fit);
     Ok(())
 }
 
-/// Where the octets that came `begin` what comes next, it is counted from now on.
-fn begin(places: &mut BTreeMap<u32, Place>, now: u64, id: u32, begins: bool)
-    ensures { (before : Place) → tree.get nat_cmp places.old id ≡ Some before → tree.Updates nat_cmp places.old places.new id (Some (begun now before begins)) }
+/// Where the octets that came `begin` what comes next, it is counted from now on; and whether there was room for them.
+fn begin(places: &mut BTreeMap<u32, Place>, now: u64, id: u32, begins: bool, fit: Fit)
+    ensures { (before : Place) → tree.get nat_cmp places.old id ≡ Some before → tree.Updates nat_cmp places.old places.new id (Some (begun now before begins fit)) }
 {
     let Some(place) = places.get_mut(&id) else {
         return;
     };
+    place.fit = fit;
     if begins {
         place.since = now;
     }

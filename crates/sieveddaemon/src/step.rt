@@ -1,11 +1,11 @@
 //! The daemon goes on with a connection: one event, or one text that was kept back.
-ghost use Rattle.std.specs.Prelude.{◌≡◌, [], Some, false, IsTrue, IsSome, IsErr, OnOk, OnErr};
+ghost use Rattle.std.specs.Prelude.{◌≡◌, [], Some, true, false, IsTrue, IsSome, IsErr, OnOk, OnErr};
 ghost use Rattle.std.specs.Ordering.{nat_cmp};
 ghost use Rattle.std.specs.BTreeMap as tree;
 ghost use Rattle.wires.specs.Rules.{StepsIf, IdlesIf};
 ghost use Rattle.sieveddaemon.specs.DaemonRules.{daemon_rules, place_at, AtPlace, Forgets, Renews, LacksFor, had_at};
 ghost use Rattle.sieveddaemon.specs.Places as places;
-ghost use Rattle.sieveddaemon.specs.Places.{client_at, renewed};
+ghost use Rattle.sieveddaemon.specs.Places.{client_at, renewed, place_told};
 ghost use Rattle.sieveddaemon.specs.Waiting as waiting;
 ghost use Rattle.sieveddaemon.specs.Waiting.{MayAsk, MayGiveUp, said_at_once, waits_after, IsReply};
 ghost use Rattle.sieveddaemon.specs.declared.note.Note.TheVariants.{Away};
@@ -14,7 +14,7 @@ ghost use Rattle.mailengine.specs.declared.event.Event.TheVariants.{Step};
 
 use crate::daemon::Daemon;
 use crate::desk::Desk;
-use crate::place::{Place, Waits};
+use crate::place::{Fit, Place, Waits};
 use crate::room::is_user;
 use mailengine::{Answer, Clients, Event, apply_free};
 use octets::Octets;
@@ -36,6 +36,9 @@ const FAILED: &[u8] = b"NO \"Authentication failed.\"\r\n";
 
 /// The same at the third failure, which ends the session.
 const FAILED_LAST: &[u8] = b"BYE \"Too many failures.\"\r\n";
+
+/// What is said to one that sends what there is no room for (RFC 5804, 1.3).
+const TOO_MUCH: &[u8] = b"BYE (TRYLATER) \"Too much to hold.\"\r\n";
 
 // ---- what an answer comes to
 
@@ -100,6 +103,7 @@ fn replace_waits(
             waits,
             guest,
             since,
+            fit: place.fit,
         },
     );
     before.waits
@@ -276,6 +280,77 @@ fn speak<O: Desk>(daemon: &mut Daemon, outside: &mut O, now: u64, id: u32, out: 
     }
 }
 
+/// Whether there was no room for what one sent, and it isn't told yet.
+fn is_over(fit: Fit) -> bool
+    ensures { result ≡ true → fit ≡ Fit.Over }
+{
+    match fit {
+        Fit::Over => true,
+        _ => false,
+    }
+}
+
+/// It is noted that one is told that there was no room.
+fn note_told(places: &mut BTreeMap<u32, Place>, now: u64, id: u32, user: bool)
+    ensures { (before : Place) → tree.get nat_cmp places.old id ≡ Some before → tree.Updates nat_cmp places.old places.new id (Some (place_told now before user)) }
+{
+    let Some(place) = places.get_mut(&id) else {
+        return;
+    };
+    if user {
+        place.guest = now;
+    }
+    place.waits = Waits::Nothing;
+    place.fit = Fit::Told;
+}
+
+/// One that sends what there is no room for is told so, and nothing more is done for it.
+fn refuse<O: Desk>(
+    daemon: &mut Daemon,
+    outside: &mut O,
+    now: u64,
+    id: u32,
+    out: &mut Octets,
+) -> Result<(), AllocError>
+    requires out { out.old ≡ [] }
+    requires may { AtPlace daemon.old id (λ place. (place.waits ≡ Waits.Nothing) × (place.fit ≡ Fit.Over)) }
+    ensures kept { IsTrue (O.tells outside.new) → IsTrue (O.tells outside.old) }
+    ensures ok { OnOk result (StepsIf O.tells O.seen O.rest (daemon_rules O.shows) outside.old daemon.old now id out.new outside.new daemon.new) }
+    ensures err { OnErr result (IdlesIf O.tells O.seen O.rest outside.old outside.new) }
+    ensures lacks { OnErr result (LacksFor daemon.old id daemon.new) }
+{
+    if out.extend_from_slice(TOO_MUCH).is_err() {
+        return lack(daemon, id);
+    }
+    outside.tell_answered(id);
+    let user = is_user(&daemon.clients, id);
+    note_told(&mut daemon.places, now, id, user);
+    Ok(())
+}
+
+/// One step of a connection that waits for nothing.
+fn step_free<O: Desk>(
+    daemon: &mut Daemon,
+    outside: &mut O,
+    now: u64,
+    id: u32,
+    fit: Fit,
+    out: &mut Octets,
+) -> Result<(), AllocError>
+    requires out { out.old ≡ [] }
+    requires may { AtPlace daemon.old id (λ place. (place.waits ≡ Waits.Nothing) × (place.fit ≡ fit)) }
+    ensures kept { IsTrue (O.tells outside.new) → IsTrue (O.tells outside.old) }
+    ensures ok { OnOk result (StepsIf O.tells O.seen O.rest (daemon_rules O.shows) outside.old daemon.old now id out.new outside.new daemon.new) }
+    ensures err { OnErr result (IdlesIf O.tells O.seen O.rest outside.old outside.new) }
+    ensures lacks { OnErr result (LacksFor daemon.old id daemon.new) }
+{
+    if is_over(fit) {
+        refuse(daemon, outside, now, id, out)
+    } else {
+        step_first(daemon, outside, now, id, out)
+    }
+}
+
 /// One step of a connection.
 pub fn step_once<O: Desk>(
     daemon: &mut Daemon,
@@ -294,7 +369,10 @@ pub fn step_once<O: Desk>(
         return lack(daemon, id);
     };
     match &place.waits {
-        Waits::Nothing => step_first(daemon, outside, now, id, out),
+        Waits::Nothing => {
+            let fit = place.fit;
+            step_free(daemon, outside, now, id, fit, out)
+        }
         Waits::Store(since, _) => {
             if now.saturating_sub(*since) < MAX_AWAY {
                 step_first(daemon, outside, now, id, out)

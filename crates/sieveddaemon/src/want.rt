@@ -5,7 +5,7 @@ ghost use Rattle.sieveddaemon.specs.Places as places;
 ghost use Rattle.sieveddaemon.specs.Places.{client_at};
 
 use crate::daemon::Daemon;
-use crate::place::{Place, Waits};
+use crate::place::{Fit, Place, Waits};
 use sessions::Session;
 use wires::machine::Want;
 
@@ -18,15 +18,25 @@ const MAX_COMMAND: u64 = 300000;
 /// For so many milliseconds a client that is logged in may say nothing (RFC 5804, 1.2).
 const MAX_SILENCE: u64 = 1800000;
 
-/// What is wanted of a connection that waits so.
-pub fn want_by(waits: &Waits, session: &Session) -> Want
-    ensures { result ≡ places.want_by waits.now session.now.client }
+/// What is wanted of a connection that waits so, and for whose octets there was room or not.
+pub fn want_by(waits: &Waits, fit: Fit, session: &Session) -> Want
+    ensures { result ≡ places.want_by waits.now fit session.now.client }
 {
     match waits {
-        Waits::Nothing => want_of_session(session),
+        Waits::Nothing => want_in(fit, session),
         Waits::Store(_, again) => Want::Until(*again),
         Waits::Refused => Want::Step,
         Waits::Reply(until, _) => Want::Until(*until),
+    }
+}
+
+fn want_in(fit: Fit, session: &Session) -> Want
+    ensures { result ≡ places.want_in fit session.now.client }
+{
+    match fit {
+        Fit::Fits => want_of_session(session),
+        Fit::Over => Want::Step,
+        Fit::Told => Want::Done,
     }
 }
 
@@ -71,7 +81,7 @@ pub fn want_of(daemon: &Daemon, id: u32) -> Want
 {
     match daemon.places.get(&id) {
         Some(place) => match daemon.clients.session(id) {
-            Some(session) => want_by(&place.waits, session),
+            Some(session) => want_by(&place.waits, place.fit, session),
             None => Want::Done,
         },
         None => Want::Done,

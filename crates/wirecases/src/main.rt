@@ -65,6 +65,9 @@ const MOVERS: [&str; 1] = ["mail-moves.daemon"];
 /// Those of a daemon whose connections may hold 4 KiB.
 const SMALL: [&str; 1] = ["mail-memory.daemon"];
 
+/// Those of a daemon whose connections may hold 128 KiB.
+const SHARED: [&str; 1] = ["mail-share.daemon"];
+
 /// So many KiB the connections of the others may hold.
 const MEMORY: u32 = 65_536;
 
@@ -80,6 +83,8 @@ enum Server {
     Mover,
     /// The daemon, whose connections may hold 4 KiB.
     Small,
+    /// The daemon, whose connections may hold 128 KiB.
+    Shared,
 }
 
 fn main(rt: HostRuntime) -> io::Result<ExitCode> {
@@ -91,6 +96,7 @@ fn main(rt: HostRuntime) -> io::Result<ExitCode> {
     try_files(&rt, Server::Daemon, &DAEMONS, &mut counts)?;
     try_files(&rt, Server::Mover, &MOVERS, &mut counts)?;
     try_files(&rt, Server::Small, &SMALL, &mut counts)?;
+    try_files(&rt, Server::Shared, &SHARED, &mut counts)?;
     try_dialogues(&rt, &mut counts)?;
     println!(rt; "{} passed, {} failed", counts.passed, counts.failed)?;
     Ok(status(counts.failed))
@@ -205,6 +211,7 @@ fn play(alloc: Global, server: Server, schedule: &Schedule) -> Result<List<Check
         Server::Daemon => play_daemon(alloc, schedule, false, MEMORY),
         Server::Mover => play_daemon(alloc, schedule, true, MEMORY),
         Server::Small => play_daemon(alloc, schedule, false, 4),
+        Server::Shared => play_daemon(alloc, schedule, false, 128),
     }
 }
 

@@ -13,6 +13,7 @@ returns-clause-drops c = λ _.
       was = was;
       after = c.drop_text.new.self;
       keeps = c.drop_text.ensures.keeps;
+      held = c.drop_text.ensures.held;
       dropped = c.drop_text.ensures.dropped;
       posts = put.0;
       daemon = refl;

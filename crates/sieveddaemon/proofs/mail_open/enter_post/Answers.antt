@@ -15,6 +15,7 @@ returns-clause-ok c =
       says = c.in-Ok.ensures.greets ∙ ap greeting c.as_slice.ensures;
       post = c.in-Ok.post;
       begins = subst (λ h. Stands c.in-Ok.post (new_post m.names h c.args.now)) c.as_slice.ensures c.in-Ok.ensures.begins;
+      empty = c.in-Ok.ensures.empty;
       posts = put.0;
       daemon = c.forget.ensures;
       host = record { names = refl; host = refl; memory = refl };

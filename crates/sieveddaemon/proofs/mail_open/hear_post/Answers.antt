@@ -1,4 +1,4 @@
-use Rattle.std.proofs.Common.{◌≡◌, true, None, option_map, length, ap, refl, rules}
+use Rattle.std.proofs.Common.{◌≡◌, None, option_map, length, ap, refl, rules}
 use Rattle.std.specs.Ordering.{nat_cmp}
 use Rattle.std.specs.BTreeMap as tree
 use Rattle.sessions.specs.Counts.{SessionView}

@@ -16,6 +16,7 @@ returns-clause-ok c =
       was = was;
       after = c.hear.new.self;
       hears = hears;
+      held = c.hear.ensures.held;
       posts = put.0;
       daemon = refl;
       host = record { names = refl; host = refl; memory = refl };

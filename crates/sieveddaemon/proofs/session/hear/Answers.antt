@@ -30,7 +30,7 @@ returns-clause-ok c =
       client = c.in-Some.session.now.client;
       session = ap (λ o. option_map (λ (s : SessionView). s.client) o) session;
       place = record {
-        places = (subst (λ b. tree.Updates nat_cmp c.args.daemon.now.places c.begin.new.places c.args.id (Some (begun c.args.now place.0 b))) begins (c.begin.ensures place.0 place.1)).0;
+        places = (subst (λ b. tree.Updates nat_cmp c.args.daemon.now.places c.begin.new.places c.args.id (Some (begun c.args.now place.0 b c.args.fit))) begins (c.begin.ensures place.0 place.1)).0;
         holding = refl;
       };
     }

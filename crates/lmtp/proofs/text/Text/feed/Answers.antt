@@ -13,4 +13,5 @@ loop-self-preserved c =
       feeds = feeds_up_to c.args.self.now c.loop-self.self c.feed_some-count.new.self c.args.piece.now c.loop-self.taken c.feed_some-count.result i.feeds
           (subst (λ octets. Feeds c.loop-self.self (take c.feed_some-count.result octets) c.feed_some-count.new.self) rest c.feed_some-count.ensures.feeds);
       limit = c.feed_some-count.ensures.limit ∙ i.limit;
+      held = omega (arith, c.feed_some-count.ensures.held, i.held);
     }

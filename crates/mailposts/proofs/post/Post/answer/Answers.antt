@@ -3,8 +3,8 @@ use Rattle.mailposts.specs.declared.post.Post.{Post as Code}
 use Rattle.mailposts.proofs.PostLemmas.{answers}
 use Rattle.mailposts.proofs.post.Post.answer.Goals as goal
 
-pub returns : goal.returns
-returns c =
+pub returns-clause-does : goal.returns-clause-does
+returns-clause-does c =
     let m : Code = record c.args.self.now { receiver = c.answer.new.self } in
     answers c.args.now c.args.self.now m c.go_on.new.self c.args.out.now c.answer.new.out c.requires.out c.requires.line c.in_ok-answer.ensures.line c.answer.ensures.hello refl refl refl
-    c.go_on.ensures
+    c.go_on.ensures.goes

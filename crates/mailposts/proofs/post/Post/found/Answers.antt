@@ -6,17 +6,17 @@ use Rattle.mailposts.specs.declared.post.Post.{Post as Code}
 use Rattle.mailposts.proofs.PostLemmas.{found, tried, not_taken}
 use Rattle.mailposts.proofs.post.Post.found.Goals as goal
 
-pub returns-in-Known : goal.returns-in-Known
-returns-in-Known c =
+pub returns-in-Known-clause-does : goal.returns-in-Known-clause-does
+returns-in-Known-clause-does c =
     let s = c.args.self.now in
     let q = c.args.question in
     let m : Code = record s { addressees = c.push_reserved.new.self } in
     let items : c.push_reserved.new.self.items ≡ taken_with c.args.lookup q.user q.address s.addressees.items =
     c.push_reserved.ensures.items ∙ ap (λ l. taken_with l q.user q.address s.addressees.items) (sym c.in-Known.is) in
-    found c.args.now c.args.lookup c.resolve.result s m c.resolve.new.self q c.requires.found c.requires.asked (λ none. absurd (let never : Known ≡ Unknown = sym c.in-Known.is ∙ none in cc)) refl refl items refl c.resolve.ensures
+    found c.args.now c.args.lookup c.resolve.result s m c.resolve.new.self q c.requires.found c.requires.asked (λ none. absurd (let never : Known ≡ Unknown = sym c.in-Known.is ∙ none in cc)) refl refl items refl c.resolve.ensures.resolves
 
-pub returns-in-Some : goal.returns-in-Some
-returns-in-Some c =
+pub returns-in-Some-clause-does : goal.returns-in-Some-clause-does
+returns-in-Some-clause-does c =
     let s = c.args.self.now in
     let q = c.args.question in
     subst (λ l. Does c.args.now (Asked q.user l) c.try_next.result s c.try_next.new.self) (sym c.in-Unknown.is)
@@ -24,28 +24,28 @@ returns-in-Some c =
     (subst (λ x. Does c.args.now (Asked q.user Unknown) x s (record s { tally = c.try_next.new.self.tally })) (sym c.try_next.ensures.said)
     (tried c.args.now c.in-Some.next s c.try_next.new.self.tally q c.requires.asked c.in-Some.is c.try_next.ensures.tally)))
 
-pub returns-in-None : goal.returns-in-None
-returns-in-None c =
+pub returns-in-None-clause-does : goal.returns-in-None-clause-does
+returns-in-None-clause-does c =
     let s = c.args.self.now in
     let q = c.args.question in
     let items : s.addressees.items ≡ taken_with c.args.lookup q.user q.address s.addressees.items =
     not_taken c.args.lookup q.user q.address s.addressees.items (λ known. let never : Unknown ≡ Known = sym c.in-Unknown.is ∙ known in cc) in
-    found c.args.now c.args.lookup c.resolve-in-None.result s s c.resolve-in-None.new.self q c.requires.found c.requires.asked (λ unknown. c.in-None.is) refl refl items refl c.resolve-in-None.ensures
+    found c.args.now c.args.lookup c.resolve-in-None.result s s c.resolve-in-None.new.self q c.requires.found c.requires.asked (λ unknown. c.in-None.is) refl refl items refl c.resolve-in-None.ensures.resolves
 
-pub returns-in-Fault : goal.returns-in-Fault
-returns-in-Fault c =
+pub returns-in-Fault-clause-does : goal.returns-in-Fault-clause-does
+returns-in-Fault-clause-does c =
     let s = c.args.self.now in
     let q = c.args.question in
     let items : s.addressees.items ≡ taken_with c.args.lookup q.user q.address s.addressees.items =
     not_taken c.args.lookup q.user q.address s.addressees.items (λ known. let never : Fault ≡ Known = sym c.in-Fault.is ∙ known in cc) in
     found c.args.now c.args.lookup c.resolve-in-Fault.result s s c.resolve-in-Fault.new.self q c.requires.found c.requires.asked
-    (λ unknown. absurd (let never : Fault ≡ Unknown = sym c.in-Fault.is ∙ unknown in cc)) refl refl items refl c.resolve-in-Fault.ensures
+    (λ unknown. absurd (let never : Fault ≡ Unknown = sym c.in-Fault.is ∙ unknown in cc)) refl refl items refl c.resolve-in-Fault.ensures.resolves
 
-pub returns-in-NoRoom : goal.returns-in-NoRoom
-returns-in-NoRoom c =
+pub returns-in-NoRoom-clause-does : goal.returns-in-NoRoom-clause-does
+returns-in-NoRoom-clause-does c =
     let s = c.args.self.now in
     let q = c.args.question in
     let items : s.addressees.items ≡ taken_with c.args.lookup q.user q.address s.addressees.items =
     not_taken c.args.lookup q.user q.address s.addressees.items (λ known. let never : NoRoom ≡ Known = sym c.in-NoRoom.is ∙ known in cc) in
     found c.args.now c.args.lookup c.resolve-in-NoRoom.result s s c.resolve-in-NoRoom.new.self q c.requires.found c.requires.asked
-    (λ unknown. absurd (let never : NoRoom ≡ Unknown = sym c.in-NoRoom.is ∙ unknown in cc)) refl refl items refl c.resolve-in-NoRoom.ensures
+    (λ unknown. absurd (let never : NoRoom ≡ Unknown = sym c.in-NoRoom.is ∙ unknown in cc)) refl refl items refl c.resolve-in-NoRoom.ensures.resolves

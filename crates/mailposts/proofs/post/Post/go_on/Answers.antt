@@ -2,7 +2,7 @@ use Rattle.std.proofs.Common.{refl}
 use Rattle.mailposts.proofs.PostLemmas.{goes_on}
 use Rattle.mailposts.proofs.post.Post.go_on.Goals as goal
 
-pub returns : goal.returns
-returns c =
+pub returns-clause-goes : goal.returns-clause-goes
+returns-clause-goes c =
     goes_on c.args.now c.args.self.now c.settle.new.self (record c.settle.new.self { comes = c.wanted_for-self.result }) c.next.result c.settle.ensures refl refl refl refl c.next.ensures
     c.wanted_for-self.ensures

@@ -13,7 +13,7 @@ returns-then-did-clause-ok c =
     let refused : RefusesIn c.args.room s.receiver c.refuse.new.self c.args.out.now c.refuse.new.out true =
     subst (RefusesIn c.args.room s.receiver c.refuse.new.self c.args.out.now c.refuse.new.out) c.if-did.true c.in_ok-did.ensures.ok in
     subst (λ did. Refuses c.args.now c.args.room c.refuse.new.out did s c.go_on.new.self) (sym c.if-did.true)
-    (declines c.args.now c.args.room s m c.go_on.new.self c.args.out.now c.refuse.new.out c.requires.out refused c.refuse.ensures.hello refl refl refl c.go_on.ensures)
+    (declines c.args.now c.args.room s m c.go_on.new.self c.args.out.now c.refuse.new.out c.requires.out refused c.refuse.ensures.hello refl refl refl c.go_on.ensures.goes)
 
 pub returns-else-did-clause-ok : goal.returns-else-did-clause-ok
 returns-else-did-clause-ok c =

@@ -1,0 +1,7 @@
+use Rattle.std.proofs.Common.{◌≡◌}
+use Rattle.sieveddaemon.proofs.BoundLemmas.{less_guests}
+use Rattle.sieveddaemon.proofs.bound.less_guests.Given as goal
+
+-- what the entries that are left make of what is left so far is what all make of the most
+abbrev pub invariant-loop-id : goal.invariant-loop-id
+invariant-loop-id l = less_guests l.clients.sessions l.left l.id-iterator ≡ less_guests l.clients.sessions l.most l.places.entries

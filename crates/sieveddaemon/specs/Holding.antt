@@ -1,0 +1,43 @@
+-- What all connections hold at any time.
+use Rattle.std.specs.Prelude.{ℕ, zero, suc, ◌+◌, ◌-◌, ◌≤◌, Option, Some, None}
+use Rattle.lmtp.specs.Receivers.{held_by}
+use Rattle.mailposts.specs.declared.post.Post.{Post}
+use Rattle.sessions.specs.Clients.{Client}
+use Rattle.wires.specs.Told.{largest_piece}
+use Rattle.sieveddaemon.specs.Bounds.{unread_of, bound, own}
+use Rattle.sieveddaemon.specs.DaemonRules.{place_at}
+use Rattle.sieveddaemon.specs.MailRules.{post_at}
+use Rattle.sieveddaemon.specs.Places.{client_at}
+use Rattle.sieveddaemon.specs.declared.mail.MailDaemon.{MailDaemon}
+use Rattle.sieveddaemon.specs.declared.place.Fit.{Fit}
+use Rattle.sieveddaemon.specs.declared.place.Fit.TheVariants as fit
+use Rattle.sieveddaemon.specs.declared.place.Place.{Place}
+
+-- the sum of the values at all numbers below one
+abbrev pub sum_below : ℕ → (ℕ → ℕ) → ℕ
+sum_below zero f = 0
+sum_below (suc n) f = f n + sum_below n f
+
+-- what a client of ManageSieve holds beyond what each may; but for a piece where there was no room for the last one
+abbrev pub firm_by : Fit → ℕ → ℕ
+firm_by fit.Fits count = count - own
+firm_by fit.Over count = count - (own + largest_piece)
+firm_by fit.Told count = count - (own + largest_piece)
+
+abbrev pub firm_client : Option Place → Option Client → ℕ
+firm_client None o = 0
+firm_client (Some place) o = firm_by place.fit (unread_of o)
+
+-- what one of LMTP does
+abbrev pub firm_post : Option Post → ℕ
+firm_post None = 0
+firm_post (Some post) = held_by post.receiver - own
+
+-- what the connection of a number does
+abbrev pub firm_at : MailDaemon → ℕ → ℕ
+firm_at d id = firm_client (place_at d.daemon id) (client_at d.daemon.clients.sessions id) + firm_post (post_at d id)
+
+-- all together hold what they may, but for what each may hold whatever the others do, and a piece of each client of ManageSieve for whose
+-- last octets there was no room
+abbrev pub IsBounded : MailDaemon → Type 0
+IsBounded d = (count : ℕ) → sum_below count (firm_at d) ≤ bound d
