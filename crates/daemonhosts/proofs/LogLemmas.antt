@@ -1,13 +1,13 @@
 -- Lines on messages that stay.
 use Rattle.std.proofs.Common.{◌≡◌, ℕ, Bool, true, false, List, Result, Ok, Err, IfOk}
 use Rattle.mailmoves.specs.declared.moving.Stay.{Stay}
-use Rattle.daemonhosts.specs.Log.{stay_line, IsStayLine, IsStayBy}
+use Rattle.daemonhosts.specs.Log.{stay_line, IsWhy, IsStayLine, IsStayBy}
 
 -- some reason stands there
-pub some_why : {E : Type 0} (result : Result (List ℕ) E) (stay : Stay) (why : List ℕ) → IfOk result (λ line. line ≡ stay_line stay.user stay.folder why)
+pub some_why : {E : Type 0} (result : Result (List ℕ) E) (stay : Stay) (why : List ℕ) → IsWhy stay.why why → IfOk result (λ line. line ≡ stay_line stay.user stay.folder why)
     → IfOk result (λ line. IsStayLine stay line)
-some_why (Ok line) stay why is = (why, is)
-some_why (Err error) stay why is = is
+some_why (Ok line) stay why so is = (why, so, is)
+some_why (Err error) stay why so is = is
 
 -- it is told where its folder hadn't failed before
 pub told_first : {E : Type 0} (result : Result (List ℕ) E) (stay : Stay) (first : Bool) → first ≡ true → IfOk result (λ line. IsStayLine stay line)

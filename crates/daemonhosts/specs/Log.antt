@@ -4,12 +4,15 @@ use Rattle.loglines.specs.Lines.{Pair, pair, line_of}
 use Rattle.mailengine.specs.declared.answer.Answer.{Answer}
 use Rattle.mailengine.specs.declared.answer.Answer.TheVariants.{Delivered, MailTaken, Refused}
 use Rattle.mailmoves.specs.declared.moving.Moving.{Moving}
-use Rattle.mailmoves.specs.declared.moving.Moving.TheVariants.{Stays, Kept}
+use Rattle.mailmoves.specs.declared.moving.Moving.TheVariants.{Stays, Kept, Failed}
 use Rattle.mailmoves.specs.declared.moving.Stay.{Stay}
+use Rattle.mailmoves.specs.declared.moving.Why.{Why}
+use Rattle.mailmoves.specs.declared.moving.Why.TheVariants.{Name, Gone, Store as InStore, Sink as InSink}
 use Rattle.mailposts.specs.declared.demand.Parcel.{Parcel}
 use Rattle.mailsinks.specs.declared.kept.KeptMail.{KeptMail}
+use Rattle.mailsinks.specs.declared.sink.SinkError.TheVariants.{Memory as NoMemory}
 use Rattle.mailstore.specs.declared.refusal.Refusal.{Refusal}
-use Rattle.mailstore.specs.declared.refusal.Refusal.TheVariants.{Memory, NoUser, TooLarge, BadEnvelope}
+use Rattle.mailstore.specs.declared.refusal.Refusal.TheVariants.{Memory, Store, NoUser, TooLarge, BadEnvelope}
 
 -- ---- a message that was brought
 
@@ -32,6 +35,11 @@ abbrev pub delivery_line : Parcel → Answer → List ℕ
 delivery_line parcel answer =
     line_of (word_of answer) (pair (codes "user") parcel.user ∷ pair (codes "from") parcel.sender ∷ pair (codes "to") parcel.recipient ∷ why_pairs answer)
 
+-- whether it was filed
+abbrev pub is_filed : Answer → Bool
+is_filed (Delivered report) = true
+is_filed _ = false
+
 -- ---- a message that moves on
 
 abbrev pub moved_line : KeptMail → List ℕ
@@ -40,9 +48,38 @@ moved_line mail = line_of (codes "moved") (pair (codes "user") mail.user ∷ pai
 abbrev pub stay_line : List ℕ → List ℕ → List ℕ → List ℕ
 stay_line user folder why = line_of (codes "stays") (pair (codes "user") user ∷ pair (codes "folder") folder ∷ pair (codes "why") why ∷ [])
 
+-- why it stays; of a fault of the file system its own words are told
+abbrev pub IsWhy : Why → List ℕ → Type 0
+IsWhy Name why = why ≡ codes "name"
+IsWhy Gone why = why ≡ codes "gone"
+IsWhy (InStore Memory) why = why ≡ codes "memory"
+IsWhy (InStore refusal) why = why ≡ codes "store"
+IsWhy (InSink NoMemory) why = why ≡ codes "memory"
+IsWhy (InSink error) why = Unit {0}
+
 -- that one stays, and why
 abbrev pub IsStayLine : Stay → List ℕ → Type 0
-IsStayLine stay line = (why : List ℕ) × (line ≡ stay_line stay.user stay.folder why)
+IsStayLine stay line = (why : List ℕ) × IsWhy stay.why why × (line ≡ stay_line stay.user stay.folder why)
+
+-- whether it moved
+abbrev pub has_moved : Moving → Bool
+has_moved (Kept mail MailTaken) = true
+has_moved _ = false
+
+-- whether the store failed
+abbrev pub is_store_fault : Refusal → Bool
+is_store_fault Store = true
+is_store_fault _ = false
+
+abbrev pub is_fault_of_store : Why → Bool
+is_fault_of_store (InStore refusal) = is_store_fault refusal
+is_fault_of_store why = false
+
+abbrev pub store_failed : Moving → Bool
+store_failed (Failed refusal) = is_store_fault refusal
+store_failed (Kept mail (Refused refusal)) = is_store_fault refusal
+store_failed (Stays stay) = is_fault_of_store stay.why
+store_failed _ = false
 
 -- that is told once, where its folder hadn't failed before
 abbrev pub IsStayBy : Bool → Stay → List ℕ → Type 0

@@ -43,7 +43,9 @@ impl<K: Keeper + Drop, T: MailSink + Drop> HeldStore<K, T> {
     }
 
     /// Whether the store is had.
-    pub fn is_had(&self) -> bool {
+    pub fn is_had(&self) -> bool
+        ensures { result ≡ is_some self.now.store }
+    {
         self.store.is_some()
     }
 

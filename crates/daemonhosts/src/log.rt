@@ -42,7 +42,9 @@ pub fn of_delivery(alloc: Global, parcel: &Parcel, answer: &Answer) -> Result<Oc
 }
 
 /// Whether the message was filed.
-pub fn is_delivered(answer: &Answer) -> bool {
+pub fn is_delivered(answer: &Answer) -> bool
+    ensures { result ≡ said.is_filed answer.now }
+{
     match answer {
         Answer::Delivered(_) => true,
         _ => false,
@@ -113,7 +115,9 @@ fn of_stay(alloc: Global, user: &Octets, folder: &Octets, why: &[u8]) -> Result<
 }
 
 /// Why a message stays in its folder.
-fn why_of_stay(why: Why, cause: Option<ErrorKind>) -> &'static [u8] {
+fn why_of_stay(why: Why, cause: Option<ErrorKind>) -> &'static [u8]
+    ensures { said.IsWhy why result.now }
+{
     match why {
         Why::Name => b"name",
         Why::Gone => b"gone",
@@ -127,17 +131,26 @@ fn why_of_stay(why: Why, cause: Option<ErrorKind>) -> &'static [u8] {
 }
 
 /// Whether the store failed.
-pub fn has_failed(moving: &Moving) -> bool {
+pub fn has_failed(moving: &Moving) -> bool
+    ensures { result ≡ said.store_failed moving.now }
+{
     match moving {
         Moving::Failed(Refusal::Store) => true,
         Moving::Kept(_, Answer::Refused(Refusal::Store)) => true,
-        Moving::Stays(stay) => stay.why == Why::Store(Refusal::Store),
+        Moving::Stays(
+            Stay {
+                why: Why::Store(Refusal::Store),
+                ..
+            },
+        ) => true,
         _ => false,
     }
 }
 
 /// Whether the message moved.
-pub fn is_moved(moving: &Moving) -> bool {
+pub fn is_moved(moving: &Moving) -> bool
+    ensures { result ≡ said.has_moved moving.now }
+{
     match moving {
         Moving::Kept(_, Answer::MailTaken) => true,
         _ => false,

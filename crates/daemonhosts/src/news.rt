@@ -1,4 +1,9 @@
 //! What is told on the errors, and how long the store is left alone.
+ghost use Rattle.std.specs.Prelude.{◌≡◌, true};
+ghost use Rattle.daemonhosts.specs.Events as events;
+ghost use Rattle.daemonhosts.specs.Log.{is_filed, has_moved, store_failed};
+ghost use Rattle.daemonhosts.specs.Pauses.{IsOver};
+
 use crate::log::{has_failed, is_delivered, is_moved, of_beginning, of_delivery, of_moving};
 use crate::pause::Pause;
 use keepers::cause::of_sqlite;
@@ -81,17 +86,23 @@ impl<E: Write + Drop> News<E> {
     }
 
     /// A command of ManageSieve was answered.
-    pub fn note_command(&mut self) {
+    pub fn note_command(&mut self)
+        ensures { self.new.tally.counts ≡ events.with_command self.old.tally.counts }
+    {
         count(&mut self.tally.counts.commands);
     }
 
     /// The answer to a login that failed was told.
-    pub fn note_failed_login(&mut self) {
+    pub fn note_failed_login(&mut self)
+        ensures { self.new.tally.counts ≡ events.with_failed_login self.old.tally.counts }
+    {
         count(&mut self.tally.counts.logins_failed);
     }
 
     /// Whether the store failed since it was taken.
-    pub fn has_failed(&self) -> bool {
+    pub fn has_failed(&self) -> bool
+        ensures { result ≡ self.now.failed }
+    {
         self.failed
     }
 
@@ -130,7 +141,10 @@ impl<E: Write + Drop> News<E> {
 
     /// Notes what an answer says of the store. The first failure since it was taken is told; after one that isn't lack of room the
     /// store is given back.
-    pub fn note_answer(&mut self, answer: &Answer, code: Option<ErrorCode>) {
+    pub fn note_answer(&mut self, answer: &Answer, code: Option<ErrorCode>)
+        ensures failed { self.new.failed ≡ events.failed_by (events.answers_fault answer.now) code self.old.failed }
+        ensures tally { self.new.tally ≡ self.old.tally }
+    {
         match answer {
             Answer::Refused(Refusal::Store) => self.note_failure(code),
             Answer::Refused(_) => {}
@@ -139,7 +153,10 @@ impl<E: Write + Drop> News<E> {
     }
 
     /// The same of a delivery, of which is told.
-    pub fn note_delivery(&mut self, parcel: &Parcel, answer: &Answer, code: Option<ErrorCode>) {
+    pub fn note_delivery(&mut self, parcel: &Parcel, answer: &Answer, code: Option<ErrorCode>)
+        ensures failed { self.new.failed ≡ events.failed_by (events.answers_fault answer.now) code self.old.failed }
+        ensures counted { self.new.tally.counts ≡ events.counted (is_filed answer.now) self.old.tally.counts }
+    {
         self.note_answer(answer, code);
         self.count_delivery(answer);
         if self.quiet && is_delivered(answer) {
@@ -148,7 +165,10 @@ impl<E: Write + Drop> News<E> {
         self.tell_line(of_delivery(self.alloc, parcel, answer));
     }
 
-    fn count_delivery(&mut self, answer: &Answer) {
+    fn count_delivery(&mut self, answer: &Answer)
+        ensures counted { self.new.tally.counts ≡ events.counted (is_filed answer.now) self.old.tally.counts }
+        ensures failed { self.new.failed ≡ self.old.failed }
+    {
         if is_delivered(answer) {
             count(&mut self.tally.counts.delivered);
         } else {
@@ -157,7 +177,9 @@ impl<E: Write + Drop> News<E> {
     }
 
     /// The same of a look for an account.
-    pub fn note_lookup(&mut self, lookup: Lookup, code: Option<ErrorCode>) {
+    pub fn note_lookup(&mut self, lookup: Lookup, code: Option<ErrorCode>)
+        ensures failed { self.new.failed ≡ events.failed_by (events.is_fault lookup) code self.old.failed }
+    {
         match lookup {
             Lookup::Fault => self.note_failure(code),
             Lookup::NoRoom => {}
@@ -171,7 +193,10 @@ impl<E: Write + Drop> News<E> {
         moving: &Moving,
         code: Option<ErrorCode>,
         cause: Option<ErrorKind>,
-    ) {
+    )
+        ensures failed { self.new.failed ≡ events.failed_by (store_failed moving.now) code self.old.failed }
+        ensures counted { self.new.tally.counts ≡ events.moved_by (has_moved moving.now) self.old.tally.counts }
+    {
         if has_failed(moving) {
             self.note_failure(code);
         }
@@ -182,30 +207,45 @@ impl<E: Write + Drop> News<E> {
     }
 
     /// Tells a line, where there was memory for it.
-    fn tell_line(&mut self, line: Result<Octets, AllocError>) {
+    fn tell_line(&mut self, line: Result<Octets, AllocError>)
+        ensures failed { self.new.failed ≡ self.old.failed }
+        ensures tally { self.new.tally ≡ self.old.tally }
+    {
         if let Ok(line) = line {
             let _ = self.errors.write_all(line.as_slice());
         }
     }
 
-    fn note_success(&mut self) {
+    fn note_success(&mut self)
+        ensures over { IsOver self.new.pause }
+        ensures failed { self.new.failed ≡ self.old.failed }
+        ensures tally { self.new.tally ≡ self.old.tally }
+    {
         self.pause = Pause::none();
     }
 
-    fn note_failure(&mut self, code: Option<ErrorCode>) {
+    fn note_failure(&mut self, code: Option<ErrorCode>)
+        ensures failed { self.new.failed ≡ events.failed_by true code self.old.failed }
+        ensures tally { self.new.tally ≡ self.old.tally }
+    {
         self.trouble.note(Trouble {
             fault: Fault::Refused(Refusal::Store),
             cause: code.and_then(of_sqlite),
         });
         self.trouble.tell(&mut self.errors);
-        if code != Some(ErrorCode::DiskFull) {
-            self.failed = true;
+        match code {
+            Some(ErrorCode::DiskFull) => {}
+            _ => {
+                self.failed = true;
+            }
         }
     }
 }
 
 /// It happened once more.
-fn count(times: &mut u64) {
+fn count(times: &mut u64)
+    ensures { times.new ≡ events.more times.old }
+{
     *times = times.saturating_add(1);
 }
 

@@ -1,4 +1,6 @@
 //! How long the store is left alone after it failed.
+ghost use Rattle.std.specs.Prelude.{◌≡◌, nat_lt};
+ghost use Rattle.daemonhosts.specs.Pauses.{IsOver, Begins};
 
 /// So many milliseconds after the first failure.
 const FIRST: u64 = 1000;
@@ -17,7 +19,9 @@ pub struct Pause {
 
 impl Pause {
     /// It may be asked for.
-    pub fn none() -> Pause {
+    pub fn none() -> Pause
+        ensures { IsOver result }
+    {
         Pause {
             until: 0,
             next: FIRST,
@@ -25,12 +29,16 @@ impl Pause {
     }
 
     /// Whether it isn't to be asked for yet.
-    pub fn lasts(&self, now: u64) -> bool {
+    pub fn lasts(&self, now: u64) -> bool
+        ensures { result ≡ nat_lt now self.now.until }
+    {
         now < self.until
     }
 
     /// It failed: it is left alone for a second, and for twice as long behind each further failure, up to a minute.
-    pub fn begin(&mut self, now: u64) {
+    pub fn begin(&mut self, now: u64)
+        ensures { Begins now self.old self.new }
+    {
         self.until = now.saturating_add(self.next);
         self.next = self.next.saturating_mul(2).min(LONGEST);
     }

@@ -1,0 +1,52 @@
+-- What is noted of what happened.
+use Rattle.std.specs.Prelude.{◌+◌, ◌||◌, ℕ, min, not, Bool, true, false, Option, Some}
+use Rattle.lmtp.specs.declared.receiver.Lookup.{Lookup}
+use Rattle.lmtp.specs.declared.receiver.Lookup.TheVariants.{Fault}
+use Rattle.mailengine.specs.declared.answer.Answer.{Answer}
+use Rattle.mailengine.specs.declared.answer.Answer.TheVariants.{Refused}
+use Rattle.sqlite.specs.declared.error.ErrorCode.{ErrorCode}
+use Rattle.sqlite.specs.declared.error.ErrorCode.TheVariants.{DiskFull}
+use Rattle.daemonhosts.specs.Log.{is_store_fault}
+use Rattle.loglines.specs.declared.tally.Counts.{Counts}
+
+-- once more, up to the greatest number of 64 bits
+abbrev pub more : ℕ → ℕ
+more times = min (times + 1) 18446744073709551615
+
+-- a message that was filed, or refused
+abbrev pub counted : Bool → Counts → Counts
+counted true c = record c { delivered = more c.delivered }
+counted false c = record c { refused = more c.refused }
+
+-- a message that moved on, if it did
+abbrev pub moved_by : Bool → Counts → Counts
+moved_by true c = record c { moved = more c.moved }
+moved_by false c = c
+
+-- a command that was answered, and a login that failed
+abbrev pub with_command : Counts → Counts
+with_command c = record c { commands = more c.commands }
+
+abbrev pub with_failed_login : Counts → Counts
+with_failed_login c = record c { logins_failed = more c.logins_failed }
+
+-- ---- whether the store failed, and is to be given back
+
+-- a full disk is no cause for that
+abbrev pub is_full : Option ErrorCode → Bool
+is_full (Some DiskFull) = true
+is_full _ = false
+
+-- behind a fault of the store, if there was one
+abbrev pub failed_by : Bool → Option ErrorCode → Bool → Bool
+failed_by true code failed = failed || not (is_full code)
+failed_by false code failed = failed
+
+-- what an answer, a look for an account and a message that was to move on say of it
+abbrev pub answers_fault : Answer → Bool
+answers_fault (Refused refusal) = is_store_fault refusal
+answers_fault _ = false
+
+abbrev pub is_fault : Lookup → Bool
+is_fault Fault = true
+is_fault _ = false
