@@ -1,0 +1,5 @@
+pub mod GapLaws
+pub mod PieceLaws
+pub mod WordLemmas
+pub mod ReadingLaws
+pub mod ClockLemmas
