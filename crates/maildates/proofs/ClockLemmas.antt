@@ -47,8 +47,15 @@ pub late_enough : (date : DateTime) (is : IsDateTime date) → neg_ℤ (pos 4_37
 late_enough date is =
     let y = neg_ℤ (pos 9998) in
     let first : IsCivilDate y 1 1 = search rules in
-    omega (arith, signed_arith, first_of_next, days_from_civil-day_count y 1 1, days_from_civil-day_count (pos date.year) date.month date.day, day_count-epoch,
-    day_count-lt_year y 1 1 (pos date.year) date.month date.day first (omega (arith, is.civil.2)) (omega (arith, signed_arith)))
+    omega (
+      arith,
+      signed_arith,
+      first_of_next,
+      days_from_civil-day_count y 1 1,
+      days_from_civil-day_count (pos date.year) date.month date.day,
+      day_count-epoch,
+      day_count-lt_year y 1 1 (pos date.year) date.month date.day first (omega (arith, is.civil.2)) (omega (arith, signed_arith)),
+    )
 
 -- no date is after the last day
 pub clock_past : (minutes second : ℕ) (zone : ℤ) (date : DateTime) → 7_304_483 < minutes / 1440 → IsClock minutes second zone date → ⊥

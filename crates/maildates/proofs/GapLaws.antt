@@ -135,14 +135,14 @@ leads_on : (depth octet : ℕ) (more rest : List ℕ) → (octet == 92) ≡ fals
 leads_on depth octet more rest plain found deeper higher same =
     elim (either (octet == 40)) [
       | inl opens ↦
-        let e : octet ≡ 40 = eqb-true octet 40 opens in
-        let there : after_gap (suc depth) false (40 ∷ more) ≡ Some rest = subst (λ (o : ℕ). after_gap (suc depth) false (o ∷ more) ≡ Some rest) e found in
-        subst (λ (o : ℕ). Leads (suc depth) (o ∷ more) rest) (sym e) (leads_open depth more rest (deeper (sym (at_opening (suc depth) more) ∙ there)))
+          let e : octet ≡ 40 = eqb-true octet 40 opens in
+          let there : after_gap (suc depth) false (40 ∷ more) ≡ Some rest = subst (λ (o : ℕ). after_gap (suc depth) false (o ∷ more) ≡ Some rest) e found in
+          subst (λ (o : ℕ). Leads (suc depth) (o ∷ more) rest) (sym e) (leads_open depth more rest (deeper (sym (at_opening (suc depth) more) ∙ there)))
       | inr within ↦ elim (either (octet == 41)) [
         | inl closes ↦
-          let e : octet ≡ 41 = eqb-true octet 41 closes in
-          let there : after_gap (suc depth) false (41 ∷ more) ≡ Some rest = subst (λ (o : ℕ). after_gap (suc depth) false (o ∷ more) ≡ Some rest) e found in
-          subst (λ (o : ℕ). Leads (suc depth) (o ∷ more) rest) (sym e) (leads_close depth more rest (higher (sym (at_closing depth more) ∙ there)))
+            let e : octet ≡ 41 = eqb-true octet 41 closes in
+            let there : after_gap (suc depth) false (41 ∷ more) ≡ Some rest = subst (λ (o : ℕ). after_gap (suc depth) false (o ∷ more) ≡ Some rest) e found in
+            subst (λ (o : ℕ). Leads (suc depth) (o ∷ more) rest) (sym e) (leads_close depth more rest (higher (sym (at_closing depth more) ∙ there)))
         | inr other ↦ leads_plain depth octet more rest plain within other (same (sym (at_plain depth octet more plain within other) ∙ found))
       ]
     ]
@@ -156,13 +156,13 @@ leads_out octet more rest found same deeper =
       | inl opens ↦ elim (opens_cases octet opens) [
         | inl is ↦ led_space octet more rest is (same (sym (at_space octet more is) ∙ found))
         | inr is ↦
-          let e : octet ≡ 40 = eqb-true octet 40 is in
-          let there : after_gap 0 false (40 ∷ more) ≡ Some rest = subst (λ (o : ℕ). after_gap 0 false (o ∷ more) ≡ Some rest) e found in
-          subst (λ (o : ℕ). IsLed (o ∷ more) rest) (sym e) (led_remark more rest (deeper (sym (at_opening 0 more) ∙ there)))
+            let e : octet ≡ 40 = eqb-true octet 40 is in
+            let there : after_gap 0 false (40 ∷ more) ≡ Some rest = subst (λ (o : ℕ). after_gap 0 false (o ∷ more) ≡ Some rest) e found in
+            subst (λ (o : ℕ). IsLed (o ∷ more) rest) (sym e) (led_remark more rest (deeper (sym (at_opening 0 more) ∙ there)))
       ]
       | inr closed ↦
-        let there : octet ∷ more ≡ rest = some_is (octet ∷ more) rest (sym (at_start (octet ∷ more) closed) ∙ found) in
-        subst (λ (r : List ℕ). IsLed (octet ∷ more) r) there (led_end (octet ∷ more) closed)
+          let there : octet ∷ more ≡ rest = some_is (octet ∷ more) rest (sym (at_start (octet ∷ more) closed) ∙ found) in
+          subst (λ (r : List ℕ). IsLed (octet ∷ more) r) there (led_end (octet ∷ more) closed)
     ]
 
 lost : (depth : ℕ) (rest : List ℕ) → after_gap (suc depth) true [] ≡ Some rest → ⊥
@@ -191,9 +191,9 @@ leads (octet ∷ []) (suc depth) rest found =
 leads (octet ∷ (next ∷ more)) (suc depth) rest found =
     elim (either (octet == 92)) [
       | inl slash ↦
-        let e : octet ≡ 92 = eqb-true octet 92 slash in
-        let there = sym (after_pair depth next more) ∙ (sym (at_slash depth octet (next ∷ more) slash) ∙ found) in
-        subst (λ (o : ℕ). Leads (suc depth) (o ∷ (next ∷ more)) rest) (sym e) (leads_pair depth next more rest (leads more (suc depth) rest there))
+          let e : octet ≡ 92 = eqb-true octet 92 slash in
+          let there = sym (after_pair depth next more) ∙ (sym (at_slash depth octet (next ∷ more) slash) ∙ found) in
+          subst (λ (o : ℕ). Leads (suc depth) (o ∷ (next ∷ more)) rest) (sym e) (leads_pair depth next more rest (leads more (suc depth) rest there))
       | inr plain ↦ leads_on depth octet (next ∷ more) rest plain found (leads (next ∷ more) (suc (suc depth)) rest) (leads (next ∷ more) depth rest) (leads (next ∷ more) (suc depth) rest)
     ]
 

@@ -3,3 +3,4 @@ pub mod PieceLaws
 pub mod WordLemmas
 pub mod ReadingLaws
 pub mod ClockLemmas
+pub mod DateExamples

@@ -15,7 +15,7 @@ use Rattle.maildates.specs.Zones.{zone_of, numeric_of}
 use Rattle.jiff_core.specs.Calendar.{IsCivilDate}
 use Rattle.maildates.specs.DateTimes.{IsDateTime}
 use Rattle.maildates.specs.DateTexts.{Reads, IsDayName, IsDate, IsSecond, IsTime, IsDateText}
-use Rattle.maildates.specs.Reading.{piece, reads, name_then, after_name, day_from, colon_then, second_from, time_from, joined, parts_from}
+use Rattle.maildates.specs.Reading.{piece, after_gap, cut, reads, name_then, after_name, day_from, colon_then, second_from, time_from, joined, parts_from}
 use Rattle.maildates.proofs.PieceLaws.{piece_is, piece_again}
 
 -- what a piece means is read
@@ -67,12 +67,12 @@ zone_no_colon : (word : List ℕ) (zone : ℤ) → zone_of word ≡ Some zone �
 unfolding mark_of zone_of numeric_of
 zone_no_colon [] zone is = refl
 zone_no_colon (octet ∷ []) zone is = elim (fork (octet == 58) (Some 58) None (mark_of 58 (octet ∷ [])) refl) [
-      | inl p ↦
-        let e : octet ≡ 58 = eqb-true octet 58 p.0 in
-        let there : zone_of (58 ∷ []) ≡ Some zone = subst (λ (o : ℕ). zone_of (o ∷ []) ≡ Some zone) e is in
-        absurd (cc)
-      | inr p ↦ sym p.1
-    ]
+  | inl p ↦
+      let e : octet ≡ 58 = eqb-true octet 58 p.0 in
+      let there : zone_of (58 ∷ []) ≡ Some zone = subst (λ (o : ℕ). zone_of (o ∷ []) ≡ Some zone) e is in
+      absurd (cc)
+  | inr p ↦ sym p.1
+]
 zone_no_colon (octet ∷ (next ∷ more)) zone is = refl
 
 none_read : {A B : Type 0} (means : List ℕ → Option A) (other : List ℕ → Option B) (text : List ℕ) (value : A) (rest : List ℕ) → Reads means text value rest
@@ -286,3 +286,20 @@ none_some A x same = absurd (cc)
 
 pub no_text : (text : List ℕ) (other : DateTime) → parts_from text ≡ None → IsDateText text other → ⊥
 no_text text other none is = none_some (DateTime × List ℕ) (other, is.after_zone) (sym none ∙ parts_again text other is)
+
+-- a text reads as one date
+pub one_date : (text : List ℕ) (one two : DateTime) → IsDateText text one → IsDateText text two → one ≡ two
+one_date text one two is other =
+    (some_pair (one, is.after_zone) (two, other.after_zone) (sym (parts_again text one is) ∙ parts_again text two other)).0
+
+end_of_text : piece [] ≡ Some ([], [])
+unfolding piece after_gap cut
+end_of_text = refl
+
+-- a text that is read to its end, as a day of the calendar, is a date
+pub read_is : (text : List ℕ) (date : DateTime) → parts_from text ≡ Some (date, []) → IsCivilDate (pos date.year) date.month date.day → IsDateText text date
+read_is text date found civil = text_of text date [] (parts_is text date [] found) end_of_text civil
+
+-- a text that is read as nothing is no date
+pub unread_is : (text : List ℕ) (date : DateTime) → parts_from text ≡ None → IsDateText text date → ⊥
+unread_is text date none is = no_text text date none is

@@ -83,11 +83,11 @@ unfolding offset_of
 offset_within n digits is =
     elim (fork (length digits == 4) _ None (Some n) is) [
       | inl p ↦
-        let h = then_some _ (two_digits 23 (take 2 digits)) n p.1 in
-        let m = map_some _ (two_digits 59 (drop 2 digits)) n h.1.1 in
-        let hours = two_within 23 h.0 (take 2 digits) h.1.0 in
-        let minutes = two_within 59 m.0 (drop 2 digits) m.1.0 in
-        omega (arith, m.1.1)
+          let h = then_some _ (two_digits 23 (take 2 digits)) n p.1 in
+          let m = map_some _ (two_digits 59 (drop 2 digits)) n h.1.1 in
+          let hours = two_within 23 h.0 (take 2 digits) h.1.0 in
+          let minutes = two_within 59 m.0 (drop 2 digits) m.1.0 in
+          omega (arith, m.1.1)
       | inr p ↦ absurd (cc)
     ]
 
@@ -103,12 +103,12 @@ numeric_within zone [] is = absurd (cc)
 numeric_within zone (sign ∷ digits) is =
     elim (fork (sign == 43) (option_map pos (offset_of digits)) _ (Some zone) is) [
       | inl p ↦
-        let m = map_some pos (offset_of digits) zone p.1 in
-        subst (λ (z : ℤ). IsZone z) m.1.1 (east_within m.0 (offset_within m.0 digits m.1.0))
+          let m = map_some pos (offset_of digits) zone p.1 in
+          subst (λ (z : ℤ). IsZone z) m.1.1 (east_within m.0 (offset_within m.0 digits m.1.0))
       | inr p ↦ elim (fork (sign == 45) (option_map (λ minutes. neg_ℤ (pos minutes)) (offset_of digits)) None (Some zone) p.1) [
         | inl q ↦
-          let m = map_some (λ minutes. neg_ℤ (pos minutes)) (offset_of digits) zone q.1 in
-          subst (λ (z : ℤ). IsZone z) m.1.1 (west_within m.0 (offset_within m.0 digits m.1.0))
+            let m = map_some (λ minutes. neg_ℤ (pos minutes)) (offset_of digits) zone q.1 in
+            subst (λ (z : ℤ). IsZone z) m.1.1 (west_within m.0 (offset_within m.0 digits m.1.0))
         | inr q ↦ absurd (cc)
       ]
     ]

@@ -5,3 +5,4 @@ pub mod Zones
 pub mod DateTimes
 pub mod DateTexts
 pub mod Reading
+pub mod Parts

@@ -2,12 +2,16 @@
 ghost use Rattle.std.specs.Prelude.{◌≡◌, ◌≤◌, MatchOption, pos, ◌+ℤ◌, ◌-ℤ◌, ◌<ℤ◌};
 ghost use Rattle.jiff_core.specs.Date.{IsYmd};
 ghost use Rattle.maildates.specs.declared.date_time.DateTime.{DateTime};
+ghost use Rattle.maildates.specs.Parts.{day_number};
 ghost use Rattle.maildates.specs.DateTimes.{IsDateTime, IsZone, IsClock, IsMoment, IsSameMoment, local_minutes};
 
 use jiff_core::civil::Date;
 
 /// The minutes of a day.
 const DAY: u64 = 1440;
+
+/// The Modified Julian Day of 1 January 1970.
+const EPOCH_JULIAN: i64 = 40_587;
 
 /// The last day, counted from -9999-01-01.
 const LAST_DAY: u64 = 7_304_483;
@@ -98,7 +102,7 @@ impl DateTime {
     }
 
     /// The day in jiff's calendar.
-    fn civil(&self) -> Date
+    pub(crate) fn civil(&self) -> Date
         requires { IsDateTime self.now }
         ensures { IsYmd (pos self.now.year) (pos self.now.month) (pos self.now.day) result }
     {
@@ -114,5 +118,13 @@ impl DateTime {
     {
         let days = self.civil().days_since_min();
         u64::from(days) * DAY + u64::from(self.hour) * 60 + u64::from(self.minute)
+    }
+
+    /// The Modified Julian Day by the clock of the zone: how many days after 17 November 1858.
+    pub(crate) fn julian(&self) -> i64
+        requires { IsDateTime self.now }
+        ensures { result ≡ day_number self.now +ℤ pos 40587 }
+    {
+        i64::from(self.civil().to_unix_epoch_day()) + EPOCH_JULIAN
     }
 }

@@ -3,11 +3,16 @@
 
 pub mod date_time;
 mod digits;
+pub mod laws;
 mod names;
+pub mod part;
 mod pieces;
 pub mod reading;
+pub mod writing;
 pub mod zone;
 
 pub use date_time::DateTime;
+pub use part::DatePart;
 pub use reading::read_date;
+pub use writing::write_part;
 pub use zone::read_zone;

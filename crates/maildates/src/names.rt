@@ -5,7 +5,7 @@ ghost use Rattle.maildates.specs.Zones as zones;
 
 /// The word is this name, without ASCII case.
 #[tactic(auto, unfolding(crate::specs::Words::is_named))]
-fn is_named(word: &[u8], name: &[u8]) -> bool
+pub(crate) fn is_named(word: &[u8], name: &[u8]) -> bool
     ensures { result ≡ words.is_named word.now name.now }
 {
     word.eq_ignore_ascii_case(name)

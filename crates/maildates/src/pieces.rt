@@ -44,7 +44,11 @@ fn after_gap(text: &[u8]) -> Option<&[u8]>
         depth = deeper;
         escaped = slash;
     }
-    if depth == 0 { Some(&text[text.len()..]) } else { None }
+    if depth == 0 {
+        Some(&text[text.len()..])
+    } else {
+        None
+    }
 }
 
 /// The octet goes on the piece that begins with the first one.
@@ -64,7 +68,10 @@ fn piece_len(first: u8, others: &[u8]) -> usize
     ensures is { result ≡ prefix_len (spec.goes_on first) others.now }
     ensures within { result ≤ length others.now }
 {
-    others.iter().take_while(|octet| goes_on(first, **octet)).count()
+    others
+        .iter()
+        .take_while(|octet| goes_on(first, **octet))
+        .count()
 }
 
 /// The piece at the front of a text that begins with no gap, and what follows it.

@@ -139,7 +139,14 @@ fn next_time(text: &[u8]) -> Option<(Time, &[u8])>
     let rest = next_mark(rest, b':')?;
     let (minute, rest) = next_two(rest, 59)?;
     let (second, rest) = next_second(rest)?;
-    Some((Time { hour, minute, second }, rest))
+    Some((
+        Time {
+            hour,
+            minute,
+            second,
+        },
+        rest,
+    ))
 }
 
 /// The same with its zone.
@@ -184,7 +191,8 @@ fn is_civil(date: &DateTime) -> bool
     requires { date.now.year ≤ 9999 }
     ensures { IsTrue result ↔ IsCivilDate (pos date.now.year) date.now.month date.now.day }
 {
-    date.month <= 12 && date.day <= 31
+    date.month <= 12
+        && date.day <= 31
         && Date::new(date.year as i16, date.month as i8, date.day as i8).is_ok()
 }
 
@@ -197,5 +205,9 @@ pub fn read_date(text: &[u8]) -> Option<DateTime>
     ensures valid { IfSome result IsDateTime }
 {
     let (date, rest) = next_parts(text)?;
-    if is_over(rest) && is_civil(&date) { Some(date) } else { None }
+    if is_over(rest) && is_civil(&date) {
+        Some(date)
+    } else {
+        None
+    }
 }
