@@ -4,3 +4,4 @@ pub mod WordLemmas
 pub mod ReadingLaws
 pub mod ClockLemmas
 pub mod DateExamples
+pub mod ZoneLaws

@@ -16,7 +16,7 @@ one-add : (n : ℕ) → 1 + n ≡ suc n
 one-add n = omega arith
 
 -- a run is as long as it goes on
-both_true : (a b : Bool) → (a && b) ≡ true → (a ≡ true) × (b ≡ true)
+pub both_true : (a b : Bool) → (a && b) ≡ true → (a ≡ true) × (b ≡ true)
 both_true true b is = (refl, is)
 both_true false b is = absurd (cc)
 

@@ -1,5 +1,5 @@
 -- Zones, as minutes east of UTC.
-use Rattle.std.specs.Prelude.{ℕ, ◌==◌, ◌+◌, ◌*◌, ◌||◌, cond, Option, Some, None, option_map, List, [], ◌∷◌, take, drop, length, codes, ℤ, pos, neg_ℤ}
+use Rattle.std.specs.Prelude.{◌≡◌, ℕ, ◌==◌, ◌+◌, ◌*◌, ◌/◌, ◌%◌, ◌<◌, ◌⊎◌, cond, Option, Some, None, option_map, List, [], ◌∷◌, ◌++◌, take, drop, length, codes, ℤ, pos, neg_ℤ}
 use Rattle.std.specs.Option.{option_and_then}
 use Rattle.octets.specs.Ascii.{is_letter}
 use Rattle.maildates.specs.Words.{two_digits, is_named}
@@ -40,3 +40,16 @@ named_of word = neg_ℤ (pos (hours_west word * 60))
 unfoldable pub zone_of : List ℕ → Option ℤ
 zone_of [] = None
 zone_of (first ∷ more) = cond (is_letter first) (Some (named_of (first ∷ more))) (numeric_of (first ∷ more))
+
+-- a number below 100 in two digits
+abbrev pub digits : ℕ → List ℕ
+digits n = (48 + n / 10) ∷ ((48 + n % 10) ∷ [])
+
+-- a sign, two digits for the hours and two for the minutes
+pub record IsOffset (text : List ℕ) (zone : ℤ) : Type 0 where
+  pub hours : ℕ
+  pub minutes : ℕ
+  pub hour : hours < 24
+  pub minute : minutes < 60
+  pub spelled : ((text ≡ 43 ∷ (digits hours ++ digits minutes)) × (zone ≡ pos (hours * 60 + minutes)))
+      ⊎ ((text ≡ 45 ∷ (digits hours ++ digits minutes)) × (zone ≡ neg_ℤ (pos (hours * 60 + minutes))))

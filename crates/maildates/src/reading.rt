@@ -7,6 +7,7 @@ ghost use Rattle.maildates.specs.DateTimes.{IsDateTime};
 ghost use Rattle.maildates.specs.Words as words;
 ghost use Rattle.maildates.specs.Zones as zones;
 ghost use Rattle.maildates.specs.Reading as reading;
+ghost use Rattle.maildates.specs.Reading.{reads};
 
 use crate::date_time::DateTime;
 use crate::digits::{day_of, two_digits, year_of};
@@ -34,7 +35,7 @@ pub(crate) struct Time {
 /// A day of the week, and what follows it.
 #[tactic(auto, unfolding(crate::specs::Reading::reads))]
 fn next_weekday(text: &[u8]) -> Option<(u8, &[u8])>
-    ensures { MatchOption result (reading.reads words.weekday_of text.now ≡ None) (λ r. reading.reads words.weekday_of text.now ≡ Some (r.0, r.1.now)) }
+    ensures { MatchOption result (reads words.weekday_of text.now ≡ None) (λ r. reads words.weekday_of text.now ≡ Some (r.0, r.1.now)) }
 {
     let (word, rest) = next_piece(text)?;
     Some((weekday_of(word)?, rest))
@@ -43,7 +44,7 @@ fn next_weekday(text: &[u8]) -> Option<(u8, &[u8])>
 /// A mark, and what follows it.
 #[tactic(auto, unfolding(crate::specs::Reading::reads, crate::specs::Words::mark_of))]
 fn next_mark(text: &[u8], mark: u8) -> Option<&[u8]>
-    ensures { MatchOption result (reading.reads (words.mark_of mark) text.now ≡ None) (λ rest. reading.reads (words.mark_of mark) text.now ≡ Some (mark, rest.now)) }
+    ensures { MatchOption result (reads (words.mark_of mark) text.now ≡ None) (λ rest. reads (words.mark_of mark) text.now ≡ Some (mark, rest.now)) }
 {
     let (word, rest) = next_piece(text)?;
     match word {
@@ -55,7 +56,7 @@ fn next_mark(text: &[u8], mark: u8) -> Option<&[u8]>
 /// A day of a month, and what follows it.
 #[tactic(auto, unfolding(crate::specs::Reading::reads))]
 fn next_day(text: &[u8]) -> Option<(u8, &[u8])>
-    ensures { MatchOption result (reading.reads words.day_of text.now ≡ None) (λ r. reading.reads words.day_of text.now ≡ Some (r.0, r.1.now)) }
+    ensures { MatchOption result (reads words.day_of text.now ≡ None) (λ r. reads words.day_of text.now ≡ Some (r.0, r.1.now)) }
 {
     let (word, rest) = next_piece(text)?;
     Some((day_of(word)?, rest))
@@ -64,7 +65,7 @@ fn next_day(text: &[u8]) -> Option<(u8, &[u8])>
 /// A month, and what follows it.
 #[tactic(auto, unfolding(crate::specs::Reading::reads))]
 fn next_month(text: &[u8]) -> Option<(u8, &[u8])>
-    ensures { MatchOption result (reading.reads words.month_of text.now ≡ None) (λ r. reading.reads words.month_of text.now ≡ Some (r.0, r.1.now)) }
+    ensures { MatchOption result (reads words.month_of text.now ≡ None) (λ r. reads words.month_of text.now ≡ Some (r.0, r.1.now)) }
 {
     let (word, rest) = next_piece(text)?;
     Some((month_of(word)?, rest))
@@ -73,7 +74,7 @@ fn next_month(text: &[u8]) -> Option<(u8, &[u8])>
 /// A year, and what follows it.
 #[tactic(auto, unfolding(crate::specs::Reading::reads))]
 fn next_year(text: &[u8]) -> Option<(u16, &[u8])>
-    ensures { MatchOption result (reading.reads words.year_of text.now ≡ None) (λ r. reading.reads words.year_of text.now ≡ Some (r.0, r.1.now)) }
+    ensures { MatchOption result (reads words.year_of text.now ≡ None) (λ r. reads words.year_of text.now ≡ Some (r.0, r.1.now)) }
 {
     let (word, rest) = next_piece(text)?;
     Some((year_of(word)?, rest))
@@ -82,7 +83,7 @@ fn next_year(text: &[u8]) -> Option<(u16, &[u8])>
 /// Two digits up to a limit, and what follows them.
 #[tactic(auto, unfolding(crate::specs::Reading::reads))]
 fn next_two(text: &[u8], limit: u8) -> Option<(u8, &[u8])>
-    ensures { MatchOption result (reading.reads (words.two_digits limit) text.now ≡ None) (λ r. reading.reads (words.two_digits limit) text.now ≡ Some (r.0, r.1.now)) }
+    ensures { MatchOption result (reads (words.two_digits limit) text.now ≡ None) (λ r. reads (words.two_digits limit) text.now ≡ Some (r.0, r.1.now)) }
 {
     let (word, rest) = next_piece(text)?;
     Some((two_digits(word, limit)?, rest))
@@ -91,7 +92,7 @@ fn next_two(text: &[u8], limit: u8) -> Option<(u8, &[u8])>
 /// A zone, and what follows it.
 #[tactic(auto, unfolding(crate::specs::Reading::reads))]
 fn next_zone(text: &[u8]) -> Option<(i16, &[u8])>
-    ensures { MatchOption result (reading.reads zones.zone_of text.now ≡ None) (λ r. reading.reads zones.zone_of text.now ≡ Some (r.0, r.1.now)) }
+    ensures { MatchOption result (reads zones.zone_of text.now ≡ None) (λ r. reads zones.zone_of text.now ≡ Some (r.0, r.1.now)) }
 {
     let (word, rest) = next_piece(text)?;
     Some((zone_of(word)?, rest))
