@@ -1,5 +1,5 @@
 -- Texts of dates, words in them, and near misses.
-use Rattle.std.proofs.Common.{◌≡◌, ℕ, Option, Some, None, List, [], refl, ℤ, pos, neg_ℤ, arith, rules}
+use Rattle.std.proofs.Common.{◌≡◌, ℕ, Some, None, [], refl, ℤ, pos, neg_ℤ, arith, rules}
 use Rattle.std.specs.Prelude.{codes}
 use Rattle.jiff_core.specs.Calendar.{IsCivilDate, days_from_civil, day_count, days_of_years, days_of_months, weekday_number}
 use Rattle.maildates.specs.declared.date_time.DateTime.{DateTime}

@@ -1,9 +1,9 @@
 -- A gap is passed over, and what is passed over is a gap.
-use Rattle.std.proofs.Common.{◌≡◌, ℕ, zero, suc, ◌+◌, ◌-◌, ◌<◌, ◌==◌, ◌⊎◌, ◌&&◌, ◌||◌, not, Bool, true, false, cond, Option, Some, None, List, [], ◌∷◌, ◌++◌, drop, get_or, length, take, ◌≤◌, length-drop, refl, ap, sym, ◌∙◌, subst, inl, inr, eq-eqb, add-one, sub-one, arith}
+use Rattle.std.proofs.Common.{◌≡◌, ℕ, zero, suc, ◌+◌, ◌-◌, ◌<◌, ◌==◌, ◌⊎◌, ◌&&◌, ◌||◌, not, Bool, true, false, cond, Option, Some, None, List, [], ◌∷◌, drop, get_or, length, take, ◌≤◌, refl, ap, sym, ◌∙◌, subst, inl, inr, add-one, arith}
 use Rattle.std.proofs.lemmas.List.{drop_more, drop_all, take_rest}
 use Rattle.std.proofs.lemmas.Bool.{eqb-true, ne_eqb}
-use Rattle.octets.proofs.Lists.{fork, some_is}
-use Rattle.addrparts.specs.Pieces.{Inner, Plain, Pair, Notes, End, Note, Nested, noted, AreNotes}
+use Rattle.octets.proofs.Lists.{some_is}
+use Rattle.addrparts.specs.Pieces.{Plain, Pair, Notes, End, Note, Nested, noted, AreNotes}
 use Rattle.maildates.specs.Gaps.{Gap, Nothing, Space, Remark, spaced, IsGap, is_space, opens_gap}
 use Rattle.maildates.specs.Reading.{after_gap, next_state}
 

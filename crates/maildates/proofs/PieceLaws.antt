@@ -1,13 +1,13 @@
 -- The first piece of a text is the one that stands there.
-use Rattle.std.proofs.Common.{◌≡◌, ℕ, suc, ◌+◌, ◌<◌, ◌==◌, ◌&&◌, Bool, true, false, cond, Option, Some, None, List, [], ◌∷◌, ◌++◌, drop, take, length, refl, ap, sym, ◌∙◌, subst, inl, inr, arith}
+use Rattle.std.proofs.Common.{◌≡◌, ℕ, suc, ◌+◌, ◌==◌, ◌&&◌, Bool, true, false, cond, Option, Some, None, List, [], ◌∷◌, ◌++◌, drop, take, length, refl, ap, sym, ◌∙◌, subst, arith}
 use Rattle.std.specs.List.{prefix_len, list_all}
 use Rattle.std.specs.Option.{option_map}
 use Rattle.std.proofs.lemmas.List.{take-append-drop}
 use Rattle.std.proofs.Math.Seq.{take-append_seam, drop-append_seam}
 use Rattle.std.proofs.lemmas.Bool.{ne_eqb, false≢true}
 use Rattle.std.specs.Bool.{IsTrue}
-use Rattle.octets.proofs.Lists.{some_is, some_pair}
-use Rattle.maildates.specs.Gaps.{opens_gap, spaced, IsGap}
+use Rattle.octets.proofs.Lists.{some_pair}
+use Rattle.maildates.specs.Gaps.{spaced}
 use Rattle.maildates.specs.Pieces.{goes_on, IsEnd, IsShape, IsPiece}
 use Rattle.maildates.specs.Reading.{after_gap, cut, piece}
 use Rattle.maildates.proofs.GapLaws.{IsStart, IsLed, gap_again, gap_is}

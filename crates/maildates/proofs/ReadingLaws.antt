@@ -1,6 +1,6 @@
 -- The texts of dates are those that are read so.
-use Rattle.std.proofs.Common.{◌≡◌, ℕ, ◌+◌, ◌*◌, ◌<◌, ◌≤◌, ◌==◌, ◌&&◌, ◌⊎◌, Bool, true, false, cond, Option, Some, None, List, [], ◌∷◌, suc, length, nat_le, refl, ap, sym, ◌∙◌, subst, inl, inr, arith, ℤ, pos}
-use Rattle.std.specs.Option.{option_map, option_and_then}
+use Rattle.std.proofs.Common.{◌≡◌, ℕ, ◌≤◌, ◌==◌, ◌&&◌, ◌⊎◌, Bool, true, false, Option, Some, None, List, [], ◌∷◌, suc, length, nat_le, refl, ap, sym, ◌∙◌, subst, inl, inr, arith, ℤ, pos}
+use Rattle.std.specs.Option.{option_map}
 use Rattle.std.proofs.lemmas.Bool.{eqb-true}
 use Rattle.std.proofs.lemmas.Bool.Decides.{nat_tests}
 use Rattle.std.specs.Char.{eq_ignore_ascii_case}
@@ -10,7 +10,7 @@ use Rattle.maildates.specs.declared.reading.Day.{Day}
 use Rattle.maildates.specs.declared.reading.Time.{Time}
 use Rattle.maildates.specs.declared.date_time.DateTime.{DateTime}
 use Rattle.maildates.specs.Pieces.{IsPiece}
-use Rattle.maildates.specs.Words.{day_of, month_of, year_of, weekday_of, two_digits, mark_of, is_named, number_in}
+use Rattle.maildates.specs.Words.{day_of, month_of, year_of, weekday_of, two_digits, mark_of, is_named}
 use Rattle.maildates.specs.Zones.{zone_of, numeric_of}
 use Rattle.jiff_core.specs.Calendar.{IsCivilDate}
 use Rattle.maildates.specs.DateTimes.{IsDateTime}

@@ -1,5 +1,5 @@
 -- What words mean.
-use Rattle.std.proofs.Common.{◌≡◌, ℕ, ◌+◌, ◌*◌, ◌==◌, ◌<◌, ◌≤◌, ◌^◌, ◌&&◌, Bool, true, false, cond, Option, None, Some, inl, inr, List, [], ◌∷◌, length, take, drop, ℤ, pos, neg_ℤ, subst, nat_le, refl, sym, ◌∙◌, arith}
+use Rattle.std.proofs.Common.{◌≡◌, ℕ, ◌+◌, ◌*◌, ◌==◌, ◌<◌, ◌≤◌, ◌^◌, ◌&&◌, Bool, true, false, cond, Option, None, Some, inl, inr, List, [], ◌∷◌, length, take, drop, ℤ, pos, neg_ℤ, subst, nat_le, refl, sym, arith}
 use Rattle.std.specs.Prelude.{codes}
 use Rattle.std.specs.Option.{option_map, option_and_then}
 use Rattle.jiff_core.proofs.SignedLemmas.{signed_arith}

@@ -1,12 +1,11 @@
 -- The zones of scripts are a sign, hours and minutes.
-use Rattle.std.proofs.Common.{◌≡◌, ℕ, suc, ◌+◌, ◌-◌, ◌*◌, ◌/◌, ◌%◌, ◌<◌, ◌≤◌, ◌==◌, ◌&&◌, ◌⊎◌, Bool, true, false, cond, Option, Some, None, List, [], ◌∷◌, ◌++◌, take, drop, length, nat_le, refl, ap, sym, ◌∙◌, subst, inl, inr, arith, ℤ, pos, neg_ℤ}
-use Rattle.std.specs.Option.{option_map, option_and_then}
-use Rattle.std.specs.List.{list_all}
+use Rattle.std.proofs.Common.{◌≡◌, ℕ, ◌+◌, ◌-◌, ◌*◌, ◌/◌, ◌%◌, ◌<◌, ◌≤◌, ◌==◌, ◌&&◌, ◌⊎◌, true, Some, None, List, [], ◌∷◌, ◌++◌, take, drop, length, nat_le, refl, ap, sym, ◌∙◌, subst, inl, inr, arith, ℤ, pos, neg_ℤ}
+use Rattle.std.specs.Option.{option_map}
 use Rattle.std.proofs.lemmas.Bool.{eqb-true, ne_eqb}
 use Rattle.std.proofs.lemmas.List.{take-append-drop}
 use Rattle.std.proofs.lemmas.Bool.Decides.{nat_tests}
 use Rattle.octets.specs.Ascii.{is_digit}
-use Rattle.octets.specs.Decimal.{number_of, with_digit}
+use Rattle.octets.specs.Decimal.{number_of}
 use Rattle.octets.proofs.Lists.{some_is, fork}
 use Rattle.maildates.specs.Words.{number_in, is_number, two_digits}
 use Rattle.maildates.specs.Zones.{offset_of, numeric_of, digits, IsOffset}

@@ -1,5 +1,5 @@
 -- What may stand between the parts of a date's text: blanks, line ends and comments (RFC 5322, 3.2.2: CFWS).
-use Rattle.std.specs.Prelude.{◌≡◌, ℕ, ◌==◌, ◌||◌, Bool, true, false, List, [], ◌∷◌}
+use Rattle.std.specs.Prelude.{◌≡◌, ℕ, ◌==◌, ◌||◌, Bool, true, List, ◌∷◌}
 use Rattle.addrparts.specs.Pieces.{Notes, noted, AreNotes}
 
 -- SP, TAB, CR or LF

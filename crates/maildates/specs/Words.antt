@@ -1,5 +1,5 @@
 -- What a piece of a date's text means (RFC 5322, 3.3 and 4.3).
-use Rattle.std.specs.Prelude.{ℕ, ◌==◌, ◌+◌, ◌&&◌, nat_le, nat_lt, Bool, true, false, if◌then◌else◌, cond, Option, Some, None, option_map, List, [], ◌∷◌, length, codes}
+use Rattle.std.specs.Prelude.{ℕ, ◌==◌, ◌+◌, ◌&&◌, nat_le, nat_lt, Bool, false, if◌then◌else◌, cond, Option, Some, None, option_map, List, [], ◌∷◌, length, codes}
 use Rattle.std.specs.List.{list_all}
 use Rattle.std.specs.Str.{str_eq_ignore_ascii_case}
 use Rattle.octets.specs.Ascii.{is_digit}

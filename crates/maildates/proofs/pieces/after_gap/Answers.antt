@@ -1,4 +1,4 @@
-use Rattle.std.proofs.Common.{◌≡◌, ◌==◌, ◌&&◌, not, false, Some, None, length, drop, get_or, ap, sym, ◌∙◌, arith}
+use Rattle.std.proofs.Common.{◌≡◌, ◌==◌, ◌&&◌, not, false, Some, get_or, ap, sym, ◌∙◌, arith}
 use Rattle.maildates.specs.Gaps.{opens_gap}
 use Rattle.maildates.proofs.GapLaws.{gap_stop, loop_kept, loop_done, loop_lost, stops_at, stays_open, stays_inside, rest_of}
 use Rattle.maildates.proofs.pieces.after_gap.Goals as goal
