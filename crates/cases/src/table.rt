@@ -22,7 +22,7 @@ pub enum Table {
 }
 
 /// All of them, in the order in which they are tried.
-pub const TABLES: [Table; 25] = [
+pub const TABLES: [Table; 26] = [
     Table::Text(TextTable::Ascii),
     Table::Text(TextTable::Addresses),
     Table::Text(TextTable::Targets),
@@ -39,6 +39,7 @@ pub const TABLES: [Table; 25] = [
     Table::Text(TextTable::Replies),
     Table::Text(TextTable::Logins),
     Table::Text(TextTable::Heads),
+    Table::Text(TextTable::Dates),
     Table::Scripts,
     Table::Tests,
     Table::Sessions,

@@ -7,6 +7,7 @@ mod answering;
 mod ascii;
 mod comparison;
 mod date;
+mod date_part;
 mod decision;
 mod fault;
 mod head;

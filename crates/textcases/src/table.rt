@@ -1,6 +1,7 @@
 //! The files of cases whose answers need no store.
 use crate::{
-    address, ascii, comparison, fault, head, item, line, login, reply, token, vacation, word,
+    address, ascii, comparison, date_part, fault, head, item, line, login, reply, token, vacation,
+    word,
 };
 use casefiles::{Answers, Tally, try_rows};
 use octets::Octets;
@@ -25,6 +26,7 @@ pub enum TextTable {
     Replies,
     Logins,
     Heads,
+    Dates,
     Vacations,
 }
 
@@ -48,6 +50,7 @@ impl TextTable {
             TextTable::Replies => "replies.cases",
             TextTable::Logins => "logins.cases",
             TextTable::Heads => "heads.cases",
+            TextTable::Dates => "dates.cases",
             TextTable::Vacations => "vacations.cases",
         }
     }
@@ -108,6 +111,12 @@ impl Answers for Rows {
         match (table, given) {
             (TextTable::Replies, _) => reply::add_spelling(alloc, out, given),
             (TextTable::Logins, _) => login::answer(alloc, out, given),
+            (TextTable::Dates, [text, zone, part]) => date_part::add_part(
+                out,
+                text.as_slice(),
+                zone.as_slice(),
+                part.as_slice(),
+            ),
             (_, [text]) => table.of_one(alloc, out, text.as_slice()),
             (_, [text, other]) => table.of_two(alloc, out, text.as_slice(), other.as_slice()),
             _ => out.extend_from_slice(b"not that many columns"),

@@ -1,0 +1,15 @@
+//! Laws of the definitions, each the contract of a function that does nothing.
+ghost use Rattle.std.specs.Prelude.{◌≡◌, ◌↔◌, ℕ, ℤ, List, Some};
+ghost use Rattle.maildates.specs.Zones.{numeric_of, IsOffset};
+ghost use Rattle.maildates.specs.declared.date_time.DateTime.{DateTime};
+ghost use Rattle.maildates.specs.DateTexts.{IsDateText};
+
+/// A text reads as one date at most.
+pub fn date_of_a_text()
+    ensures { (text : List ℕ) (one two : DateTime) → IsDateText text one → IsDateText text two → one ≡ two }
+{}
+
+/// A script's zone is a sign, hours below 24 and minutes below 60, each in two digits.
+pub fn zone_of_a_text()
+    ensures { (text : List ℕ) (zone : ℤ) → (numeric_of text ≡ Some zone) ↔ IsOffset text zone }
+{}
