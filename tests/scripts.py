@@ -594,7 +594,8 @@ def swap_serves():
 
 
 def restore_keeps_the_old():
-    """By the page's lines: a copy that is no store changes nothing, a good one takes the place of the old store, which is moved aside."""
+    """By the page's lines: a copy that is no store changes nothing, a good one takes the place of the old store, which is moved aside;
+    whom Postfix' table has and the store hasn't is told."""
     trials.need_root()
     trials.need("flock", "sqlite3")
     with open(f"{DOCS}/OPERATING.md") as file:
@@ -602,11 +603,12 @@ def restore_keeps_the_old():
     host = Host("alice", "bob")
     ours = re.sub(r"runuser -u sieved -- (sieved )?", lambda found: f"'{host.sieved}' " if found[1] else "", section)
     for given, own in (("/var/lib/sieved", host.room), ("/var/backups/sieved", f"{host.room}/backups"), (" -o sieved -g sieved", ""), ("systemctl ", ": "),
-                       ("sieved-drain alice", f"'{DOCS}/sieved-drain' alice")):
+                       ("sieved-drain alice", f"'{DOCS}/sieved-drain' alice"), ("/etc/postfix/sieved", f"{host.room}/table")):
         ours = ours.replace(given, own)
     blocks = ["\n".join(line[4:] for line in block.split("\n")) for block in re.findall(r"(?:\n    .*)+", ours)]
-    run = lambda text: subprocess.run(["sh", "-e", "-c", text], env=host.env, capture_output=True)
-    copy, look, restore, drain = (lambda text=text: run(text) for text in blocks)
+    run = lambda text, shell="sh": subprocess.run([shell, "-e", "-c", text], env=host.env, capture_output=True)
+    copy, look, restore, drain = (lambda text=text: run(text) for text in blocks[:4])
+    lacking, = blocks[4:]
     deliver = lambda subject: host.deliver("--no-drain", "--to", "a@b", "alice", data=MAIL % subject)[0] == 0
     assert os.path.basename(host.file) == "mail.db" and deliver(b"one")
     assert copy().returncode == 0 and deliver(b"two")
@@ -623,6 +625,10 @@ def restore_keeps_the_old():
     done = drain()
     assert done.returncode == 0 and MAIL % b"three" in host.moved() and len(host.stored()) == 2, done
     assert deliver(b"four") and look().returncode == 0 and restore().returncode and len(host.stored()) == 3
+    with open(f"{host.room}/table", "w") as file:
+        file.write("alice x\nbob x\ncarol x\n")
+    done = run(lacking, "bash")
+    assert (done.returncode, done.stdout, done.stderr) == (0, b"carol\n", b""), done
     return "a copy that is cut off changes nothing; a good one is the store, and the old one's mail is drained from where it stands"
 
 
