@@ -48,7 +48,7 @@ moved_line mail = line_of (codes "moved") (pair (codes "user") mail.user ∷ pai
 abbrev pub stay_line : List ℕ → List ℕ → List ℕ → List ℕ
 stay_line user folder why = line_of (codes "stays") (pair (codes "user") user ∷ pair (codes "folder") folder ∷ pair (codes "why") why ∷ [])
 
--- why it stays; of a fault of the file system its own words are told
+-- why it stays; of a fault of the sink that isn't memory any text
 abbrev pub IsWhy : Why → List ℕ → Type 0
 IsWhy Name why = why ≡ codes "name"
 IsWhy Gone why = why ≡ codes "gone"
@@ -86,7 +86,8 @@ abbrev pub IsStayBy : Bool → Stay → List ℕ → Type 0
 IsStayBy true stay line = IsStayLine stay line
 IsStayBy false stay line = line ≡ []
 
--- one that moved is told of unless it is quiet, one that stays at its folder's first failure, each other not
+-- one that moved is told of unless it is quiet, one that was kept and not taken out always, one that stays at its folder's first failure,
+-- each other not
 abbrev pub IsMovingLine : Moving → Bool → List ℕ → Type 0
 IsMovingLine (Kept mail MailTaken) quiet line = line ≡ (if quiet then [] else moved_line mail)
 IsMovingLine (Kept mail _) quiet line = line ≡ stay_line mail.user mail.folder (codes "store")

@@ -36,8 +36,8 @@ impl Times {
         self.total = self.total.saturating_add(1);
     }
 
-    /// So many microseconds at most took so many of a hundred events: a bound of a slot, 0 where there were none. Of more than a
-    /// hundred it is the longest.
+    /// The bound, in microseconds, of the first slot up to which so many of a hundred events were counted; the last slot has all longer
+    /// ones, too. 0 where there were none.
     pub fn within(&self, percent: u32) -> u64
         ensures { IsWithin self.now percent result }
     {

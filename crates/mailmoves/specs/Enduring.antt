@@ -20,7 +20,8 @@ refused_of event answer = []
 abbrev pub AreTried : List Event → List Event → Type 0
 AreTried tried events = AllByRecursion (Contains tried) events
 
--- the trees show what one of the events that were tried makes of the accounts, whatever sessions there are
+-- the trees show what one of the events that were tried makes of the accounts, whatever sessions there are: of a `Step`, what some command
+-- makes of them
 pub record ShowsOneMore (tried : List Event) (accounts : Accounts) (trees : Trees) : Type 0 where
   pub event : Event
   pub is_tried : Contains tried event

@@ -46,15 +46,16 @@ pub record HoldsAfter (names : Names) (host : List ℕ) (w : World) (now : ℕ) 
   pub mail : (id : ℕ) → (o : Option MailLine) × TellsOn names host id now None acts o × IfSome o (λ l. IsFrontOf l.sent l.spelled)
 
 -- from these accounts and no connection on, at each front of the acts, and at the end with the accounts that the store shows then and the
--- daemon's sessions. A crash at the end, while the store is had, leaves these accounts, or what one event of the acts makes of them, as a
--- whole: one that was refused, or one of others. So what was acknowledged stays, and nothing is half there
+-- daemon's sessions. A crash at the end, while the store is had and no fault of the disk has shut it, leaves these accounts, or what one
+-- event of the acts makes of them, as a whole: one that was refused, or one of others. So what was acknowledged stays, but for what that
+-- event makes of it, and nothing is half there
 pub record Headline {R : Type 0} (shows : List Event → R → Accounts → Type 0) (leaves : R → Trees → Type 0) (names : Names) (host : List ℕ) (start : Accounts) (now : ℕ) (acts : List (Act Note)) (r : R) (d : MailDaemon) : Type 0 where
   pub each_moment : (some rest : List (Act Note)) → some ++ rest ≡ acts → (v : World) × HoldsAfter names host (world_of start) now some v
   pub end : World
   pub holds : HoldsAfter names host (world_of start) now acts end
   pub shown : IsWorld (shows (tried_in acts)) r d.daemon.clients.sessions end
   pub left : (trees : Trees) → leaves r trees → MayLeave (tried_in acts) end.accounts trees
-  -- all connections together hold what they may
+  -- all connections together hold what they may, but for what each may besides
   pub bounded : IsBounded d
 
 -- a daemon that knows no connection

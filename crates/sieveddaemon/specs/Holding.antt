@@ -24,6 +24,7 @@ firm_by fit.Fits count = count - own
 firm_by fit.Over count = count - (own + largest_piece)
 firm_by fit.Told count = count - (own + largest_piece)
 
+-- of a session for which memory was lacking nothing is counted: it ends next
 abbrev pub firm_client : Option Place → Option Client → ℕ
 firm_client None o = 0
 firm_client (Some place) o = firm_by place.fit (unread_of o)

@@ -25,7 +25,7 @@ pub trait Desk: Outside<Note = Note> {
     /// Which accounts the store shows, while these events were tried: their changes may be on the disk, although they aren't shown.
     ghost shows: { List Event → Self.Rest → Accounts → Type 0 };
 
-    /// What an open after a crash at this moment may find, while the store is had.
+    /// What an open after a crash at this moment may find, while the store is had and no fault of the disk has shut it.
     ghost leaves: { Self.Rest → Trees → Type 0 };
 
     /// The disk returned what was written.
@@ -57,7 +57,7 @@ pub trait Desk: Outside<Note = Note> {
         ensures kept { IsTrue (Self.tells self.new) → IsTrue (Self.tells self.old) }
         ensures delivers { Delivers Self.tells Self.seen Self.rest shows clean id parcel.now self.old clients.old.sessions result self.new clients.new.sessions };
 
-    /// Tells that a client of LMTP was answered without the store. Nothing is done.
+    /// Tells that a client of LMTP was answered without the store, or one of ManageSieve that there is no room. Nothing is done.
     fn tell_answered(&mut self, id: u32)
         ensures kept { IsTrue (Self.tells self.new) → IsTrue (Self.tells self.old) }
         ensures told { TellsIf Self.tells Self.seen self.old (Noted id Answered) self.new }

@@ -11,7 +11,7 @@ pub static DAEMON: Row = Row {
     more: "At least one of --managesieve, --lmtp and --mail. Ports are of the loopback address; a PATH of digits alone is a port.
 --mail: INBOX moves into DIR/USER, another folder into its directory there (folders --maildir --separator), one message after ten events.
 Prints `listening on 127.0.0.1:P`, `listening on PATH` or `listening on -` for each once all listen. Ends by a signal alone.
---memory: of what isn't answered and of mail that comes in; from 1 to 65536. A client waits for room, mail without it is told 452.
+--memory: of what isn't answered and of mail that comes in; from 1 to 65536. A client without room is told BYE, mail 452.
 Status 0: all is right (--check). 64: wrong words or numbers, or no socket at PATH. 65: no store, no DIR. 75: can't listen, another daemon, or try again later.",
     arguments: &[
         Argument::Db,
