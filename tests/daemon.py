@@ -234,7 +234,7 @@ def share():
         except Gone:
             pass
         time.sleep(0.02)
-    stored = user.put(b"big", b"# " + b"x" * 300_000 + b"\r\nkeep;\r\n")
+    stored = user.put(b"big", b"# " + b"x" * 200_000 + b"\r\nkeep;\r\n")
     other = connect(port)
     entered = other.log_in("alice")
     told = []
@@ -247,7 +247,7 @@ def share():
     end(server)
     assert set(told) == {b'BYE (TRYLATER) "Too much to hold."\r\n'} and len(told) == 18, told
     assert stored.startswith(b"OK") and entered.startswith(b"OK"), (stored, entered)
-    return "of 20 clients that send 60 kB each without a login 18 hear BYE; a script of 300 kB is stored, and another client logs in"
+    return "of 20 clients that send 60 kB each without a login 18 hear BYE; a script of 200 kB is stored, and another client logs in"
 
 
 def deaf():
