@@ -1,10 +1,9 @@
 -- What is noted of what happened.
-use Rattle.std.specs.Prelude.{◌+◌, ◌||◌, ℕ, min, not, cond, Bool, true, false, Option, Some}
+use Rattle.std.specs.Prelude.{◌+◌, ◌||◌, ℕ, min, not, Bool, true, false, Option, Some}
 use Rattle.lmtp.specs.declared.receiver.Lookup.{Lookup}
 use Rattle.lmtp.specs.declared.receiver.Lookup.TheVariants.{Fault}
 use Rattle.mailengine.specs.declared.answer.Answer.{Answer}
 use Rattle.mailengine.specs.declared.answer.Answer.TheVariants.{Refused}
-use Rattle.mailstore.specs.declared.refusal.Refusal.TheVariants.{Memory, Store}
 use Rattle.sqlite.specs.declared.error.ErrorCode.{ErrorCode}
 use Rattle.sqlite.specs.declared.error.ErrorCode.TheVariants.{DiskFull}
 use Rattle.daemonhosts.specs.Log.{is_store_fault}
@@ -42,11 +41,6 @@ is_full _ = false
 abbrev pub failed_by : Bool → Option ErrorCode → Bool → Bool
 failed_by true code failed = failed || not (is_full code)
 failed_by false code failed = failed
-
--- how an answer to a delivery is told: of a store whose disk is full as of one that lacks memory
-abbrev pub told_by : Option ErrorCode → Answer → Answer
-told_by code (Refused Store) = Refused (cond (is_full code) Memory Store)
-told_by code answer = answer
 
 -- what an answer, a look for an account and a message that was to move on say of it
 abbrev pub answers_fault : Answer → Bool

@@ -59,7 +59,7 @@ Changes shows clean event None r before q after = NothingDone shows r before q a
 abbrev pub Brings : {K S T : Type 0} → Ghosts S → Bool → (K → Database) → Event → Option Answer → HeldStore K T S → Kept → HeldStore K T S → Kept → Type 0
 Brings g tells holds event answer held before later after = Changes (Shows g tells holds) (IsClean g tells) event answer held before later after
 
--- a refusal of the store is told as it is, or as lack of memory (where its disk is full: `told_by`), and every other answer as it is
+-- a refusal of the store is told as it is, or as lack of memory (where its disk is full, which is read), and every other answer as it is
 abbrev pub IsToldAs : Answer → Answer → Type 0
 IsToldAs answer told = (told ≡ answer) ⊎ ((answer ≡ Refused Store) × (told ≡ Refused Memory))
 

@@ -4,7 +4,6 @@ ghost use Rattle.mailposts.specs.Posts.{IsFound};
 ghost use Rattle.mailengine.specs.Hosts.{IsGivenUp, Kept};
 ghost use Rattle.sieveddaemon.specs.Desk.{delivery_of};
 ghost use Rattle.wires.specs.Told.{IsOwn};
-ghost use Rattle.daemonhosts.specs.Events.{told_by};
 ghost use Rattle.daemonhosts.specs.Held.{Shows, IsClean, StillShown, Brings, Goes, HasMail, IsToldAs, Seeks};
 ghost use Rattle.sieveddaemon.specs.Moves.{HasKept};
 
@@ -235,14 +234,16 @@ impl<'a, N: Net + time::Clock, E: Write + Drop, K: Keeper + Drop, T: MailSink + 
 
 /// The answer to a delivery, as it is told: of a store whose disk is full as of one that lacks memory.
 fn told_as(answer: Answer, code: Option<ErrorCode>) -> Answer
-    ensures told { IsToldAs answer result }
-    ensures by { result ≡ told_by code answer }
+    ensures { IsToldAs answer result }
 {
     match answer {
-        Answer::Refused(Refusal::Store) => match code {
-            Some(ErrorCode::DiskFull) => Answer::Refused(Refusal::Memory),
-            _ => Answer::Refused(Refusal::Store),
-        },
+        Answer::Refused(Refusal::Store) => {
+            if code == Some(ErrorCode::DiskFull) {
+                Answer::Refused(Refusal::Memory)
+            } else {
+                Answer::Refused(Refusal::Store)
+            }
+        }
         other => other,
     }
 }

@@ -9,7 +9,7 @@ use Rattle.daemonhosts.proofs.host.Host.file.Goals as goal
 pub returns-in-Some : goal.returns-in-Some
 returns-in-Some g c = (
   c.seconds-moment.result,
-  λ kept clean. told_done (Shows g.K.S.Store g.K.Keeper.tells g.K.Keeper.holds) c.args.parcel.now c.seconds-moment.result c.in-Some.answer c.told_as.result c.args.self.now.held _ kept c.told_as.ensures.told
+  λ kept clean. told_done (Shows g.K.S.Store g.K.Keeper.tells g.K.Keeper.holds) c.args.parcel.now c.seconds-moment.result c.in-Some.answer c.told_as.result c.args.self.now.held _ kept c.told_as.ensures
       (done_behind (Shows g.K.S.Store g.K.Keeper.tells g.K.Keeper.holds) c.args.self.now.held c.reach.new.self.held c.deliver.new.self [] (delivery_of c.args.parcel.now c.seconds-moment.result) c.in-Some.answer kept kept
       (λ tried accounts shown. c.reach.ensures.shown tried accounts (c.may_ask.ensures.shown tried accounts shown)) (c.in-Some.ensures kept clean)),
 )
