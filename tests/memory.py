@@ -647,7 +647,7 @@ def first_sections(whole):
 
 
 TEXTS = ["addresses", "targets", "bare", "spellings", "words", "texts", "tokens", "faults", "items", "replies", "logins", "globs", "comparisons",
-         "heads", "scripts", "tests", "vacations"]
+         "heads", "dates", "scripts", "tests", "vacations"]
 
 WORDS = (try_word, init, adduser, deliver, folders, show, queue, queue_row, done, notices, drain,
          users, passwd, address, scripts_word, script_word, put_file, remove, open_word, notices_until, check,
