@@ -1,8 +1,8 @@
 -- The sequences that are decoded are those of the grammar.
-use Rattle.std.proofs.Common.{◌≡◌, ◌≢◌, ◌||◌, ◌&&◌, ◌+◌, ◌≤◌, ◌<◌, ℕ, Bool, true, false, cond, Option, Some, None, List, [], ◌∷◌, ◌++◌, length, take, drop, get_or, map, append_assoc, refl, sym, ap, ◌∙◌, subst, inl, inr, arith}
+use Rattle.std.proofs.Common.{◌≡◌, ◌≢◌, ◌||◌, ◌&&◌, ◌+◌, ◌<◌, ℕ, Bool, true, false, cond, Some, None, List, [], ◌∷◌, ◌++◌, length, take, drop, get_or, map, append_assoc, refl, sym, ap, ◌∙◌, inl, inr, arith}
 use Rattle.std.proofs.Common.{length-append}
-use Rattle.std.specs.Prelude.{◌==◌, nat_eq, nat_le, codes, IsTrue}
-use Rattle.std.specs.List.{list_all, list_any, prefix_len, flat_map}
+use Rattle.std.specs.Prelude.{◌==◌, nat_eq, nat_le, codes}
+use Rattle.std.specs.List.{list_all, list_any, flat_map}
 use Rattle.std.specs.Cmp.Lexicographic.{pointwise, bytes_decides}
 use Rattle.std.proofs.Math.Seq.{take-append_seam, drop-append_seam, get_or-append_seam}
 use Rattle.std.proofs.lemmas.Bool.{le-leb, cases_lt}
@@ -16,7 +16,7 @@ use Rattle.sievelex.specs.declared.encoded.Coding.TheVariants.{Hex, Unicode}
 use Rattle.sievelex.specs.declared.encoded.Sequence.TheVariants.{Absent}
 use Rattle.sievelex.specs.Class.{is_white}
 use Rattle.sievelex.specs.Encoded.{is_hex, is_inner, inner_len, is_closed, values_of, words_from, begins_with, opening_of, valued, closed_by, sequence_at}
-use Rattle.sievelex.specs.Rows.{Numeral, IsNumeral, AreNumerals, numeral_spelling, IsRow, opening, IsSequence, BeginsWithSequence}
+use Rattle.sievelex.specs.Rows.{Numeral, AreNumerals, numeral_spelling, IsRow, opening, IsSequence, BeginsWithSequence}
 use Rattle.sievelex.proofs.Prefixes.{both, prefix_len-passed, prefix_all}
 use Rattle.sievelex.proofs.RowLemmas.{and_true, hex_not_white, row_words, words_are}
 

@@ -1,7 +1,7 @@
 -- Quoted strings, read from the left.
-use Rattle.std.proofs.Common.{◌≡◌, ◌⊎◌, ℕ, ◌+◌, ◌<◌, ◌≤◌, suc, zero, Bool, true, false, ◌==◌, ◌||◌, Option, Some, None, List, [], ◌∷◌, ◌++◌, length, take, drop, refl, ap, sym, ◌∙◌, inl, inr, arith, append_assoc, length-drop, take-append-drop}
-use Rattle.std.specs.List.{flat_map}
-use Rattle.std.proofs.lemmas.List.{append_cancel_right}
+use Rattle.std.proofs.Common.{◌≡◌, ◌⊎◌, ℕ, ◌+◌, ◌-◌, ◌<◌, ◌≤◌, suc, zero, Bool, true, false, ◌==◌, ◌||◌, ◌&&◌, not, Option, Some, None, List, [], ◌∷◌, ◌++◌, length, take, drop, refl, ap, sym, ◌∙◌, inl, inr, arith, append_assoc, length-drop, take-append-drop}
+use Rattle.std.specs.List.{flat_map, prefix_len}
+use Rattle.std.proofs.lemmas.List.{append_cancel_right, drop_more}
 use Rattle.std.proofs.lemmas.Bool.{eqb-true}
 use Rattle.octets.proofs.Lists.{fork, some_pair}
 use Rattle.sievelex.specs.declared.quoted.Mode.{Mode}
@@ -9,7 +9,7 @@ use Rattle.sievelex.specs.declared.quoted.Mode.TheVariants.{Inside, Escape, Retu
 use Rattle.sievelex.specs.declared.token.Content.{Content}
 use Rattle.sievelex.specs.declared.token.Content.TheVariants.{Text}
 use Rattle.sievelex.specs.declared.front.Front.{Front}
-use Rattle.sievelex.specs.Inside.{onto, string_from}
+use Rattle.sievelex.specs.Inside.{onto, string_from, is_plain}
 use Rattle.sievelex.specs.Front.{IsFront}
 use Rattle.sievelex.specs.Shape.{Piece, IsPiece, ArePieces, spelling_of, value_of, IsQuotedString, IsShape}
 use Rattle.sievelex.specs.Shape.Piece.{Plain, Escaped, LineEnd, BareLineEnd}
@@ -165,3 +165,39 @@ string_found more value n w h = best_found (34 ∷ more) (record { content = Tex
 
 pub no_string : (more : List ℕ) → string_from Inside more ≡ None → (g : Front) → IsFront (34 ∷ more) g → ⊥
 no_string more h g t = string_none more h g.content g.len _ t.shape
+
+-- each of them is false
+all_false : (p q r s : Bool) → (not p && (not q && (not r && not s))) ≡ true → (p ≡ false) × ((q ≡ false) × ((r ≡ false) × (s ≡ false)))
+all_false true q r s h = absurd (cc)
+all_false false true r s h = absurd (cc)
+all_false false false true s h = absurd (cc)
+all_false false false false true h = absurd (cc)
+all_false false false false false h = (refl, (refl, (refl, refl)))
+
+-- an octet that stands for itself
+plain_here : (b : ℕ) (s : List ℕ) → is_plain b ≡ true → string_from Inside (b ∷ s) ≡ onto (b ∷ []) (string_from Inside s)
+plain_here b s h = let p = all_false (b == 34) (b == 92) (b == 13) (b == 10) h in rw (p.0, p.1.0, p.1.1.0, p.1.1.1) refl
+
+plain_at : (b : ℕ) (s rest : List ℕ) (v : Bool) → is_plain b ≡ v → drop (prefix_len is_plain (b ∷ s)) (b ∷ s) ≡ 34 ∷ rest
+    → (drop (prefix_len is_plain s) s ≡ 34 ∷ rest → string_from Inside s ≡ Some (take (prefix_len is_plain s) s, rest))
+    → string_from Inside (b ∷ s) ≡ Some (take (prefix_len is_plain (b ∷ s)) (b ∷ s), rest)
+plain_at b s rest true e h more =
+    let n : ℕ = prefix_len is_plain s in
+    let here : drop (1 + n) (b ∷ s) ≡ 34 ∷ rest = rw e at h in
+    let later : drop n s ≡ 34 ∷ rest = ap (λ k. drop k (b ∷ s)) (sym (one_more n)) ∙ here in
+    rw e (plain_here b s e ∙ ap (onto (b ∷ [])) (more later) ∙ ap (λ k. Some (take k (b ∷ s), rest)) (sym (one_more n)))
+plain_at b s rest false e h more =
+    let here : b ∷ s ≡ 34 ∷ rest = rw e at h in
+    rw e (ap (string_from Inside) here)
+
+-- octets that stand for themselves, and a quotation mark
+pub plain_string : (s rest : List ℕ) → drop (prefix_len is_plain s) s ≡ 34 ∷ rest → string_from Inside s ≡ Some (take (prefix_len is_plain s) s, rest)
+plain_string [] rest h = absurd (cc)
+plain_string (b ∷ s) rest h = plain_at b s rest (is_plain b) refl h (plain_string s rest)
+
+-- what follows an octet
+pub rest_after : (s rest : List ℕ) (i b : ℕ) → drop i s ≡ b ∷ rest → (i < length s) × (rest ≡ drop (i + 1) s)
+rest_after s rest i b h =
+    let long : length s - i ≡ suc (length rest) = sym (length-drop i s) ∙ ap length h in
+    let within : i < length s = omega (arith, long) in
+    (within, ap (drop 1) (sym h ∙ drop_more s i 0 within))

@@ -1,5 +1,5 @@
 -- The inside of a quoted string, read from the left.
-use Rattle.std.specs.Prelude.{ℕ, ◌==◌, ◌||◌, cond, Option, Some, None, List, [], ◌∷◌, ◌++◌}
+use Rattle.std.specs.Prelude.{ℕ, ◌==◌, ◌&&◌, ◌||◌, not, Bool, cond, Option, Some, None, List, [], ◌∷◌, ◌++◌}
 use Rattle.sievelex.specs.declared.quoted.Mode.{Mode}
 use Rattle.sievelex.specs.declared.quoted.Mode.TheVariants.{Inside, Escape, Return}
 
@@ -7,6 +7,10 @@ use Rattle.sievelex.specs.declared.quoted.Mode.TheVariants.{Inside, Escape, Retu
 abbrev pub onto : List ℕ → Option (List ℕ × List ℕ) → Option (List ℕ × List ℕ)
 onto front None = None
 onto front (Some r) = Some (front ++ r.0, r.1)
+
+-- an octet that stands for itself there, whatever is around it
+abbrev pub is_plain : ℕ → Bool
+is_plain octet = not (octet == 34) && (not (octet == 92) && (not (octet == 13) && not (octet == 10)))
 
 -- what a string stands for and what follows its closing quotation mark, from any place inside it on
 abbrev pub string_from : Mode → List ℕ → Option (List ℕ × List ℕ)

@@ -11,6 +11,7 @@ pub mod Lines
 pub mod Rows
 pub mod Shape
 pub mod Skip
+pub mod Sources
 pub mod Space
 pub mod Spelling
 pub mod Text

@@ -12,20 +12,24 @@ use crate::fault::{FaultKind, ScriptError, ScriptFault};
 use crate::multiline::read_body;
 use crate::number::{amount, digit_count, multiplier};
 use crate::quoted::read_quoted;
+use crate::said::Said;
 use crate::token::Content;
-use octets::Octets;
 use std::alloc::Global;
 
 /// A token at the front of a text, and how many octets spell it.
 #[derive(Drop)]
-pub(crate) struct Front {
-    pub(crate) content: Content,
+pub(crate) struct Front<'a> {
+    pub(crate) content: Content<'a>,
     pub(crate) len: usize,
 }
 
 /// The token that begins with the text's first octet. Looks at its octets alone, and at those that make
 /// it no token.
-pub(crate) fn read_front(alloc: Global, octets: &[u8], line: u64) -> Result<Front, ScriptError>
+pub(crate) fn read_front<'a>(
+    alloc: Global,
+    octets: &'a [u8],
+    line: u64,
+) -> Result<Front<'a>, ScriptError>
     ensures found { Finds (IsFront octets.now) result }
     ensures lines { IfFaultLine result (λ n. n ≡ line) }
 {
@@ -43,7 +47,7 @@ pub(crate) fn read_front(alloc: Global, octets: &[u8], line: u64) -> Result<Fron
         return read_number(octets, line);
     }
     if *first == b':' {
-        return read_tag(alloc, rest, line);
+        return read_tag(rest, line);
     }
     if *first == b'"' {
         return read_string(alloc, rest, line);
@@ -58,7 +62,7 @@ pub(crate) fn read_front(alloc: Global, octets: &[u8], line: u64) -> Result<Fron
 }
 
 /// The identifier that begins with the text's first octet.
-fn read_identifier(alloc: Global, octets: &[u8], line: u64) -> Result<Front, ScriptError>
+fn read_identifier<'a>(alloc: Global, octets: &'a [u8], line: u64) -> Result<Front<'a>, ScriptError>
     requires { IsTrue (is_name_start (slice_index octets.now 0)) }
     ensures found { Finds (IsFront octets.now) result }
     ensures lines { IfFaultLine result (λ n. n ≡ line) }
@@ -68,13 +72,13 @@ fn read_identifier(alloc: Global, octets: &[u8], line: u64) -> Result<Front, Scr
         return read_multiline(alloc, octets, line);
     }
     Ok(Front {
-        content: Content::Identifier(Octets::from_slice(alloc, name)?),
+        content: Content::Identifier(Said::in_text(name)),
         len: name.len(),
     })
 }
 
 /// The string of several lines that begins with the text's first octets, `text:`.
-fn read_multiline(alloc: Global, octets: &[u8], line: u64) -> Result<Front, ScriptError>
+fn read_multiline<'a>(alloc: Global, octets: &'a [u8], line: u64) -> Result<Front<'a>, ScriptError>
     requires { lowered (take 5 octets.now) ≡ codes "text:" }
     ensures found { Finds (IsFront octets.now) result }
     ensures lines { IfFaultLine result (λ n. n ≡ line) }
@@ -82,7 +86,7 @@ fn read_multiline(alloc: Global, octets: &[u8], line: u64) -> Result<Front, Scri
     let (_, body) = octets.split_at(5);
     let (value, len) = read_body(alloc, body, line)?;
     Ok(Front {
-        content: Content::Text(value),
+        content: Content::Text(Said::apart(value)),
         len: 5 + len,
     })
 }
@@ -95,7 +99,7 @@ fn opens_text(name: &[u8], rest: &[u8]) -> bool
 }
 
 /// The tag after whose colon this text stands.
-fn read_tag(alloc: Global, octets: &[u8], line: u64) -> Result<Front, ScriptError>
+fn read_tag<'a>(octets: &'a [u8], line: u64) -> Result<Front<'a>, ScriptError>
     ensures found { Finds (IsFront (58 ∷ octets.now)) result }
     ensures lines { IfFaultLine result (λ n. n ≡ line) }
 {
@@ -107,13 +111,13 @@ fn read_tag(alloc: Global, octets: &[u8], line: u64) -> Result<Front, ScriptErro
     }
     let (name, _) = octets.split_at(name_len(octets));
     Ok(Front {
-        content: Content::Tag(Octets::from_slice(alloc, name)?),
+        content: Content::Tag(Said::in_text(name)),
         len: 1 + name.len(),
     })
 }
 
 /// The number that begins with the text's first octet.
-fn read_number(octets: &[u8], line: u64) -> Result<Front, ScriptError>
+fn read_number<'a>(octets: &'a [u8], line: u64) -> Result<Front<'a>, ScriptError>
     requires { IsTrue (is_digit (slice_index octets.now 0)) }
     ensures found { Finds (IsFront octets.now) result }
     ensures lines { IfFaultLine result (λ n. n ≡ line) }
@@ -133,7 +137,7 @@ fn read_number(octets: &[u8], line: u64) -> Result<Front, ScriptError>
 }
 
 /// The quoted string after whose opening quotation mark this text stands.
-fn read_string(alloc: Global, octets: &[u8], line: u64) -> Result<Front, ScriptError>
+fn read_string<'a>(alloc: Global, octets: &'a [u8], line: u64) -> Result<Front<'a>, ScriptError>
     ensures found { Finds (IsFront (34 ∷ octets.now)) result }
     ensures lines { IfFaultLine result (λ n. n ≡ line) }
 {

@@ -199,8 +199,8 @@ fn pack_tokens(alloc: Global, text: &[u8]) -> Result<Packed, ScriptError>
 }
 
 /// Appends what one token is and says.
-fn append(packed: &mut Packed, content: Content) -> Result<(), AllocError>
-    ensures { OnOk result (Appends content packed.old packed.new) }
+fn append(packed: &mut Packed, content: Content<'_>) -> Result<(), AllocError>
+    ensures { OnOk result (Appends content.entry packed.old packed.new) }
 {
     match content {
         Content::Identifier(name) => append_octets(
@@ -249,6 +249,7 @@ pub fn line_of(alloc: Global, text: &[u8], index: usize) -> Result<u64, ScriptEr
         before -= 1;
         line = end_line(text, &token);
         at = token.end;
+        drop(token);
     }
     Ok(1)
 }

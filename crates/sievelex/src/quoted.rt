@@ -1,10 +1,12 @@
 //! The inside of quoted strings.
 ghost use Rattle.std.specs.Prelude.{◌≡◌, ◌≤◌, length, drop, IfOk, Some, None};
+ghost use Rattle.std.specs.List.{prefix_len};
 ghost use Rattle.sievelex.specs.Finding.{IfFault, IfFaultLine};
-ghost use Rattle.sievelex.specs.Inside.{string_from};
+ghost use Rattle.sievelex.specs.Inside.{string_from, is_plain};
 ghost use Rattle.sievelex.specs.declared.quoted.Mode.TheVariants.{Inside};
 
 use crate::fault::{FaultKind, ScriptError, ScriptFault};
+use crate::said::Said;
 use octets::Octets;
 use std::alloc::Global;
 
@@ -20,12 +22,41 @@ pub(crate) enum Mode {
 }
 
 /// What the string after whose opening quotation mark this text stands stands for, each line end as CRLF,
-/// and how many octets there are up to its closing quotation mark and with it.
-pub(crate) fn read_quoted(
+/// and how many octets there are up to its closing quotation mark and with it. One without line ends and backslashes isn't copied.
+pub(crate) fn read_quoted<'a>(
     alloc: Global,
-    octets: &[u8],
+    octets: &'a [u8],
     line: u64,
-) -> Result<(Octets, usize), ScriptError>
+) -> Result<(Said<'a>, usize), ScriptError>
+    ensures within { IfOk result (λ r. r.1 ≤ length octets.now) }
+    ensures found { IfOk result (λ r. string_from Inside octets.now ≡ Some (r.0, drop r.1 octets.now)) }
+    ensures fault { IfFault result (string_from Inside octets.now ≡ None) }
+    ensures lines { IfFaultLine result (λ n. n ≡ line) }
+{
+    let (plain, rest) = octets.split_at(plain_len(octets));
+    if let Some((b'"', _)) = rest.split_first() {
+        return Ok((Said::in_text(plain), plain.len() + 1));
+    }
+    let (value, len) = read_pieces(alloc, octets, line)?;
+    Ok((Said::apart(value), len))
+}
+
+/// How many octets at the front stand for themselves.
+fn plain_len(octets: &[u8]) -> usize
+    ensures { result ≡ prefix_len is_plain octets.now }
+{
+    octets.iter().take_while(|octet| is_plain(**octet)).count()
+}
+
+/// Neither a quotation mark nor a backslash, and no part of a line end.
+fn is_plain(octet: u8) -> bool
+    ensures { result ≡ is_plain octet }
+{
+    octet != b'"' && octet != b'\\' && octet != b'\r' && octet != b'\n'
+}
+
+/// The same of any string, octet by octet.
+fn read_pieces(alloc: Global, octets: &[u8], line: u64) -> Result<(Octets, usize), ScriptError>
     ensures within { IfOk result (λ r. r.1 ≤ length octets.now) }
     ensures found { IfOk result (λ r. string_from Inside octets.now ≡ Some (r.0, drop r.1 octets.now)) }
     ensures fault { IfFault result (string_from Inside octets.now ≡ None) }

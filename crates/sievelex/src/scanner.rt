@@ -16,9 +16,9 @@ use std::alloc::Global;
 ///
 /// Unless memory runs out, a fault is answered exactly where the text is no list of tokens; it names the line of
 /// the octet at which what is no token or comment begins. After a look at the whole text for UTF-8,
-/// NUL and lone CRs one pass goes from the front to the end, in time linear in the text's length. Of the text the
-/// names and the values of strings are copied, each once.
-pub fn tokens(alloc: Global, text: &[u8]) -> Result<Vec<Token>, ScriptError>
+/// NUL and lone CRs one pass goes from the front to the end, in time linear in the text's length. Of the text only
+/// the values of strings are copied that aren't spelled as they are, each once.
+pub fn tokens<'a>(alloc: Global, text: &'a [u8]) -> Result<Vec<Token<'a>>, ScriptError>
     ensures found { IfOk result (λ ts. Spells text.now ts.items) }
     ensures only { IfOk result (λ ts. (us : List Token) → Spells text.now us → us ≡ ts.items) }
     ensures fault { IfFault result ((ts : List Token) → Spells text.now ts → ⊥) }
@@ -31,7 +31,7 @@ pub fn tokens(alloc: Global, text: &[u8]) -> Result<Vec<Token>, ScriptError>
 }
 
 /// The tokens of a text that has no bad octet.
-fn read_tokens(alloc: Global, text: &[u8]) -> Result<Vec<Token>, ScriptError>
+fn read_tokens<'a>(alloc: Global, text: &'a [u8]) -> Result<Vec<Token<'a>>, ScriptError>
     ensures found { IfOk result (λ ts. SpellsFrom text.now 0 ts.items) }
     ensures only { IfOk result (λ ts. (us : List Token) → SpellsFrom text.now 0 us → us ≡ ts.items) }
     ensures fault { IfFault result ((ts : List Token) → SpellsFrom text.now 0 ts → ⊥) }
@@ -49,12 +49,12 @@ fn read_tokens(alloc: Global, text: &[u8]) -> Result<Vec<Token>, ScriptError>
 }
 
 /// The token that comes next from a place of the text on, or none where only white space is left.
-pub(crate) fn next(
+pub(crate) fn next<'a>(
     alloc: Global,
-    text: &[u8],
+    text: &'a [u8],
     at: usize,
     line: u64,
-) -> Result<Option<Token>, ScriptError>
+) -> Result<Option<Token<'a>>, ScriptError>
     requires inside { at ≤ length text.now }
     requires on_line { line ≡ 1 + line_ends (take at text.now) }
     ensures found { IfOk result (λ o. MatchOption o (SpellsFrom text.now at []) (λ t. IsNext text.now at t)) }
@@ -91,7 +91,7 @@ pub(crate) fn next(
 }
 
 /// The line on which this token of the text ends.
-pub(crate) fn end_line(text: &[u8], token: &Token) -> u64
+pub(crate) fn end_line(text: &[u8], token: &Token<'_>) -> u64
     requires { IsPlaced text.now token.now }
     ensures { result ≡ 1 + line_ends (take token.now.end text.now) }
 {

@@ -1,16 +1,16 @@
-use octets::Octets;
+use crate::said::Said;
 
 /// What a token is and says (RFC 5228, 8.1).
-#[derive(Debug, Drop, PartialEq, Eq)]
-pub enum Content {
+#[derive(Drop)]
+pub enum Content<'a> {
     /// A name as it was written: a letter or `_`, then letters, digits and `_`.
-    Identifier(Octets),
+    Identifier(Said<'a>),
     /// The name after a `:`, as it was written and without the colon.
-    Tag(Octets),
+    Tag(Said<'a>),
     /// The value of a number, its multiplier `K`, `M` or `G` counted: at most 2^63 - 1.
     Number(u64),
     /// What a string, quoted or of several lines, stands for.
-    Text(Octets),
+    Text(Said<'a>),
     /// One of the eight marks.
     Mark(Mark),
 }
@@ -37,10 +37,10 @@ pub enum Mark {
 }
 
 /// A token of a script and where it stands.
-#[derive(Debug, Drop, PartialEq, Eq)]
-pub struct Token {
+#[derive(Drop)]
+pub struct Token<'a> {
     /// What it is and says.
-    pub content: Content,
+    pub content: Content<'a>,
     /// The place of its first octet in the text, counted from 0.
     pub start: usize,
     /// The place after its last octet.

@@ -1,4 +1,4 @@
-use Rattle.std.proofs.Common.{◌≡◌, sym, ap, ◌∙◌, drop, arith}
+use Rattle.std.proofs.Common.{sym, ap, ◌∙◌, arith}
 use Rattle.std.proofs.lemmas.List.{length-drop}
 use Rattle.sievelex.specs.Encoded.{sequence_at}
 use Rattle.sievelex.proofs.EncodedLemmas.{plain_at, other_at, sequence_here, without_dollar}

@@ -12,4 +12,4 @@ pub read_multiline-requires : goal.read_multiline-requires
 read_multiline-requires c = word_found _ _ _ _ c.split_at.ensures.front c.split_at.ensures.back c.split_at.ensures.front_len (c.opens_text.ensures.0 c.if-opens_text.true)
 
 pub returns-clause-found : goal.returns-clause-found
-returns-clause-found c = identifier_found _ _ _ _ _ c.requires c.name_len.ensures c.split_at.ensures.front c.split_at.ensures.back c.split_at.ensures.front_len c.in_ok-from_slice.ensures (λ t. let h : c.opens_text.result ≡ true = c.opens_text.ensures.1 t in cc)
+returns-clause-found c = identifier_found _ _ _ _ _ c.requires c.name_len.ensures c.split_at.ensures.front c.split_at.ensures.back c.split_at.ensures.front_len c.in_text.ensures (λ t. let h : c.opens_text.result ≡ true = c.opens_text.ensures.1 t in cc)

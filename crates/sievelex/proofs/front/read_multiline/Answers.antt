@@ -1,10 +1,12 @@
-use Rattle.std.proofs.Common.{◌≡◌, None}
+use Rattle.std.proofs.Common.{◌≡◌, None, ap, sym, refl}
 use Rattle.std.proofs.lemmas.Result.{err_from_is_err_and}
 use Rattle.sievelex.specs.declared.front.Front.{Front}
 use Rattle.sievelex.specs.declared.multiline.Stage.TheVariants.{Opening}
 use Rattle.sievelex.specs.Front.{IsFront}
 use Rattle.sievelex.specs.Body.{body_from}
 use Rattle.sievelex.proofs.FaultLemmas.{fault_on}
+use Rattle.sievelex.specs.declared.token.Content.TheVariants.{Text}
+use Rattle.sievelex.proofs.Best.{found_at}
 use Rattle.sievelex.proofs.Several.{several_found, several_none, word_five}
 use Rattle.sievelex.proofs.front.read_multiline.Goals as goal
 
@@ -17,4 +19,4 @@ returns-in_err-value-clause-found c =
     rw (p.1, p.2) (fault_on _ (body_from Opening c.split_at.result.1.now ≡ None) ((g : Front) → IsFront c.args.octets.now g → ⊥) (several_none c.args.octets.now c.split_at.result.1.now c.requires c.split_at.ensures.back) c.in_err-value.ensures.fault)
 
 pub returns-clause-found : goal.returns-clause-found
-returns-clause-found c = several_found _ _ _ _ c.requires c.split_at.ensures.back c.in_ok-value.ensures.within c.in_ok-value.ensures.found
+returns-clause-found c = found_at _ _ _ _ _ (ap Text (sym c.apart.ensures)) refl (several_found _ _ _ _ c.requires c.split_at.ensures.back c.in_ok-value.ensures.within c.in_ok-value.ensures.found)

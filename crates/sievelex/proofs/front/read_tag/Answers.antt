@@ -11,4 +11,4 @@ pub split_at-requires : goal.split_at-requires
 split_at-requires c = omega (arith, prefix_len-le-length is_name_octet c.args.octets.now)
 
 pub returns-clause-found : goal.returns-clause-found
-returns-clause-found c = tag_found _ _ _ _ (sym c.begins_name.ensures ∙ c.if-not-begins_name.false) c.name_len.ensures c.split_at.ensures.front c.split_at.ensures.front_len c.in_ok-from_slice.ensures
+returns-clause-found c = tag_found _ _ _ _ (sym c.begins_name.ensures ∙ c.if-not-begins_name.false) c.name_len.ensures c.split_at.ensures.front c.split_at.ensures.front_len c.in_text.ensures

@@ -11,33 +11,6 @@ returns-then-before-eq0-clause-found c = λ us s.
     let counted = c.tokens.invariant.counted in
     line_here c.args.text.now c.tokens.at c.args.index c.in-Some.token counted.0 us counted.1.0 (omega (arith, counted.1.1, c.if-before-eq0.true)) here (λ u h. sym c.in-Some.is ∙ c.in_ok-token.ensures.only u h) s.spelled
 
-pub tokens-preserved-else-before-eq0 : goal.tokens-preserved-else-before-eq0
-tokens-preserved-else-before-eq0 c =
-    let here : IsNext c.args.text.now c.tokens.at c.in-Some.token = rw c.in-Some.is at c.in_ok-token.ensures.found in
-    record {
-      inside = (next_further _ _ c.in-Some.token here).1;
-      on_line = c.end_line-line.ensures;
-      counted = count_more _ _ _ _ c.in-Some.token here (λ u h. sym c.in-Some.is ∙ c.in_ok-token.ensures.only u h) c.if-before-eq0.false c.tokens.invariant.counted;
-    }
-
-pub tokens-preserved-else-before-eq0-2 : goal.tokens-preserved-else-before-eq0-2
-tokens-preserved-else-before-eq0-2 c =
-    let here : IsNext c.args.text.now c.tokens.at c.in-Some.token = rw c.in-Some.is at c.in_ok-token.ensures.found in
-    record {
-      inside = (next_further _ _ c.in-Some.token here).1;
-      on_line = c.end_line-line.ensures;
-      counted = count_more _ _ _ _ c.in-Some.token here (λ u h. sym c.in-Some.is ∙ c.in_ok-token.ensures.only u h) c.if-before-eq0.false c.tokens.invariant.counted;
-    }
-
-pub tokens-preserved-else-before-eq0-3 : goal.tokens-preserved-else-before-eq0-3
-tokens-preserved-else-before-eq0-3 c =
-    let here : IsNext c.args.text.now c.tokens.at c.in-Some.token = rw c.in-Some.is at c.in_ok-token.ensures.found in
-    record {
-      inside = (next_further _ _ c.in-Some.token here).1;
-      on_line = c.end_line-line.ensures;
-      counted = count_more _ _ _ _ c.in-Some.token here (λ u h. sym c.in-Some.is ∙ c.in_ok-token.ensures.only u h) c.if-before-eq0.false c.tokens.invariant.counted;
-    }
-
 pub tokens-preserved : goal.tokens-preserved
 tokens-preserved c =
     let here : IsNext c.args.text.now c.tokens.at c.in-Some.token = rw c.in-Some.is at c.in_ok-token.ensures.found in

@@ -1,0 +1,235 @@
+#!/usr/bin/env python3
+"""Tries drawn scripts on drawn messages beside Pigeonhole's `sieve-test`, and tells where the two differ.
+
+  tests/pigeonhole.py [--quick] [--sieved SIEVED] [TRIAL ..]
+
+A script has six rules, each of which files into a folder of its own where its test holds; the tests, their keys and the messages
+are drawn with a fixed seed, so that keys are near to what the messages have. 20,000 scripts are tried, with --quick 2,000. What
+DECISIONS explains under "Where Pigeonhole answers otherwise" isn't drawn. It needs dovecot-sieve, and root where it runs as root
+(sieve-test then runs as nobody).
+"""
+import base64, os, random, re, subprocess, sys, tempfile, time
+from concurrent.futures import ThreadPoolExecutor
+
+HERE = os.path.dirname(os.path.abspath(__file__))
+sys.path.insert(0, HERE)
+import trials
+
+SIEVED = os.path.abspath(f"{HERE}/../crates/sieved/out/sieved")
+RULES, SCRIPTS, SEED = 6, 20_000, 5228
+EXTENSIONS = ["fileinto", "envelope", "subaddress", "relational", "comparator-i;ascii-numeric", "encoded-character"]
+RELATIONS = ["gt", "ge", "lt", "le", "eq", "ne"]
+WORDS = ["lunch", "Lunch", "LUNCH", "dinner", "a", "b", "ab", "re:", "[list]", "10", "9", "010", "3", "*", "?", "\\", "x y", "caf\u00e9", "no", "é", "$", "${hex:41}"]
+NAMES = ["Subject", "X-A", "X-B", "X-Priority", "List-Id", "To", "From", "Cc", "Date", "Received", "X-None"]
+ADDRESS_NAMES = ["From", "To", "Cc", "Sender", "Reply-To", "Resent-To"]
+LOCALS = ["alice", "bob", "Alice", "alice+lists", "bob+", "+x", "a.b", "a+b+c", "x"]
+DOMAINS = ["example.org", "example.net", "Example.ORG", "mail.example.org", "b.c"]
+
+
+def word(draw):
+    return draw.choice(WORDS)
+
+
+def words(draw, most=3):
+    return " ".join(word(draw) for _ in range(draw.randint(0, most)))
+
+
+def address(draw):
+    return f"{draw.choice(LOCALS)}@{draw.choice(DOMAINS)}"
+
+
+def mailbox(draw):
+    """One of a field's addresses, by the forms of RFC 5322, 3.4."""
+    plain = address(draw)
+    forms = [plain, f"<{plain}>", f"Alice Example <{plain}>", f'"Example, Alice" <{plain}>', f"{plain} (a comment)", f"Bob <{plain}> (b)"]
+    return draw.choice(forms)
+
+
+def encoded(draw, text):
+    octets = text.encode()
+    if draw.random() < 0.5:
+        return f"=?UTF-8?B?{base64.b64encode(octets).decode()}?="
+    return "=?utf-8?Q?" + "".join(chr(o) if chr(o).isalnum() and o < 128 else f"={o:02X}" for o in octets) + "?="
+
+
+def value(draw, name):
+    """What a field of that name has, as it stands in the message."""
+    if name in ADDRESS_NAMES:
+        return ", ".join(mailbox(draw) for _ in range(draw.randint(1, 3)))
+    if name == "Date":
+        return "Tue, 1 Apr 1997 09:06:31 -0800"
+    if name == "Received":
+        return "from a.example by b.example; Tue, 1 Apr 1997 10:06:31 +0200"
+    if name == "X-Priority":
+        return draw.choice(["1", "2", "3", "03", "10", "1 (highest)", "high", "", "18446744073709551617"])
+    text = words(draw)
+    kind = draw.random()
+    if kind < 0.2:
+        return encoded(draw, text) if text else text
+    text = text.encode("ascii", "replace").decode().replace("?", "e") if kind < 0.9 else text
+    return text.replace(" ", "\r\n ", 1) if kind < 0.3 else text
+
+
+def message(draw):
+    fields = [(name, value(draw, name)) for name in draw.choices(NAMES[:-1], k=draw.randint(0, 9))]
+    head = "".join(f"{draw.choice([name, name.lower(), name.upper()])}: {text}\r\n" for name, text in fields)
+    return (head + "\r\n" + "x" * draw.choice([0, 1, 70, 1000]) + "\r\n").encode()
+
+
+def quoted(draw, text):
+    text = text.replace("\\", "\\\\").replace('"', '\\"')
+    return f'"{text}"'
+
+
+def strings(draw, make, most=3):
+    found = [quoted(draw, make(draw)) for _ in range(draw.randint(1, most))]
+    return found[0] if len(found) == 1 and draw.random() < 0.5 else "[" + ", ".join(found) + "]"
+
+
+def pattern(draw):
+    return "".join(draw.choice(["*", "?", "l", "a", "lunch", "@", "example", ".", "org", " ", "\\*", "\\?", "\\\\", "1"]) for _ in range(draw.randint(0, 5)))
+
+
+def number(draw):
+    return draw.choice(["0", "1", "2", "3", "9", "10", "010", "", "x", "2x", "18446744073709551616", "99999999999999999999"])
+
+
+def matching(draw, key):
+    """The tags of a comparator and a match type, in either order, and what draws keys for them."""
+    kind = draw.choice(["", ":is", ":contains", ":matches", ":value", ":count"])
+    comparator = draw.choice(["", "i;octet", "i;ascii-casemap"] + ["i;ascii-numeric"] * (kind not in (":contains", ":matches")))
+    tags = []
+    if kind:
+        tags.append(kind + (f' "{draw.choice(RELATIONS)}"' if kind in (":value", ":count") else ""))
+    if comparator:
+        tags.append(f':comparator "{comparator}"')
+    draw.shuffle(tags)
+    if kind == ":matches":
+        key = pattern if draw.random() < 0.7 else key
+    elif kind == ":count" or comparator == "i;ascii-numeric":
+        key = number
+    return tags, key
+
+
+def part(draw):
+    return draw.choice([[], [":all"], [":localpart"], [":domain"], [":user"], [":detail"]])
+
+
+def address_key(draw):
+    whole = address(draw)
+    local, domain = whole.split("@")
+    return draw.choice([whole, local, domain, local.partition("+")[0], local.partition("+")[2], "", "a", "example", "alice"])
+
+
+def names(draw):
+    return strings(draw, lambda draw: draw.choice(NAMES))
+
+
+def test(draw, size, depth=0):
+    kind = draw.choice(["header", "header", "header", "address", "address", "envelope", "exists", "size", "bool"] + ["not", "allof", "anyof"] * (depth < 2))
+    if kind in ("header", "address", "envelope"):
+        tags, key = matching(draw, word if kind == "header" else address_key)
+        if kind != "header":
+            tags += part(draw)
+            draw.shuffle(tags)
+        what = {"header": names, "address": lambda draw: strings(draw, lambda draw: draw.choice(ADDRESS_NAMES)),
+                "envelope": lambda draw: strings(draw, lambda draw: draw.choice(["from", "to", "From"]), 2)}[kind](draw)
+        return " ".join([kind, *tags, what, strings(draw, key)])
+    if kind == "exists":
+        return f"exists {names(draw)}"
+    if kind == "size":
+        return f"size {draw.choice([':over', ':under'])} {max(size + draw.choice([-1, 0, 1, -100, 100]), 0)}"
+    if kind == "bool":
+        return draw.choice(["true", "false"])
+    if kind == "not":
+        return f"not {test(draw, size, depth + 1)}"
+    return f"{kind} ({', '.join(test(draw, size, depth + 1) for _ in range(draw.randint(1, 3)))})"
+
+
+def script(draw, size):
+    rules = [f'if {test(draw, size)} {{ fileinto "r{at}"; }}\r\n' for at in range(RULES)]
+    return f"require [{', '.join(quoted(draw, name) for name in EXTENSIONS)}];\r\n" + "".join(rules)
+
+
+def drawn(seed):
+    draw = random.Random(seed)
+    mail = message(draw)
+    sender = draw.choice(["", address(draw), address(draw)])
+    return script(draw, len(mail)), mail, sender, address(draw)
+
+
+def by_sieved(text, mail, sender, recipient):
+    given = b"%d\n" % len(text) + text + mail
+    done = subprocess.run([SIEVED, "try", "--from", sender, "--to", recipient], input=given, capture_output=True)
+    if done.returncode:
+        return done.stdout.decode().strip()
+    return sorted(set(re.findall(r"^file (r\d+)$", done.stdout.decode(), re.M)))
+
+
+def by_sieve_test(folder, text, mail, sender, recipient):
+    with open(f"{folder}/a.sieve", "wb") as file:
+        file.write(text)
+    with open(f"{folder}/a.eml", "wb") as file:
+        file.write(mail)
+    words = ["sieve-test", "-C", "-c", f"{folder}/dovecot.conf", "-f", sender, "-a", recipient, "-r", recipient, f"{folder}/a.sieve", f"{folder}/a.eml"]
+    done = subprocess.run(words, capture_output=True, env={"USER": "nobody", "HOME": folder, "PATH": os.environ["PATH"]})
+    if done.returncode:
+        return "invalid: " + done.stderr.decode(errors="replace").strip()
+    return sorted(set(re.findall(r"store message in folder: (r\d+)$", done.stdout.decode(errors="replace"), re.M)))
+
+
+CONFIGURATION = """mail_location = maildir:{folder}/mail
+postmaster_address = postmaster@example.org
+mail_uid = nobody
+mail_gid = nogroup
+first_valid_uid = 1
+log_path = /dev/stderr
+"""
+
+
+def compared(seeds):
+    """The seeds at which the two differ, with what each says."""
+    found = []
+    with tempfile.TemporaryDirectory() as folder:
+        os.chmod(folder, 0o777)
+        with open(f"{folder}/dovecot.conf", "w") as file:
+            file.write(CONFIGURATION.format(folder=folder))
+        for seed in seeds:
+            text, mail, sender, recipient = drawn(seed)
+            ours = by_sieved(text.encode(), mail, sender, recipient)
+            theirs = by_sieve_test(folder, text.encode(), mail, sender, recipient)
+            if ours != theirs:
+                found.append((seed, ours, theirs))
+    return found
+
+
+def told(seed, ours, theirs):
+    text, mail, sender, recipient = drawn(seed)
+    rules = {f"r{at}": rule for at, rule in enumerate(text.splitlines()[1:])}
+    apart = sorted(set(ours) ^ set(theirs)) if isinstance(ours, list) and isinstance(theirs, list) else []
+    lines = [f"seed {seed}: sieved {ours}, sieve-test {theirs}", *(rules[name] for name in apart), f"from <{sender}> to <{recipient}>"]
+    return "\n".join(lines) + "\n" + mail.decode(errors="replace")
+
+
+def scripts_and_mails():
+    trials.need("sieve-test")
+    count = trials.some(SCRIPTS)
+    seeds = range(SEED * 1_000_000, SEED * 1_000_000 + count)
+    lanes = os.cpu_count()
+    with ThreadPoolExecutor(lanes) as pool:
+        found = [one for some in pool.map(compared, [seeds[at::lanes] for at in range(lanes)]) for one in some]
+    for one in found[:20]:
+        print(told(*one), flush=True)
+    assert not found, f"{len(found)} of {count} differ"
+    return f"{count} scripts of {RULES} rules do the same by both"
+
+
+def main():
+    def program(path):
+        global SIEVED
+        SIEVED = path
+    trials.main({"scripts_and_mails": scripts_and_mails}, program)
+
+
+if __name__ == "__main__":
+    main()
