@@ -5,10 +5,12 @@
 
 A script has six rules, each of which files into a folder of its own where its test holds; the tests, their keys and the messages
 are drawn with a fixed seed, so that keys are near to what the messages have. 20,000 scripts are tried, with --quick 2,000. What
-DECISIONS explains under "Where Pigeonhole answers otherwise" isn't drawn. It needs dovecot-sieve, and root where it runs as root
-(sieve-test then runs as nobody).
+DECISIONS explains, and what `sieve-test` can't be given, isn't drawn: a null sender, one part of the envelope named twice, dates
+that only one of the two reads, zones that are none. The moment is that of the run, the host's zone UTC. It needs root and
+dovecot-sieve; sieve-test runs as nobody.
 """
 import base64, os, random, re, subprocess, sys, tempfile, time
+from datetime import datetime, timedelta, timezone
 from concurrent.futures import ThreadPoolExecutor
 
 HERE = os.path.dirname(os.path.abspath(__file__))
@@ -17,12 +19,18 @@ import trials
 
 SIEVED = os.path.abspath(f"{HERE}/../crates/sieved/out/sieved")
 RULES, SCRIPTS, SEED = 6, 20_000, 5228
-EXTENSIONS = ["fileinto", "envelope", "subaddress", "relational", "comparator-i;ascii-numeric", "encoded-character"]
+EXTENSIONS = ["fileinto", "envelope", "subaddress", "relational", "comparator-i;ascii-numeric", "encoded-character", "date"]
 RELATIONS = ["gt", "ge", "lt", "le", "eq", "ne"]
 WORDS = ["lunch", "Lunch", "LUNCH", "dinner", "a", "b", "ab", "re:", "[list]", "10", "9", "010", "3", "*", "?", "\\", "x y", "caf\u00e9", "no", "é", "$", "${hex:41}"]
-NAMES = ["Subject", "X-A", "X-B", "X-Priority", "List-Id", "To", "From", "Cc", "Date", "Received", "X-None"]
+NAMES = ["Subject", "X-A", "X-B", "X-Priority", "List-Id", "To", "From", "Cc", "Date", "Received", "X-Date", "X-None"]
 ADDRESS_NAMES = ["From", "To", "Cc", "Sender", "Reply-To", "Resent-To"]
 LOCALS = ["alice", "bob", "Alice", "alice+lists", "bob+", "+x", "a.b", "a+b+c", "x"]
+DATES = ["Date", "X-Date", "Received", "X-None", "Subject"]
+DAYS, MONTHS = "Mon Tue Wed Thu Fri Sat Sun".split(), "Jan Feb Mar Apr May Jun Jul Aug Sep Oct Nov Dec".split()
+PARTS = "year month day date julian hour minute second time iso8601 std11 zone weekday".split()
+# Of the moment of the run what doesn't change while it is looked at, or seldom: such a script is tried again.
+SLOW_PARTS = "year month day date julian hour zone weekday".split()
+ZONES = ["+0000", "-0000", "+0100", "-0500", "+0530", "-0330", "+1200", "-1130"]
 DOMAINS = ["example.org", "example.net", "Example.ORG", "mail.example.org", "b.c"]
 
 
@@ -52,14 +60,51 @@ def encoded(draw, text):
     return "=?utf-8?Q?" + "".join(chr(o) if chr(o).isalnum() and o < 128 else f"={o:02X}" for o in octets) + "?="
 
 
+def moment(draw):
+    """A moment and the zone that it is written in, some at the ends of years, months and days."""
+    zone = timezone(timedelta(minutes=draw.choice([0, 60, -300, 330, -210, 720, -690])))
+    when = draw.choice([datetime(1999, 12, 31, 23, 59, 59), datetime(2000, 2, 29, 0, 0, 0), datetime(2026, 11, 27, 12, 0, 0), datetime(1997, 4, 1, 9, 6, 31)])
+    return (when + timedelta(seconds=draw.choice([0, 1, -1, 3600, 86_400 * draw.randint(0, 4_000), draw.randint(0, 10**8)]))).replace(tzinfo=zone)
+
+
+def date(draw):
+    """A date by RFC 5322, 3.3 and 4.3."""
+    when = moment(draw)
+    day = draw.choice(["", f"{DAYS[when.weekday()]}, "])
+    zone = draw.choice([when.strftime("%z"), when.strftime("%z"), "GMT", "EST", "PDT", "UT"])
+    clock = when.strftime(draw.choice(["%H:%M:%S", "%H:%M:%S", "%H:%M"]))
+    return f"{day}{when.day} {MONTHS[when.month - 1]} {when.year} {clock} {zone}"
+
+
+def date_key(draw):
+    when = moment(draw)
+    return draw.choice([
+        when.strftime("%Y"), when.strftime("%m"), when.strftime("%d"), when.strftime("%Y-%m-%d"), when.strftime("%H"), when.strftime("%M"),
+        when.strftime("%S"), when.strftime("%H:%M:%S"), when.strftime("%z"), when.strftime("%w"), str((when.date() - datetime(1858, 11, 17).date()).days),
+        "1997", "2026", "0", "1", "12", "00", "", "-", ":", "+0", "x", datetime.now(timezone.utc).strftime("%Y-%m-%d"),
+    ])
+
+
+def date_test(draw):
+    """A test `date` or `currentdate`."""
+    is_current = draw.random() < 0.3
+    tags, key = matching(draw, date_key)
+    zone = draw.choice(["", f':zone "{draw.choice(ZONES)}"'] + [":originalzone"] * (not is_current))
+    tags += [zone] if zone else []
+    draw.shuffle(tags)
+    name = [] if is_current else [quoted(draw, draw.choice(DATES))]
+    which = draw.choice(SLOW_PARTS if is_current else PARTS)
+    return " ".join(["currentdate" if is_current else "date", *tags, *name, quoted(draw, draw.choice([which, which.upper()])), strings(draw, key)])
+
+
 def value(draw, name):
     """What a field of that name has, as it stands in the message."""
     if name in ADDRESS_NAMES:
         return ", ".join(mailbox(draw) for _ in range(draw.randint(1, 3)))
-    if name == "Date":
-        return "Tue, 1 Apr 1997 09:06:31 -0800"
+    if name in ("Date", "X-Date"):
+        return draw.choice([date(draw), date(draw), date(draw), "tomorrow", ""])
     if name == "Received":
-        return "from a.example by b.example; Tue, 1 Apr 1997 10:06:31 +0200"
+        return f"from a.example by b.example; {date(draw)}"
     if name == "X-Priority":
         return draw.choice(["1", "2", "3", "03", "10", "1 (highest)", "high", "", "18446744073709551617"])
     text = words(draw)
@@ -126,15 +171,17 @@ def names(draw):
 
 
 def test(draw, size, depth=0):
-    kind = draw.choice(["header", "header", "header", "address", "address", "envelope", "exists", "size", "bool"] + ["not", "allof", "anyof"] * (depth < 2))
+    kind = draw.choice(["header", "header", "header", "address", "address", "envelope", "date", "date", "exists", "size", "bool"] + ["not", "allof", "anyof"] * (depth < 2))
     if kind in ("header", "address", "envelope"):
         tags, key = matching(draw, word if kind == "header" else address_key)
         if kind != "header":
             tags += part(draw)
             draw.shuffle(tags)
         what = {"header": names, "address": lambda draw: strings(draw, lambda draw: draw.choice(ADDRESS_NAMES)),
-                "envelope": lambda draw: strings(draw, lambda draw: draw.choice(["from", "to", "From"]), 2)}[kind](draw)
+                "envelope": lambda draw: draw.choice(['"from"', '"to"', '["From"]', '["from", "to"]', '["to", "FROM"]'])}[kind](draw)
         return " ".join([kind, *tags, what, strings(draw, key)])
+    if kind == "date":
+        return date_test(draw)
     if kind == "exists":
         return f"exists {names(draw)}"
     if kind == "size":
@@ -154,13 +201,13 @@ def script(draw, size):
 def drawn(seed):
     draw = random.Random(seed)
     mail = message(draw)
-    sender = draw.choice(["", address(draw), address(draw)])
-    return script(draw, len(mail)), mail, sender, address(draw)
+    return script(draw, len(mail)), mail, address(draw), address(draw)
 
 
 def by_sieved(text, mail, sender, recipient):
     given = b"%d\n" % len(text) + text + mail
-    done = subprocess.run([SIEVED, "try", "--from", sender, "--to", recipient], input=given, capture_output=True)
+    words = [SIEVED, "try", "--at", str(int(time.time())), "--from", sender, "--to", recipient]
+    done = subprocess.run(words, input=given, capture_output=True)
     if done.returncode:
         return done.stdout.decode().strip()
     return sorted(set(re.findall(r"^file (r\d+)$", done.stdout.decode(), re.M)))
@@ -172,7 +219,7 @@ def by_sieve_test(folder, text, mail, sender, recipient):
     with open(f"{folder}/a.eml", "wb") as file:
         file.write(mail)
     words = ["sieve-test", "-C", "-c", f"{folder}/dovecot.conf", "-f", sender, "-a", recipient, "-r", recipient, f"{folder}/a.sieve", f"{folder}/a.eml"]
-    done = subprocess.run(words, capture_output=True, env={"USER": "nobody", "HOME": folder, "PATH": os.environ["PATH"]})
+    done = subprocess.run(words, capture_output=True, env={"USER": "nobody", "HOME": folder, "PATH": os.environ["PATH"], "TZ": "UTC"})
     if done.returncode:
         return "invalid: " + done.stderr.decode(errors="replace").strip()
     return sorted(set(re.findall(r"store message in folder: (r\d+)$", done.stdout.decode(errors="replace"), re.M)))
@@ -196,9 +243,12 @@ def compared(seeds):
             file.write(CONFIGURATION.format(folder=folder))
         for seed in seeds:
             text, mail, sender, recipient = drawn(seed)
-            ours = by_sieved(text.encode(), mail, sender, recipient)
-            theirs = by_sieve_test(folder, text.encode(), mail, sender, recipient)
-            if ours != theirs:
+            for _ in range(2):
+                ours = by_sieved(text.encode(), mail, sender, recipient)
+                theirs = by_sieve_test(folder, text.encode(), mail, sender, recipient)
+                if ours == theirs:
+                    break
+            else:
                 found.append((seed, ours, theirs))
     return found
 
@@ -212,6 +262,7 @@ def told(seed, ours, theirs):
 
 
 def scripts_and_mails():
+    trials.need_root()
     trials.need("sieve-test")
     count = trials.some(SCRIPTS)
     seeds = range(SEED * 1_000_000, SEED * 1_000_000 + count)
