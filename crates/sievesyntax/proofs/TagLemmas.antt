@@ -4,6 +4,8 @@ use Rattle.std.specs.List.{Contains}
 use Rattle.std.proofs.lemmas.List.Elements.{Contains-append_left, Contains-append_right, Contains-append_cases, Contains-push, Contains-push_cases}
 use Rattle.std.specs.Cmp.Lexicographic.{pointwise}
 use Rattle.octets.proofs.Lists.{some_pair}
+use Rattle.maildates.specs.Zones.{numeric_of}
+use Rattle.maildates.proofs.ZoneLaws.{numeric_again}
 use Rattle.sievesyntax.specs.declared.table.tag.Tag.TheVariants as T
 use Rattle.sievesyntax.specs.declared.tree.checks.Bound.TheVariants as B
 use Rattle.sievesyntax.specs.declared.tree.checks.Matching.TheVariants as M
@@ -52,6 +54,8 @@ tag_value_read (A.Tag T.Comparator ∷ (A.Text name ∷ to)) = option_map (λ c.
 tag_value_read (A.Tag T.Days ∷ (A.Number n ∷ to)) = Some (S.Days n, to)
 tag_value_read (A.Tag T.Copy ∷ to) = Some (S.Copy, to)
 tag_value_read (A.Tag T.Create ∷ to) = Some (S.Create, to)
+tag_value_read (A.Tag T.Zone ∷ (A.Text s ∷ to)) = option_map (λ z. (S.Zone z, to)) (numeric_of s)
+tag_value_read (A.Tag T.OriginalZone ∷ to) = Some (S.OriginalZone, to)
 tag_value_read (A.Tag T.Seconds ∷ (A.Number n ∷ to)) = Some (S.Seconds n, to)
 tag_value_read (A.Tag T.Subject ∷ (A.Text s ∷ to)) = Some (S.Subject s, to)
 tag_value_read (A.Tag T.From ∷ (A.Text s ∷ to)) = Some (S.From s, to)
@@ -94,6 +98,8 @@ tag_value_again S.Mime from to at = ap tag_value_read at
 tag_value_again (S.Handle s) from to at = ap tag_value_read at
 tag_value_again S.Copy from to at = ap tag_value_read at
 tag_value_again S.Create from to at = ap tag_value_read at
+tag_value_again (S.Zone zone) from to (string, (at, is)) = ap tag_value_read at ∙ ap (option_map (λ z. (S.Zone z, to))) (numeric_again string zone is)
+tag_value_again S.OriginalZone from to at = ap tag_value_read at
 
 -- at most one tag stands at the front
 pub tag_value_only : (s t : TagValue) (from to end : List Argument) → IsTagValue s from to → IsTagValue t from end → (t ≡ s) × (end ≡ to)
@@ -128,6 +134,8 @@ plain_none S.Mime from to at plain = subst IsPlain at plain
 plain_none (S.Handle s) from to at plain = subst IsPlain at plain
 plain_none S.Copy from to at plain = subst IsPlain at plain
 plain_none S.Create from to at plain = subst IsPlain at plain
+plain_none (S.Zone zone) from to at plain = subst IsPlain at.1.0 plain
+plain_none S.OriginalZone from to at plain = subst IsPlain at plain
 
 -- nothing is among none
 pub none_there : (x : TagGroup) → Contains [] x → ⊥
