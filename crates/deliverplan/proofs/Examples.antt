@@ -29,7 +29,7 @@ abbrev field : List ℕ → FieldText
 field name = record { name = name; raw = codes " x" }
 
 abbrev mail_with : List ℕ → List FieldText → MailSpec
-mail_with sender fields = record { fields = fields; from = sender; to = codes "alice@example.org"; size = 1; octets = 65 ∷ [] }
+mail_with sender fields = record { fields = fields; from = sender; to = codes "alice@example.org"; size = 1; octets = 65 ∷ []; moment = 0; zone = pos 0 }
 
 abbrev away : VacArgs
 away = record { days = None; seconds = None; subject = None; from = None; addresses = []; mime = false; handle = None; reason = codes "Away." }
