@@ -1,6 +1,6 @@
 -- What is read in a language has no tag that the language hasn't.
 use Rattle.std.proofs.Common.{◌≡◌, ℕ, Bool, true, false, cond, List, [], ◌∷◌, Option, Some, None, refl, sym, ap, subst, inl, inr}
-use Rattle.octets.proofs.Lists.{some_is}
+use Rattle.octets.proofs.Lists.{some_pair}
 use Rattle.sievelex.specs.declared.token.Content.{Content}
 use Rattle.sievelex.specs.declared.token.Content.TheVariants as C
 use Rattle.sievelex.specs.declared.token.Mark.TheVariants as K
@@ -135,7 +135,7 @@ string_known (A.Text other) string e = tt
 string_known (A.Strings strings) string e = tt
 
 pair_there : {X Y : Type 0} (one : Option X) (two : Option Y) (both : X × Y) → pair one two ≡ Some both → (one ≡ Some both.0) × (two ≡ Some both.1)
-pair_there (Some x) (Some y) both e = let same = some_is _ _ e in (ap (λ (b : X × Y). Some b.0) same, ap (λ (b : X × Y). Some b.1) same)
+pair_there {X} {Y} (Some x) (Some y) both e = let same = some_pair (x, y) both e in (ap (λ (v : X). Some v) same.0, ap (λ (v : Y). Some v) same.1)
 pair_there (Some x) None both e = absurd (cc e)
 pair_there None two both e = absurd (cc e)
 

@@ -1,11 +1,12 @@
 -- Lemmas on tags.
-use Rattle.std.proofs.Common.{◌≡◌, ℕ, List, [], ◌∷◌, ◌++◌, map, Option, Some, None, option_map, cond, codes, nat_eq, refl, sym, ap, ◌∙◌, subst, arith, inl, inr}
+use Rattle.std.proofs.Common.{◌≡◌, ℕ, ℤ, List, [], ◌∷◌, ◌++◌, map, Option, Some, None, option_map, cond, codes, nat_eq, refl, sym, ap, ◌∙◌, subst, arith, inl, inr}
 use Rattle.std.specs.List.{Contains}
 use Rattle.std.proofs.lemmas.List.Elements.{Contains-append_left, Contains-append_right, Contains-append_cases, Contains-push, Contains-push_cases}
 use Rattle.std.specs.Cmp.Lexicographic.{pointwise}
 use Rattle.octets.proofs.Lists.{some_pair}
-use Rattle.maildates.specs.Zones.{numeric_of}
-use Rattle.maildates.proofs.ZoneLaws.{numeric_again}
+use Rattle.maildates.specs.Zones.{numeric_of, IsOffset}
+use Rattle.maildates.proofs.WordLemmas.{map_some}
+use Rattle.maildates.proofs.ZoneLaws.{numeric_is, numeric_again}
 use Rattle.sievesyntax.specs.declared.table.tag.Tag.TheVariants as T
 use Rattle.sievesyntax.specs.declared.tree.checks.Bound.TheVariants as B
 use Rattle.sievesyntax.specs.declared.tree.checks.Matching.TheVariants as M
@@ -100,6 +101,17 @@ tag_value_again S.Copy from to at = ap tag_value_read at
 tag_value_again S.Create from to at = ap tag_value_read at
 tag_value_again (S.Zone zone) from to (string, (at, is)) = ap tag_value_read at ∙ ap (option_map (λ z. (S.Zone z, to))) (numeric_again string zone is)
 tag_value_again S.OriginalZone from to at = ap tag_value_read at
+
+-- where no zone follows, no tag stands at the front
+pub zone_nowhere : (args : List Argument) → ((s : List ℕ) (zone : ℤ) (to : List Argument) → args ≡ A.Text s ∷ to → IsOffset s zone → ⊥) → (s : TagValue) (to : List Argument) → IsTagValue s (A.Tag T.Zone ∷ args) to → ⊥
+zone_nowhere args none s to at = step args none (tag_value_again s (A.Tag T.Zone ∷ args) to at)
+  where
+    step : (rest : List Argument) → ((string : List ℕ) (zone : ℤ) (end : List Argument) → rest ≡ A.Text string ∷ end → IsOffset string zone → ⊥) → tag_value_read (A.Tag T.Zone ∷ rest) ≡ Some (s, to) → ⊥
+    step [] nowhere e = absurd (cc e)
+    step (A.Tag t ∷ more) nowhere e = absurd (cc e)
+    step (A.Number n ∷ more) nowhere e = absurd (cc e)
+    step (A.Strings strings ∷ more) nowhere e = absurd (cc e)
+    step (A.Text string ∷ more) nowhere e = let found = map_some _ (numeric_of string) (s, to) e in nowhere string found.0 more refl (numeric_is string found.0 found.1.0)
 
 -- at most one tag stands at the front
 pub tag_value_only : (s t : TagValue) (from to end : List Argument) → IsTagValue s from to → IsTagValue t from end → (t ≡ s) × (end ≡ to)
