@@ -4,6 +4,7 @@
 mod address;
 mod cached_mail;
 mod copies;
+mod date;
 mod envelope;
 mod field_cache;
 mod header;

@@ -1,5 +1,5 @@
 //! A message with its envelope and when it is delivered, as the tests of a script see it.
-ghost use Rattle.std.specs.Prelude.{◌≡◌, [], IfOk, unwrap_or, option_copied};
+ghost use Rattle.std.specs.Prelude.{◌≡◌, ℕ, List, [], ◌∷◌, IfOk, MatchOption, unwrap_or, option_copied};
 ghost use Rattle.mailhead.specs.Fields.{texts_of};
 ghost use Rattle.maildates.specs.DateTimes.{IsZone};
 ghost use Rattle.sieveexec.specs.Mails.{mail_of};
@@ -123,6 +123,13 @@ impl<'a> Mail<'a> {
         ensures { unwrap_or (option_copied result) [] ≡ raws_keyed self.now.fields key.now }
     {
         self.index.get(key)
+    }
+
+    /// The raw value of the first field that has this name in lower case.
+    pub(crate) fn first_raw(&self, key: &Octets) -> Option<&'a [u8]>
+        ensures { MatchOption result (raws_keyed self.now.fields key.now ≡ []) (λ raw. (more : List (List ℕ)) × (raws_keyed self.now.fields key.now ≡ raw.now ∷ more)) }
+    {
+        self.raws(key)?.as_slice().first().copied()
     }
 
     /// Whether some field has this name in lower case.
