@@ -2,8 +2,6 @@
 use Rattle.std.proofs.Common.{◌≡◌, ◌∙◌, ◌∷◌, ◌++◌, ℕ, ℤ, pos, neg_ℤ, List, [], Some, None, true, false, refl, sym, ap, inl, inr, arith, rules}
 use Rattle.std.specs.Prelude.{codes}
 use Rattle.std.proofs.lemmas.Int.{ints}
-use Rattle.jiff_core.specs.Calendar.{days_in_month, days_from_civil, day_count, days_of_years, days_of_months}
-use Rattle.jiff_core.proofs.SignedLemmas.{signed_arith}
 use Rattle.maildates.specs.declared.date_time.DateTime.{DateTime}
 use Rattle.maildates.specs.DateTimes.{IsDateTime, IsMoment, IsSameMoment, local_minutes}
 use Rattle.maildates.specs.Finding.{date_of, is_civil}
@@ -67,11 +65,11 @@ is_date hour zone early utc = record { civil = search rules; hour = omega (arith
 
 shown : (m : MailSpec) → IsShown m (Given (pos 0)) (at 10 20 (pos 120)) (at 8 20 (pos 0))
 unfolding local_minutes
-shown m = record { is_date = is_date 8 (pos 0) refl refl; zone_is = refl; minutes = omega (arith, signed_arith); second = refl }
+shown m = record { is_date = is_date 8 (pos 0) refl refl; zone_is = refl; minutes = omega (arith, ints); second = refl }
 
 not_shown : (m : MailSpec) → IsShown m (Given (pos 0)) (at 10 20 (pos 120)) (at 10 20 (pos 0)) → ⊥
 unfolding local_minutes
-not_shown m is = omega (arith, signed_arith, is.minutes)
+not_shown m is = omega (arith, ints, is.minutes)
 
 -- by its own clock it is what it was
 own : (m : MailSpec) → IsShown m Original (at 10 20 (pos 120)) (at 10 20 (pos 120))
