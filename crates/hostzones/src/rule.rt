@@ -43,9 +43,17 @@ impl ZoneRule {
         ensures is { result *ℤ pos 60 ≡ (offset_at self.now.rule (nanos_at moment)).seconds }
     {
         let nanosecond = i128::from(moment.min(LAST)) * 1_000_000_000;
-        let offset = self.rule.to_offset(Timestamp { nanosecond });
-        (offset.seconds / 60) as i16
+        minutes_of(self.rule.to_offset(Timestamp { nanosecond }))
     }
+}
+
+/// An offset in minutes.
+fn minutes_of(offset: Offset) -> i16
+    requires { IsWhole offset.seconds }
+    ensures within { IsZone result }
+    ensures is { result *ℤ pos 60 ≡ offset.seconds }
+{
+    (offset.seconds / 60) as i16
 }
 
 /// Whether an offset is of whole minutes and less than a day.

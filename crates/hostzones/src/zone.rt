@@ -1,5 +1,5 @@
 //! The zone of a host.
-ghost use Rattle.std.specs.Prelude.{◌≡◌, pos, IfSome, IfNone};
+ghost use Rattle.std.specs.Prelude.{◌≡◌, ℕ, pos, IfSome, IfNone};
 ghost use Rattle.maildates.specs.DateTimes.{IsZone};
 
 use crate::rule::ZoneRule;
