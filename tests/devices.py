@@ -21,7 +21,7 @@ STEPS = [
     ('GETSCRIPT "main"\r\n', "{40}\r\n" + SCRIPT + "\r\nOK\r\n", "active"),
     ("LOGOUT\r\n", 'OK "Bye."\r\n', "active"),
 ]
-GREETING = ('"IMPLEMENTATION" "sieved 1"\r\n"SASL" "PLAIN"\r\n"SIEVE" "fileinto envelope vacation copy vacation-seconds subaddress relational comparator-i;ascii-numeric encoded-character mailbox"\r\n'
+GREETING = ('"IMPLEMENTATION" "sieved 1"\r\n"SASL" "PLAIN"\r\n"SIEVE" "fileinto envelope vacation copy vacation-seconds subaddress relational comparator-i;ascii-numeric encoded-character mailbox date"\r\n'
             '"MAXREDIRECTS" "16"\r\n"UNAUTHENTICATE"\r\n"VERSION" "1.0"\r\nOK\r\n')
 NONE = 'NO (NONEXISTENT) "No such script."\r\n'
 # The next session: what is there, and it is taken away again.

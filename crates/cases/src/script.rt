@@ -48,7 +48,7 @@ fn try_section(
         "wanted" => try_script(alloc, tally, trial, section),
         "holds" => try_tests(alloc, tally, trial, section, b"discard"),
         "fails" => try_tests(alloc, tally, trial, section, b"file INBOX"),
-        _ => tally.skip(section, &["from", "to", "script", "message", "mail"]),
+        _ => tally.skip(section, &["from", "to", "at", "zone", "script", "message", "mail"]),
     }
 }
 
@@ -103,7 +103,7 @@ fn discard_after(alloc: Global, test: &str) -> Result<Octets, AllocError> {
         &mut script,
         &[
             Text(
-                b"require [\"envelope\", \"subaddress\", \"relational\", \"comparator-i;ascii-numeric\", \"encoded-character\", \"mailbox\"]; if ",
+                b"require [\"envelope\", \"subaddress\", \"relational\", \"comparator-i;ascii-numeric\", \"encoded-character\", \"mailbox\", \"date\"]; if ",
             ),
             Text(test.as_slice()),
             Text(b" { discard; }"),
@@ -125,7 +125,7 @@ fn answer_on(
     message: &[u8],
 ) -> Result<Octets, AllocError> {
     let envelope = trial.envelope(alloc)?;
-    match attempt(alloc, script, envelope, message) {
+    match attempt(alloc, script, envelope, message, trial.when()) {
         Ok(outcome) => of_outcome(alloc, &outcome),
         Err(ScriptError::Fault(fault)) => of_fault(alloc, fault),
         Err(ScriptError::Memory) => Err(AllocError),

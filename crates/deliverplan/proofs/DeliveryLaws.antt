@@ -51,9 +51,9 @@ one_delivered : (own : Addr) (moment : ℕ) (mail : MailSpec) (disposition : Dis
 one_delivered own moment mail (Acts deeds) a one two after other is was = one_carried own moment mail deeds a one two after other is was
 one_delivered own moment mail (Tells text) a one two after other is was = (is.reported ∙ sym was.reported, is.changed ∙ sym was.changed)
 
-pub one_delivery : (own : Addr) (moment : ℕ) (mail : MailSpec) (text : Option (List ℕ)) (a : Account) (one two : Report) (after other : Account)
-    → Delivers own moment mail text a one after → Delivers own moment mail text a two other → (one ≡ two) × (after ≡ other)
-one_delivery own moment mail text a one two after other is was =
-    let P : Disposition → Type 0 = λ d. DeliversAs own moment mail d a one after in
+pub one_delivery : (own : Addr) (mail : MailSpec) (text : Option (List ℕ)) (a : Account) (one two : Report) (after other : Account)
+    → Delivers own mail text a one after → Delivers own mail text a two other → (one ≡ two) × (after ≡ other)
+one_delivery own mail text a one two after other is was =
+    let P : Disposition → Type 0 = λ d. DeliversAs own mail.moment mail d a one after in
     let same = one_disposition (is_looping mail) text mail is.disposition was.disposition is.disposes was.disposes in
-    one_delivered own moment mail was.disposition a one two after other (subst P same is.delivers) was.delivers
+    one_delivered own mail.moment mail was.disposition a one two after other (subst P same is.delivers) was.delivers

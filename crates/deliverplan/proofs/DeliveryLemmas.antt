@@ -1,5 +1,5 @@
 -- A plan meets the definition of a delivery, by what becomes of the message.
-use Rattle.std.proofs.Common.{◌≡◌, ℕ, Bool, true, false, List, Option, Some, None, refl, ap, sym, ◌∙◌, subst, inl, inr, Result, IfOk}
+use Rattle.std.proofs.Common.{◌≡◌, Bool, true, false, List, Option, Some, None, refl, ap, sym, ◌∙◌, subst, inl, inr, Result, IfOk}
 use Rattle.std.specs.declared.alloc.AllocError.{AllocError}
 use Rattle.addrparts.specs.declared.address.Addr.{Addr}
 use Rattle.sievesyntax.specs.Tree.{Commands}
@@ -22,57 +22,57 @@ at_ease text mail disposition calm is =
     let P : Bool → Type 0 = λ looping. DisposesIf looping text mail disposition in
     subst P (sym calm) is
 
-pub looping : (own : Addr) (moment : ℕ) (mail : MailSpec) (text : Option (List ℕ)) (plan : Plan) (a : Account)
-    → is_looping mail ≡ true → IsNoticePlan moment mail loop_text plan → Delivers own moment mail text a plan.report (delivers plan a)
-looping own moment mail text plan a loops is =
+pub looping : (own : Addr) (mail : MailSpec) (text : Option (List ℕ)) (plan : Plan) (a : Account)
+    → is_looping mail ≡ true → IsNoticePlan mail.moment mail loop_text plan → Delivers own mail text a plan.report (delivers plan a)
+looping own mail text plan a loops is =
     let P : Bool → Type 0 = λ looping. DisposesIf looping text mail (Tells loop_text) in
-    record { disposition = Tells loop_text; disposes = subst P (sym loops) refl; delivers = telling moment mail loop_text plan a is }
+    record { disposition = Tells loop_text; disposes = subst P (sym loops) refl; delivers = telling mail.moment mail loop_text plan a is }
 
-pub keeping : (view : View) (moment : ℕ) (mail : MailSpec) (plan : Plan) (a : Account)
-    → is_looping mail ≡ false → IsActingPlan view.address moment mail (moment_under view.replies) kept plan → IsViewOf view mail.from a
-    → Delivers view.address moment mail None a plan.report (delivers plan a)
-keeping view moment mail plan a calm is of =
-    record { disposition = Acts kept; disposes = at_ease None mail (Acts kept) calm refl; delivers = acting view moment mail kept plan a is of }
+pub keeping : (view : View) (mail : MailSpec) (plan : Plan) (a : Account)
+    → is_looping mail ≡ false → IsActingPlan view.address mail.moment mail (moment_under view.replies) kept plan → IsViewOf view mail.from a
+    → Delivers view.address mail None a plan.report (delivers plan a)
+keeping view mail plan a calm is of =
+    record { disposition = Acts kept; disposes = at_ease None mail (Acts kept) calm refl; delivers = acting view mail.moment mail kept plan a is of }
 
-pub running : (view : View) (moment : ℕ) (mail : MailSpec) (text : List ℕ) (tree : Commands) (deeds done : Actions) (plan : Plan) (a : Account)
+pub running : (view : View) (mail : MailSpec) (text : List ℕ) (tree : Commands) (deeds done : Actions) (plan : Plan) (a : Account)
     → is_looping mail ≡ false → Means text tree → deeds ≡ done → Done done ≡ outcome_at mail tree
-    → IsActingPlan view.address moment mail (moment_under view.replies) deeds plan → IsViewOf view mail.from a
-    → Delivers view.address moment mail (Some text) a plan.report (delivers plan a)
-running view moment mail text tree deeds done plan a calm means same comes is of =
+    → IsActingPlan view.address mail.moment mail (moment_under view.replies) deeds plan → IsViewOf view mail.from a
+    → Delivers view.address mail (Some text) a plan.report (delivers plan a)
+running view mail text tree deeds done plan a calm means same comes is of =
     record {
       disposition = Acts deeds;
       disposes = at_ease (Some text) mail (Acts deeds) calm (inl (tree, means, ap (λ d. Acts d) same ∙ ap disposition_of comes));
-      delivers = acting view moment mail deeds plan a is of;
+      delivers = acting view mail.moment mail deeds plan a is of;
     }
 
-pub failing : (own : Addr) (moment : ℕ) (mail : MailSpec) (text : List ℕ) (tree : Commands) (failure : Failure) (plan : Plan) (a : Account)
-    → is_looping mail ≡ false → Means text tree → Failed failure ≡ outcome_at mail tree → IsNoticePlan moment mail (failure_text failure) plan
-    → Delivers own moment mail (Some text) a plan.report (delivers plan a)
-failing own moment mail text tree failure plan a calm means comes is =
+pub failing : (own : Addr) (mail : MailSpec) (text : List ℕ) (tree : Commands) (failure : Failure) (plan : Plan) (a : Account)
+    → is_looping mail ≡ false → Means text tree → Failed failure ≡ outcome_at mail tree → IsNoticePlan mail.moment mail (failure_text failure) plan
+    → Delivers own mail (Some text) a plan.report (delivers plan a)
+failing own mail text tree failure plan a calm means comes is =
     record {
       disposition = Tells (failure_text failure);
       disposes = at_ease (Some text) mail (Tells (failure_text failure)) calm (inl (tree, means, ap disposition_of comes));
-      delivers = telling moment mail (failure_text failure) plan a is;
+      delivers = telling mail.moment mail (failure_text failure) plan a is;
     }
 
-pub refusing : (own : Addr) (moment : ℕ) (mail : MailSpec) (text : List ℕ) (plan : Plan) (a : Account)
-    → is_looping mail ≡ false → ((tree : Commands) → Means text tree → ⊥) → IsNoticePlan moment mail invalid_text plan
-    → Delivers own moment mail (Some text) a plan.report (delivers plan a)
-refusing own moment mail text plan a calm none is =
+pub refusing : (own : Addr) (mail : MailSpec) (text : List ℕ) (plan : Plan) (a : Account)
+    → is_looping mail ≡ false → ((tree : Commands) → Means text tree → ⊥) → IsNoticePlan mail.moment mail invalid_text plan
+    → Delivers own mail (Some text) a plan.report (delivers plan a)
+refusing own mail text plan a calm none is =
     record {
       disposition = Tells invalid_text;
       disposes = at_ease (Some text) mail (Tells invalid_text) calm (inr (none, refl));
-      delivers = telling moment mail invalid_text plan a is;
+      delivers = telling mail.moment mail invalid_text plan a is;
     }
 
 -- the plan does so for each account that the view is of
-abbrev pub Delivering : View → ℕ → MailSpec → Option (List ℕ) → Plan → Type 0
-Delivering view moment mail text plan =
-    (a : Account) → IsViewOf view mail.from a → Delivers view.address moment mail text a plan.report (delivers plan a)
+abbrev pub Delivering : View → MailSpec → Option (List ℕ) → Plan → Type 0
+Delivering view mail text plan =
+    (a : Account) → IsViewOf view mail.from a → Delivers view.address mail text a plan.report (delivers plan a)
 
 -- the text is the active script's
-pub under : (view : View) (moment : ℕ) (mail : MailSpec) (active text : Option (List ℕ)) (r : Result Plan AllocError)
-    → active ≡ text → IfOk r (Delivering view moment mail text) → IfOk r (Delivering view moment mail active)
-under view moment mail active text r same is =
-    let P : Option (List ℕ) → Type 0 = λ t. IfOk r (Delivering view moment mail t) in
+pub under : (view : View) (mail : MailSpec) (active text : Option (List ℕ)) (r : Result Plan AllocError)
+    → active ≡ text → IfOk r (Delivering view mail text) → IfOk r (Delivering view mail active)
+under view mail active text r same is =
+    let P : Option (List ℕ) → Type 0 = λ t. IfOk r (Delivering view mail t) in
     subst P (sym same) is

@@ -1,5 +1,5 @@
 -- The definitions on small cases: one that is right, and one that nearly is.
-use Rattle.std.proofs.Common.{◌≡◌, ℕ, suc, true, false, List, [], ◌∷◌, ◌++◌, codes, Some, None, refl, ap}
+use Rattle.std.proofs.Common.{◌≡◌, ℕ, suc, true, false, List, [], ◌∷◌, ◌++◌, codes, Some, None, refl, ap, pos}
 use Rattle.std.specs.Prelude.{replicate}
 use Rattle.mailhead.specs.Fields.{FieldText}
 use Rattle.addrparts.specs.declared.address.Addr.{Addr}
@@ -29,7 +29,7 @@ abbrev field : List ℕ → FieldText
 field name = record { name = name; raw = codes " x" }
 
 abbrev mail_with : List ℕ → List FieldText → MailSpec
-mail_with sender fields = record { fields = fields; from = sender; to = codes "alice@example.org"; size = 1; octets = 65 ∷ [] }
+mail_with sender fields = record { fields = fields; from = sender; to = codes "alice@example.org"; size = 1; octets = 65 ∷ []; moment = 5; zone = pos 0 }
 
 abbrev away : VacArgs
 away = record { days = None; seconds = None; subject = None; from = None; addresses = []; mime = false; handle = None; reason = codes "Away." }
@@ -113,7 +113,7 @@ reports = (refl, refl)
 
 -- ---- a delivery
 
-delivered : (a : Account) → Delivers alice 5 (mail_with bob []) None a (report_of kept Silent) (files_copies (inbox ∷ []) (65 ∷ []) a)
+delivered : (a : Account) → Delivers alice (mail_with bob []) None a (report_of kept Silent) (files_copies (inbox ∷ []) (65 ∷ []) a)
 delivered a =
     record {
       disposition = Acts kept;
@@ -121,12 +121,12 @@ delivered a =
       delivers = record { response = Silent; is_response = refl; reported = refl; changed = refl };
     }
 
-looped : (a : Account) → Delivers alice 5 (mail_with bob (replicate 101 (field (codes "Received")))) None a (notice_report loop_text) (notes 5 loop_text (files_copies (inbox ∷ []) (65 ∷ []) a))
+looped : (a : Account) → Delivers alice (mail_with bob (replicate 101 (field (codes "Received")))) None a (notice_report loop_text) (notes 5 loop_text (files_copies (inbox ∷ []) (65 ∷ []) a))
 looped a = record { disposition = Tells loop_text; disposes = refl; delivers = record { reported = refl; changed = refl } }
 
 -- near miss: the delivery leaves a notice, and doesn't tell of it
-silent_notice : (a after : Account) → Delivers alice 5 (mail_with bob (replicate 101 (field (codes "Received")))) None a (report_of kept Silent) after → ⊥
+silent_notice : (a after : Account) → Delivers alice (mail_with bob (replicate 101 (field (codes "Received")))) None a (report_of kept Silent) after → ⊥
 silent_notice a after is =
-    let same = one_delivery alice 5 (mail_with bob (replicate 101 (field (codes "Received")))) None a (report_of kept Silent) (notice_report loop_text) after _ is (looped a) in
+    let same = one_delivery alice (mail_with bob (replicate 101 (field (codes "Received")))) None a (report_of kept Silent) (notice_report loop_text) after _ is (looped a) in
     let told : None ≡ Some loop_text = ap (λ r. r.notice) same.0 in
     cc

@@ -153,9 +153,9 @@ abbrev pub DeliversAs : Addr → ℕ → MailSpec → Disposition → Account �
 DeliversAs own moment mail (Acts deeds) a report a2 = CarriesOut own moment mail deeds a report a2
 DeliversAs own moment mail (Tells text) a report a2 = LeavesNotice moment mail text a report a2
 
--- a mail is delivered to an account with this address at a moment, under the text of its active script, if one is active:
+-- a mail is delivered at its moment to an account with this address, under the text of its active script, if one is active:
 -- what it reports, and the account afterwards
-pub record Delivers (own : Addr) (moment : ℕ) (mail : MailSpec) (text : Option (List ℕ)) (a : Account) (report : Report) (a2 : Account) : Type 0 where
+pub record Delivers (own : Addr) (mail : MailSpec) (text : Option (List ℕ)) (a : Account) (report : Report) (a2 : Account) : Type 0 where
   pub disposition : Disposition
   pub disposes : Disposes text mail disposition
-  pub delivers : DeliversAs own moment mail disposition a report a2
+  pub delivers : DeliversAs own mail.moment mail disposition a report a2

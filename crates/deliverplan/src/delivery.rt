@@ -24,7 +24,7 @@ use vacreply::MAX_MOMENT;
 
 /// What a delivery of a mail is to write and to report, under the text of the account's active script, if one is active.
 ///
-/// A moment is in seconds since 1 January 1970, up to [`MAX_MOMENT`]. The text is checked, compiled and run once; the
+/// The mail's moment is at most [`MAX_MOMENT`]. The text is checked, compiled and run once; the
 /// fields are looked through once more for Received, and where a `vacation` was executed for the reasons to send no
 /// response. The message and the sender are borrowed: no copy of the message is made. Lack of memory is the only error;
 /// a `:subject` or `:from` of 2^32 octets and more, which no script within the limits has, is answered so too.
@@ -33,31 +33,29 @@ pub fn plan<'m>(
     view: &View,
     active: Option<&[u8]>,
     mail: &'m Mail<'_>,
-    moment: u64,
 ) -> Result<Plan<'m>, AllocError>
-    requires { moment ≤ MAX_MOMENT }
+    requires { mail.now.moment ≤ MAX_MOMENT }
     ensures { IfOk result (λ plan. (a : Account) → IsViewOf view.now mail.now.from a
-        → Delivers view.now.address moment mail.now (contents active.entry) a plan.report (delivers plan a)) }
+        → Delivers view.now.address mail.now (contents active.entry) a plan.report (delivers plan a)) }
 {
     if is_looping(mail) {
-        return leave_notice(alloc, mail, moment, LOOP_TEXT);
+        return leave_notice(alloc, mail, LOOP_TEXT);
     }
     let Some(text) = active else {
         let filed = inbox(alloc)?;
-        return act(alloc, view, mail, moment, filed, &[], None);
+        return act(alloc, view, mail, filed, &[], None);
     };
     match outcome_on(alloc, text, mail) {
         Ok(Outcome::Done { filed, sent, reply }) => act(
             alloc,
             view,
             mail,
-            moment,
             filed,
             sent.as_slice(),
             reply.as_ref(),
         ),
-        Ok(Outcome::Failed(failure)) => leave_notice(alloc, mail, moment, failure_text(failure)),
-        Err(ScriptError::Fault(_)) => leave_notice(alloc, mail, moment, INVALID_TEXT),
+        Ok(Outcome::Failed(failure)) => leave_notice(alloc, mail, failure_text(failure)),
+        Err(ScriptError::Fault(_)) => leave_notice(alloc, mail, INVALID_TEXT),
         Err(ScriptError::Memory) => Err(AllocError),
     }
 }
@@ -66,17 +64,16 @@ pub fn plan<'m>(
 fn leave_notice<'m>(
     alloc: Global,
     mail: &'m Mail<'_>,
-    moment: u64,
     text: &[u8],
 ) -> Result<Plan<'m>, AllocError>
-    ensures { IfOk result (IsNoticePlan moment mail.now text.now) }
+    ensures { IfOk result (IsNoticePlan mail.now.moment mail.now text.now) }
 {
     let filed = inbox(alloc)?;
     let notice = Octets::from_slice(alloc, text)?;
     Ok(Plan {
         message: mail.message(),
         sender: mail.from(),
-        moment,
+        moment: mail.moment(),
         report: Report {
             filed,
             sent: Texts::new(alloc),
@@ -92,21 +89,20 @@ fn act<'m>(
     alloc: Global,
     view: &View,
     mail: &'m Mail<'_>,
-    moment: u64,
     filed: Texts,
     targets: &[Addr],
     reply: Option<&VacArgs>,
 ) -> Result<Plan<'m>, AllocError>
-    requires { moment ≤ MAX_MOMENT }
-    ensures { IfOk result (IsActingPlan view.now.address moment mail.now (moment_under view.now.replies)
+    requires { mail.now.moment ≤ MAX_MOMENT }
+    ensures { IfOk result (IsActingPlan view.now.address mail.now.moment mail.now (moment_under view.now.replies)
         (record { filed = filed; sent = targets.now; reply = option_copied reply.entry })) }
 {
     let sent = spelled(alloc, targets)?;
-    let VacationPlan { vacation, reply } = plan_vacation(alloc, view, mail, moment, reply)?;
+    let VacationPlan { vacation, reply } = plan_vacation(alloc, view, mail, mail.moment(), reply)?;
     Ok(Plan {
         message: mail.message(),
         sender: mail.from(),
-        moment,
+        moment: mail.moment(),
         report: Report {
             filed,
             sent,

@@ -8,6 +8,6 @@ ghost use Rattle.deliverplan.specs.Delivered.{Delivers};
 
 /// A delivery has one report, and the account is one afterwards.
 pub fn delivery_of_a_mail()
-    ensures { (own : Addr) (moment : ℕ) (mail : MailSpec) (text : Option (List ℕ)) (a : Account) (one two : Report) (after other : Account)
-        → Delivers own moment mail text a one after → Delivers own moment mail text a two other → (one ≡ two) × (after ≡ other) }
+    ensures { (own : Addr) (mail : MailSpec) (text : Option (List ℕ)) (a : Account) (one two : Report) (after other : Account)
+        → Delivers own mail text a one after → Delivers own mail text a two other → (one ≡ two) × (after ≡ other) }
 {}

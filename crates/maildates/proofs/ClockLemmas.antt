@@ -11,14 +11,14 @@ use Rattle.maildates.specs.declared.date_time.DateTime.{DateTime}
 use Rattle.maildates.specs.DateTimes.{IsDateTime, IsZone, IsClock, IsSameMoment, local_minutes}
 
 -- a date's day as jiff has it
-pub date_of : (date : DateTime) → IsDateTime date → Date
+unfoldable pub date_of : (date : DateTime) → IsDateTime date → Date
 date_of date is = record { year = pos date.year; month = date.month; day = date.day; year_in = is.civil.0; month_in = is.civil.1; day_in = is.civil.2 }
 
 pub nonnegative : (z : ℤ) → pos 0 ≤ℤ z → pos (unsigned_abs z) ≡ z
 nonnegative (pos n) since = refl
 nonnegative (negsuc n) since = absurd (omega (arith, signed_arith))
 
-scale : (e : ℤ) (n hm : ℕ) → e +ℤ pos 4_371_587 ≡ pos n → ((e *ℤ pos 1440) +ℤ pos hm) +ℤ pos 6_295_085_280 ≡ pos (n * 1440 + hm)
+pub scale : (e : ℤ) (n hm : ℕ) → e +ℤ pos 4_371_587 ≡ pos n → ((e *ℤ pos 1440) +ℤ pos hm) +ℤ pos 6_295_085_280 ≡ pos (n * 1440 + hm)
 scale e n hm is = omega (arith, signed_arith)
 
 -- the day and the minute of it

@@ -5,3 +5,5 @@ pub mod ReadingLaws
 pub mod ClockLemmas
 pub mod DateExamples
 pub mod ZoneLaws
+pub mod MomentLaws
+pub mod FindingLaws

@@ -6,3 +6,4 @@ pub mod DateTimes
 pub mod DateTexts
 pub mod Reading
 pub mod Parts
+pub mod Finding

@@ -18,12 +18,13 @@ use Rattle.deliverplan.proofs.DeliveryLaws.{one_delivery}
 use Rattle.mailengine.specs.declared.answer.Answer.{Answer}
 use Rattle.mailengine.specs.Limits.{limit_refusal}
 use Rattle.mailstore.specs.Account.{row_with}
-use Rattle.mailengine.specs.AccountEvents.{DeliversTo, active_text, Refuses}
+use Rattle.mailengine.specs.AccountEvents.{DeliversTo, deciding_text, Refuses}
 use Rattle.sessions.specs.Table.{RepliesOf}
 use Rattle.mailengine.specs.Upkeep.{instead}
 use Rattle.mailengine.proofs.UpkeepLemmas.{keeps_one}
 use Rattle.mailstore.specs.declared.refusal.Refusal.TheVariants.{UserExists, UserHasMail}
 use Rattle.mailengine.specs.OwnActs as own
+use Rattle.mailengine.specs.Terms.{Terms}
 use Rattle.mailengine.specs.OwnActs.{Act, ActsAlone, Alone, CommandsAlone, RepliesAlone, ReceivesOpen, ReceivesIn, RenewsAlone, JoinsIn, TakesRowAlone, TakesOpen, TakesFirstAlone, TakesMailOpen}
 
 -- any two replies that a row allows agree in whether the word is OK
@@ -123,27 +124,27 @@ commands_one account command octets one two is was = is.changed ∙ (go account 
 
 -- ---- deliveries
 
-delivered_one : (moment : ℕ) (envelope : Envelope) (message : List ℕ) (a : Account) (r1 r2 : Report) (one two : Account) → DeliversTo moment envelope message a r1 one → DeliversTo moment envelope message a r2 two → one ≡ two
-delivered_one moment envelope message a r1 r2 one two is was =
+delivered_one : (terms : Terms) (envelope : Envelope) (message : List ℕ) (a : Account) (r1 r2 : Report) (one two : Account) → DeliversTo terms envelope message a r1 one → DeliversTo terms envelope message a r2 two → one ≡ two
+delivered_one terms envelope message a r1 r2 one two is was =
     let found : Some is.own ≡ Some was.own = sym (bare-found a.address is.own is.address) ∙ bare-found a.address was.own was.address in
     let same : is.own ≡ was.own = cc in
-    (one_delivery was.own moment (mail_of message envelope) (active_text a) a r1 r2 one two (subst (λ own. Delivers own moment (mail_of message envelope) (active_text a) a r1 one) same is.delivers) was.delivers).1
+    (one_delivery was.own (mail_of message envelope terms.when) (deciding_text terms.default a) a r1 r2 one two (subst (λ own. Delivers own (mail_of message envelope terms.when) (deciding_text terms.default a) a r1 one) same is.delivers) was.delivers).1
 
-receives_one : (o : Option Refusal) (account : Option Account) (envelope : Envelope) (message : List ℕ) (moment : ℕ) (answer : Answer) (one two : Option Account)
-    → ReceivesIn o account envelope message moment answer one → ReceivesIn o account envelope message moment answer two → one ≡ two
-receives_one (Some refusal) account envelope message moment answer one two is was = is.stays ∙ sym was.stays
-receives_one None account envelope message moment answer one two is was = go (open_one account) is was
+receives_one : (o : Option Refusal) (account : Option Account) (envelope : Envelope) (message : List ℕ) (terms : Terms) (answer : Answer) (one two : Option Account)
+    → ReceivesIn o account envelope message terms answer one → ReceivesIn o account envelope message terms answer two → one ≡ two
+receives_one (Some refusal) account envelope message terms answer one two is was = is.stays ∙ sym was.stays
+receives_one None account envelope message terms answer one two is was = go (open_one account) is was
   where
-    go : (o : Option Account) → ReceivesOpen account o envelope message moment answer one → ReceivesOpen account o envelope message moment answer two → one ≡ two
+    go : (o : Option Account) → ReceivesOpen account o envelope message terms answer one → ReceivesOpen account o envelope message terms answer two → one ≡ two
     go None is was = is.stays ∙ sym was.stays
-    go (Some a) is was = is.changed ∙ (ap (λ b. Some b) (delivered_one moment envelope message a is.report was.report is.after was.after is.delivers was.delivers) ∙ sym was.changed)
+    go (Some a) is was = is.changed ∙ (ap (λ b. Some b) (delivered_one terms envelope message a is.report was.report is.after was.after is.delivers was.delivers) ∙ sym was.changed)
 
 -- ---- acts
 
 act_one : (user : List ℕ) (account : Option Account) (act : Act) (one two : Option Account) → ActsAlone user account act one → ActsAlone user account act two → one ≡ two
 act_one user account (own.Commands command octets) one two is was = commands_one account command octets one two is was
 act_one user account (own.LogsIn password succeeds) one two is was = is.stays ∙ sym was.stays
-act_one user account (own.Receives envelope message moment answer) one two is was = receives_one (limit_refusal envelope message moment) account envelope message moment answer one two is was
+act_one user account (own.Receives envelope message terms answer) one two is was = receives_one (limit_refusal envelope message terms.when.moment) account envelope message terms answer one two is was
 act_one user account (own.Joins address salt password answer) one two (inl (new, is)) (inl (too, was)) = go account is was
   where
     over : (a : Account) (closed full : Bool) → MatchBool closed (MatchBool full (Refuses UserHasMail (Some a) answer one) (RenewsAlone a address salt password answer one)) (Refuses UserExists (Some a) answer one)

@@ -38,6 +38,7 @@ use Rattle.mailengine.specs.declared.upkeep.Upkeep.{Upkeep}
 use Rattle.mailengine.specs.Upkeep.{kept_password, instead, put_instead, Keeping}
 use Rattle.mailengine.proofs.UpkeepLemmas.{lost_stays}
 use Rattle.mailengine.specs.OwnActs.{Act, Commands, LogsIn, Receives, Joins, TakesOut, TakesMail, IsKept, TakesFirstAlone, TakesMailOpen, RepliesAlone, CommandsAlone, admits, ReceivesOpen, ReceivesIn, RenewsAlone, JoinsIn, TakesRowAlone, TakesOpen, ActsAlone, Alone, is_user, when_of, is_welcome, login_acts, text_acts, command_acts, item_acts, step_acts, is_lost, event_acts, acts_in, acts, IsAlone}
+use Rattle.mailengine.specs.Terms.{Terms, terms}
 use Rattle.mailengine.specs.World.{World, InSession, Opens, Steps, Happens, MayRefuse, IsRefused, Next, Runs}
 
 -- ---- accounts by name
@@ -113,11 +114,11 @@ module _ (user name : List ℕ) (accounts later : Accounts) (answer : Answer) wh
   refused_stays refusal is = ap (λ all. get all user) is.stays
 
   -- a delivery: to another, or lost
-  pub delivery_other : (envelope : Envelope) (message : List ℕ) (moment : ℕ) → Delivery accounts name envelope message moment answer later
+  pub delivery_other : (envelope : Envelope) (message : List ℕ) (terms : Terms) → Delivery accounts name envelope message terms answer later
       → (is_user user name ≡ false) ⊎ (is_lost answer ≡ true) → get later user ≡ get accounts user
-  delivery_other envelope message moment made why = go (limit_refusal envelope message moment) made
+  delivery_other envelope message terms made why = go (limit_refusal envelope message terms.when.moment) made
     where
-      inserted : (o : Option Account) → DeliversIn accounts name moment envelope message o answer later → get later user ≡ get accounts user
+      inserted : (o : Option Account) → DeliversIn accounts name terms envelope message o answer later → get later user ≡ get accounts user
       inserted None is = refused_stays (absence (get accounts name)) is
       inserted (Some a) is = by why
         where
@@ -125,7 +126,7 @@ module _ (user name : List ℕ) (accounts later : Accounts) (answer : Answer) wh
           by (inl other) = ap (λ all. get all user) is.changed ∙ put_other accounts user name is.account other
           by (inr lost) = absurd (not_lost answer (Delivered is.report) is.reported refl lost)
 
-      go : (o : Option Refusal) → DeliversUnder o accounts name moment envelope message answer later → get later user ≡ get accounts user
+      go : (o : Option Refusal) → DeliversUnder o accounts name terms envelope message answer later → get later user ≡ get accounts user
       go (Some refusal) is = refused_stays refusal is
       go None is = inserted (open_of accounts name) is
 
@@ -195,15 +196,15 @@ module _ (user : List ℕ) (accounts later : Accounts) (answer : Answer) (itself
   refused_alone : (refusal : Refusal) (account : Option Account) → get accounts user ≡ account → Refuses refusal accounts answer later → Refuses refusal account answer (get later user)
   refused_alone refusal account has is = record { refused = is.refused; stays = ap (λ all. get all user) is.stays ∙ has }
 
-  pub delivery_own : (envelope : Envelope) (message : List ℕ) (moment : ℕ) → Delivery accounts user envelope message moment answer later
-      → ActsAlone user (get accounts user) (Receives envelope message moment answer) (get later user)
-  delivery_own envelope message moment made = go (limit_refusal envelope message moment) made
+  pub delivery_own : (envelope : Envelope) (message : List ℕ) (terms : Terms) → Delivery accounts user envelope message terms answer later
+      → ActsAlone user (get accounts user) (Receives envelope message terms answer) (get later user)
+  delivery_own envelope message terms made = go (limit_refusal envelope message terms.when.moment) made
     where
-      inserted : (o : Option Account) → DeliversIn accounts user moment envelope message o answer later → ReceivesOpen (get accounts user) o envelope message moment answer (get later user)
+      inserted : (o : Option Account) → DeliversIn accounts user terms envelope message o answer later → ReceivesOpen (get accounts user) o envelope message terms answer (get later user)
       inserted None is = refused_alone (absence (get accounts user)) (get accounts user) refl is
       inserted (Some a) is = record { report = is.report; after = is.account; delivers = is.delivers; says = is.reported; changed = ap (λ all. get all user) is.changed ∙ put_own accounts user is.account itself }
 
-      go : (o : Option Refusal) → DeliversUnder o accounts user moment envelope message answer later → ReceivesIn o (get accounts user) envelope message moment answer (get later user)
+      go : (o : Option Refusal) → DeliversUnder o accounts user terms envelope message answer later → ReceivesIn o (get accounts user) envelope message terms answer (get later user)
       go (Some refusal) is = refused_alone refusal (get accounts user) refl is
       go None is = inserted (open_of accounts user) is
 
@@ -471,9 +472,9 @@ happens_alone user w next (Step s) answer made = go (get w.sessions s) made
     go (Some c) is = steps_alone user w next s c answer is
 happens_alone user w next (GiveUp s) answer made = in_session user w next answer (get w.sessions s) _ (λ c is. ap (λ v. v.accounts) is.changed) made
 happens_alone user w next (Close s) answer made = in_session user w next answer (get w.sessions s) _ (λ c is. ap (λ v. v.accounts) is.changed) made
-happens_alone user w next (Deliver name envelope message moment) answer made =
-    account_alone user name w next answer (Receives envelope message moment answer) made.0 made.2 (delivery_other user name w.accounts made.0 answer envelope message moment made.1)
-    (λ is. delivery_own user w.accounts made.0 answer (bytes_eq_refl user) envelope message moment (subst (λ n. Delivery w.accounts n envelope message moment answer made.0) (sym (same_name user name is)) made.1))
+happens_alone user w next (Deliver name envelope message when default) answer made =
+    account_alone user name w next answer (Receives envelope message (terms when default) answer) made.0 made.2 (delivery_other user name w.accounts made.0 answer envelope message (terms when default) made.1)
+    (λ is. delivery_own user w.accounts made.0 answer (bytes_eq_refl user) envelope message (terms when default) (subst (λ n. Delivery w.accounts n envelope message (terms when default) answer made.0) (sym (same_name user name is)) made.1))
 happens_alone user w next (AddUser name address salt password) answer made =
     account_alone user name w next answer (Joins address salt password answer) made.0 made.2 (addition_other user name w.accounts made.0 answer address salt password made.1)
     (λ is. addition_own user w.accounts made.0 answer (bytes_eq_refl user) address salt password (subst (λ n. Addition w.accounts n address salt password answer made.0) (sym (same_name user name is)) made.1))

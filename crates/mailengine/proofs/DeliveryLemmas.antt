@@ -23,9 +23,10 @@ use Rattle.sessions.proofs.ActLemmas.{no_glance, glanced, glances_then, accounts
 use Rattle.mailengine.specs.declared.answer.Answer.{Answer}
 use Rattle.mailengine.specs.declared.answer.Answer.TheVariants.{Delivered, Refused}
 use Rattle.mailengine.specs.declared.delivery.Lookup.{Lookup}
-use Rattle.mailengine.specs.AccountEvents.{absence, DeliversIn, DeliversUnder, Delivery}
+use Rattle.mailengine.specs.AccountEvents.{absence, text_or, DeliversIn, DeliversUnder, Delivery}
 use Rattle.mailengine.specs.Hosts.{TurnsBy, MayTurnBy, MayRefuseDelivery, RefusesDelivery, ActsDelivery}
 use Rattle.mailengine.specs.Limits.{limit_refusal, message_limit, is_envelope, moment_limit}
+use Rattle.mailengine.specs.Terms.{Terms}
 use Rattle.mailengine.specs.Lookups.{LooksUp, IsLookup}
 
 -- a moment that no limit stands against
@@ -53,41 +54,41 @@ absent_refuses envelope message moment q refusal none is (inl absent) = subst (�
 absent_refuses envelope message moment q refusal none is (inr shut) = subst (λ o. IfErr o (RefusesDelivery envelope message moment)) (sym is) (inr (none, inr (inl shut)))
 
 -- what the plan says of the mail that was read, of the message under the envelope
-pub planned_at : (view : View) (text active : Option (List ℕ)) (mail : MailSpec) (envelope : Envelope) (message : List ℕ) (moment : ℕ) (plan : Plan) → mail ≡ mail_of message envelope → active ≡ text
-    → ((a : Account) → IsViewOf view mail.from a → Delivers view.address moment mail active a plan.report (delivers plan a))
-    → (a : Account) → IsViewOf view envelope.from a → Delivers view.address moment (mail_of message envelope) text a plan.report (delivers plan a)
-planned_at view text active mail envelope message moment plan read same planned =
-    subst (λ o. (a : Account) → IsViewOf view envelope.from a → Delivers view.address moment (mail_of message envelope) o a plan.report (delivers plan a)) same
-    (subst (λ (m : MailSpec). (a : Account) → IsViewOf view m.from a → Delivers view.address moment m active a plan.report (delivers plan a)) read planned)
+pub planned_at : (view : View) (text active : Option (List ℕ)) (mail : MailSpec) (envelope : Envelope) (message : List ℕ) (terms : Terms) (plan : Plan) → mail ≡ mail_of message envelope terms.when → active ≡ text
+    → ((a : Account) → IsViewOf view mail.from a → Delivers view.address mail active a plan.report (delivers plan a))
+    → (a : Account) → IsViewOf view envelope.from a → Delivers view.address (mail_of message envelope terms.when) text a plan.report (delivers plan a)
+planned_at view text active mail envelope message terms plan read same planned =
+    subst (λ o. (a : Account) → IsViewOf view envelope.from a → Delivers view.address (mail_of message envelope terms.when) o a plan.report (delivers plan a)) same
+    (subst (λ (m : MailSpec). (a : Account) → IsViewOf view m.from a → Delivers view.address m active a plan.report (delivers plan a)) read planned)
 
-module _ (user : List ℕ) (envelope : Envelope) (message : List ℕ) (moment : ℕ) where
+module _ (user : List ℕ) (envelope : Envelope) (message : List ℕ) (terms : Terms) where
   abbrev Row : Accounts → Answer → Accounts → Type 0
-  Row accounts = Delivery accounts user envelope message moment
+  Row accounts = Delivery accounts user envelope message terms
 
   abbrev May : Refusal → Type 0
-  May = MayRefuseDelivery envelope message moment
+  May = MayRefuseDelivery envelope message terms.when.moment
 
   -- a limit stands against it
-  pub delivery_limited : (a : State) (e : Refusal) → limit_refusal envelope message moment ≡ Some e → ActsDelivery user envelope message moment a a (Err e)
+  pub delivery_limited : (a : State) (e : Refusal) → limit_refusal envelope message terms.when.moment ≡ Some e → ActsDelivery user envelope message terms a a (Err e)
   delivery_limited a e is = acts_read a a (TurnsBy Row May (Refused e)) (MayTurnBy Row) (Err e) (λ clean open_before. tt) (no_glance a)
-      (λ clean accounts shown. inl (subst (λ o. DeliversUnder o accounts user moment envelope message (Refused e) accounts) (sym is) (record { refused = refl; stays = refl })))
+      (λ clean accounts shown. inl (subst (λ o. DeliversUnder o accounts user terms envelope message (Refused e) accounts) (sym is) (record { refused = refl; stays = refl })))
 
-  module _ (none : limit_refusal envelope message moment ≡ None) where
+  module _ (none : limit_refusal envelope message terms.when.moment ≡ None) where
     -- the event without visible cause
     transient_turn : (e : Refusal) (accounts : Accounts) → IsTransient e → TurnsBy Row May (Refused e) accounts accounts
     transient_turn e accounts transient = inr (e, (transient, none), refl, refl)
 
     -- nothing was done for want of memory
-    pub delivery_lacks : (a : State) (q : Result Report Refusal) → OnOk q ⊥ → IfErr q IsTransient → ActsDelivery user envelope message moment a a q
+    pub delivery_lacks : (a : State) (q : Result Report Refusal) → OnOk q ⊥ → IfErr q IsTransient → ActsDelivery user envelope message terms a a q
     delivery_lacks a (Ok report) undone transient = absurd undone
     delivery_lacks a (Err e) undone transient = acts_read a a (TurnsBy Row May (Refused e)) (MayTurnBy Row) (Err e) (λ clean open_before. tt) (no_glance a) (λ clean accounts shown. transient_turn e accounts transient)
 
-    in_row : (accounts later : Accounts) (answer : Answer) → DeliversIn accounts user moment envelope message (open_of accounts user) answer later → Row accounts answer later
-    in_row accounts later answer is = subst (λ o. DeliversUnder o accounts user moment envelope message answer later) (sym none) is
+    in_row : (accounts later : Accounts) (answer : Answer) → DeliversIn accounts user terms envelope message (open_of accounts user) answer later → Row accounts answer later
+    in_row accounts later answer is = subst (λ o. DeliversUnder o accounts user terms envelope message answer later) (sym none) is
 
     -- the account couldn't be read, without visible cause
-    pub delivery_unread : (a b : State) (e : Refusal) (q : Result Report Refusal) → q ≡ Err e → (e ≡ NoUser → ⊥) → LooksUp user (IsLookup envelope.from) a b (Err e) → ActsDelivery user envelope message moment a b q
-    delivery_unread a b e q is there look = subst (λ o. ActsDelivery user envelope message moment a b o) (sym is)
+    pub delivery_unread : (a b : State) (e : Refusal) (q : Result Report Refusal) → q ≡ Err e → (e ≡ NoUser → ⊥) → LooksUp user (IsLookup envelope.from) a b (Err e) → ActsDelivery user envelope message terms a b q
+    delivery_unread a b e q is there look = subst (λ o. ActsDelivery user envelope message terms a b o) (sym is)
         (acts_read a b (TurnsBy Row May (Refused e)) (MayTurnBy Row) (Err e) (λ clean open_before. tt) (glanced a b (Err e) look.reads.keeps) (λ clean accounts shown. turn accounts look.reads.named))
       where
         turn : (accounts : Accounts) → (e ≡ NoUser) ⊎ IsTransient e → TurnsBy Row May (Refused e) accounts accounts
@@ -108,39 +109,39 @@ module _ (user : List ℕ) (envelope : Envelope) (message : List ℕ) (moment : 
           let seen = shown (subst (λ q. IfErr q (λ e. e ≡ NoUser → IsTrue a.is_open)) was (look.sure before) refl) in
           subst (λ q. IfErr q (λ e. e ≡ NoUser → HasNoOpen user accounts)) was (look.reads.absent before accounts seen) refl
 
-      pub delivery_absent : (refusal : Refusal) (q : Result Report Refusal) → w ≡ Ok refusal → q ≡ Err refusal → ActsDelivery user envelope message moment a c q
-      delivery_absent refusal q told is = subst (λ o. ActsDelivery user envelope message moment a c o) (sym is)
+      pub delivery_absent : (refusal : Refusal) (q : Result Report Refusal) → w ≡ Ok refusal → q ≡ Err refusal → ActsDelivery user envelope message terms a c q
+      delivery_absent refusal q told is = subst (λ o. ActsDelivery user envelope message terms a c o) (sym is)
           (acts_read a c (TurnsBy Row May (Refused refusal)) (MayTurnBy Row) (Err refusal) (λ clean open_before. tt) asked
           (λ clean accounts shown.
           let why : refusal ≡ absence (get accounts user) =
           subst (λ o. IfOk o (λ f. f ≡ absence (get accounts user))) told (late.found clean accounts (accounts_stay a b (glanced a b r look.reads.keeps) (clean_mid clean) accounts shown)) in
-          inl (in_row accounts accounts (Refused refusal) (subst (λ o. DeliversIn accounts user moment envelope message o (Refused refusal) accounts) (sym (none_open clean accounts shown)) (record { refused = ap Refused why; stays = refl })))))
+          inl (in_row accounts accounts (Refused refusal) (subst (λ o. DeliversIn accounts user terms envelope message o (Refused refusal) accounts) (sym (none_open clean accounts shown)) (record { refused = ap Refused why; stays = refl })))))
 
-      pub delivery_unasked : (q : Result Report Refusal) → OnOk q ⊥ → IfErr q IsTransient → ActsDelivery user envelope message moment a c q
+      pub delivery_unasked : (q : Result Report Refusal) → OnOk q ⊥ → IfErr q IsTransient → ActsDelivery user envelope message terms a c q
       delivery_unasked (Ok report) undone transient = absurd undone
       delivery_unasked (Err e) undone transient = acts_read a c (TurnsBy Row May (Refused e)) (MayTurnBy Row) (Err e) (λ clean open_before. tt) asked (λ clean accounts shown. transient_turn e accounts transient)
 
     module _ (a b : State) (r : Result Lookup Refusal) (looked : Lookup) (was : r ≡ Ok looked) (look : LooksUp user (IsLookup envelope.from) a b r) where
       -- no memory for the mail or the plan
-      pub delivery_failed : (q : Result Report Refusal) → OnOk q ⊥ → IfErr q IsTransient → ActsDelivery user envelope message moment a b q
+      pub delivery_failed : (q : Result Report Refusal) → OnOk q ⊥ → IfErr q IsTransient → ActsDelivery user envelope message terms a b q
       delivery_failed (Ok report) undone transient = absurd undone
       delivery_failed (Err e) undone transient =
           acts_read a b (TurnsBy Row May (Refused e)) (MayTurnBy Row) (Err e) (λ clean open_before. tt) (glanced a b r look.reads.keeps) (λ clean accounts shown. transient_turn e accounts transient)
 
-      module _ (plan : Plan) (planned : (account : Account) → IsViewOf looked.view envelope.from account → Delivers looked.view.address moment (mail_of message envelope) looked.text account plan.report (delivers plan account))
+      module _ (plan : Plan) (planned : (account : Account) → IsViewOf looked.view envelope.from account → Delivers looked.view.address (mail_of message envelope terms.when) (text_or looked.text terms.default) account plan.report (delivers plan account))
           (c : State) (w : Result (Unit {0}) Refusal) (late : WritesAccount user (delivers plan) b c w) where
         -- what the plan does is the delivery
         planned_row : (accounts : Accounts) → OfOpen accounts user (IsLookup envelope.from looked) → Row accounts (Delivered plan.report) (with_user accounts user (delivers plan))
         planned_row accounts own =
             in_row accounts (with_user accounts user (delivers plan)) (Delivered plan.report)
-            (subst (λ o. DeliversIn accounts user moment envelope message o (Delivered plan.report) (with_user accounts user (delivers plan))) (sym own.1)
+            (subst (λ o. DeliversIn accounts user terms envelope message o (Delivered plan.report) (with_user accounts user (delivers plan))) (sym own.1)
             (record {
               report = plan.report;
               account = delivers plan own.0;
               delivers = record {
                 own = looked.view.address;
                 address = own.2.view.address;
-                delivers = subst (λ text. Delivers looked.view.address moment (mail_of message envelope) text own.0 plan.report (delivers plan own.0)) own.2.text (planned own.0 own.2.view);
+                delivers = subst (λ text. Delivers looked.view.address (mail_of message envelope terms.when) (text_or text terms.default) own.0 plan.report (delivers plan own.0)) own.2.text (planned own.0 own.2.view);
               };
               reported = refl;
               changed = ap (in_place accounts user (delivers plan)) (open_there (get accounts user) own.0 own.1);
@@ -154,12 +155,12 @@ module _ (user : List ℕ) (envelope : Envelope) (message : List ℕ) (moment : 
             let own = found clean accounts p in
             (has_there accounts user (subst IsSome (sym own.1) refl), planned_row accounts own)
 
-        pub delivery_made : (y : Unit {0}) → w ≡ Ok y → ActsDelivery user envelope message moment a c (Ok plan.report)
+        pub delivery_made : (y : Unit {0}) → w ≡ Ok y → ActsDelivery user envelope message terms a c (Ok plan.report)
         delivery_made y is =
             acts_made a b c r looked was look.reads.keeps (HasUser user) (λ all. with_user all user (delivers plan)) w late.made late.settled late.same late.crash (TurnsBy Row May (Delivered plan.report)) (MayTurnBy Row) y plan.report is
             (λ clean accounts p. let f = fits clean accounts p in (f.0, inl f.1, (Delivered plan.report, f.1)))
 
-        pub delivery_undone : (e : Refusal) (q : Result Report Refusal) → w ≡ Err e → q ≡ Err e → IsTransient e → ActsDelivery user envelope message moment a c q
-        delivery_undone e q is same transient = subst (λ o. ActsDelivery user envelope message moment a c o) (sym same)
+        pub delivery_undone : (e : Refusal) (q : Result Report Refusal) → w ≡ Err e → q ≡ Err e → IsTransient e → ActsDelivery user envelope message terms a c q
+        delivery_undone e q is same transient = subst (λ o. ActsDelivery user envelope message terms a c o) (sym same)
             (acts_undone a b c r looked was look.reads.keeps (HasUser user) (λ all. with_user all user (delivers plan)) w late.made late.settled late.same late.crash (TurnsBy Row May (Refused e)) (MayTurnBy Row) e (Err e) is
             (λ told. told transient) (λ accounts. transient_turn e accounts transient) (λ clean accounts p. let f = fits clean accounts p in (f.0, (Delivered plan.report, f.1))))

@@ -1,5 +1,6 @@
 -- The events of accounts on small cases: what is right, and beside it what nearly is.
-use Rattle.std.proofs.Common.{◌≡◌, ℕ, true, false, cond, List, [], ◌∷◌, codes, Some, None, MatchBool, refl, sym, ap, ◌∙◌, subst, inl, inr}
+use Rattle.std.proofs.Common.{◌≡◌, ℕ, true, false, cond, List, [], ◌∷◌, codes, Some, None, MatchBool, refl, sym, ap, ◌∙◌, subst, inl, inr, Option, pos, rules}
+use Rattle.std.proofs.lemmas.Int.{ints}
 use Rattle.std.specs.FinMap.{get, insert, get-empty}
 use Rattle.addrparts.specs.declared.address.Addr.{Addr}
 use Rattle.addrparts.specs.Outbound.{IsBareAddress}
@@ -15,7 +16,8 @@ use Rattle.mailengine.specs.declared.answer.Answer.{Answer}
 use Rattle.mailengine.specs.declared.answer.Answer.TheVariants.{Delivered, Added, Taken, Refused}
 use Rattle.mailengine.specs.Limits.{IsNewUser}
 use Rattle.mailstore.specs.Account.{row_with}
-use Rattle.mailengine.specs.AccountEvents.{Refuses, Renews, absence, DeliversIn, Delivery, AddsUnder, Addition, TakesIn, TakesRow, Taking}
+use Rattle.mailengine.specs.AccountEvents.{Refuses, Renews, absence, active_text, text_or, deciding_text, DeliversIn, Delivery, AddsUnder, Addition, TakesIn, TakesRow, Taking}
+use Rattle.mailengine.specs.Terms.{Terms, terms}
 use Rattle.mailengine.proofs.AloneLemmas.{put_own, put_other, delivery_other}
 
 abbrev alice : List ℕ
@@ -32,6 +34,25 @@ message = codes "Hi"
 
 abbrev row : ℕ → Outgoing
 row id = record { id = id; kind = Redirect; sender = codes "bob@example.net"; target = codes "carol@example.com"; message = message }
+
+-- the fifth second of 1970, and one past the year 9999, by a host without a default script
+abbrev at_five : Terms
+at_five = terms (record { moment = 5; zone = pos 0; within = (search (rules, ints), search (rules, ints)) }) None
+
+abbrev too_late : Terms
+too_late = terms (record { moment = 253402300800; zone = pos 0; within = (search (rules, ints), search (rules, ints)) }) None
+
+-- where no script is active the host's default decides, and where none is there nothing does
+default_decides : (a : Account) (default : Option (List ℕ)) → a.active ≡ None → deciding_text default a ≡ default
+default_decides a default none = rw none refl
+
+-- an active script decides, whatever the default is
+active_decides : (a : Account) (default : Option (List ℕ)) (text : List ℕ) → active_text a ≡ Some text → deciding_text default a ≡ Some text
+active_decides a default text has = ap (λ o. text_or o default) has
+
+-- near miss: the default decides over an active script
+default_over_active : (a : Account) (default text : List ℕ) → active_text a ≡ Some text → (default ≡ text → ⊥) → deciding_text (Some default) a ≡ Some default → ⊥
+default_over_active a default text has other is = let same : Some default ≡ Some text = sym is ∙ active_decides a (Some default) text has in other (cc same)
 
 -- an account that is there is another world than none
 there : (accounts : Accounts) (user : List ℕ) (a : Account) → get accounts user ≡ Some a → accounts ≡ no_accounts → ⊥
@@ -52,26 +73,26 @@ module _ (a : Account) (open_is : is_closed a ≡ false) where
   -- ---- a delivery
 
   -- a user without an account has none, and stays so; near miss: the delivery makes the account
-  unknown_user : Delivery no_accounts alice envelope message 5 (Refused NoUser) no_accounts
+  unknown_user : Delivery no_accounts alice envelope message at_five (Refused NoUser) no_accounts
   unknown_user =
       let none : open_of no_accounts alice ≡ None = ap open_one (get-empty bytes_cmp alice) in
       let why : absence (get no_accounts alice) ≡ NoUser = ap absence (get-empty bytes_cmp alice) in
-      subst (λ o. DeliversIn no_accounts alice 5 envelope message o (Refused NoUser) no_accounts) (sym none) (record { refused = ap Refused (sym why); stays = refl })
+      subst (λ o. DeliversIn no_accounts alice at_five envelope message o (Refused NoUser) no_accounts) (sym none) (record { refused = ap Refused (sym why); stays = refl })
 
-  unknown_user_joins : Delivery no_accounts alice envelope message 5 (Refused NoUser) one → ⊥
+  unknown_user_joins : Delivery no_accounts alice envelope message at_five (Refused NoUser) one → ⊥
   unfolding one
   unknown_user_joins is =
-      let made = subst (λ o. DeliversIn no_accounts alice 5 envelope message o (Refused NoUser) one) (ap open_one (get-empty bytes_cmp alice)) is in
+      let made = subst (λ o. DeliversIn no_accounts alice at_five envelope message o (Refused NoUser) one) (ap open_one (get-empty bytes_cmp alice)) is in
       there one alice a has_alice made.stays
 
   -- the limit goes before the account
-  unknown_user_late : Delivery no_accounts alice envelope message 253402300800 (Refused BadMoment) no_accounts
+  unknown_user_late : Delivery no_accounts alice envelope message too_late (Refused BadMoment) no_accounts
   unknown_user_late = record { refused = refl; stays = refl }
 
   -- without an active script the message joins INBOX
-  filed : (own : Addr) → IsBareAddress a.address own → a.active ≡ None → Delivery one alice envelope message 5 (Delivered (report_of kept Silent)) (insert one alice (files_copies (inbox ∷ []) message a))
+  filed : (own : Addr) → IsBareAddress a.address own → a.active ≡ None → Delivery one alice envelope message at_five (Delivered (report_of kept Silent)) (insert one alice (files_copies (inbox ∷ []) message a))
   unfolding one
-  filed own address none = subst (λ o. DeliversIn one alice 5 envelope message o (Delivered (report_of kept Silent)) (insert one alice (files_copies (inbox ∷ []) message a))) (sym open_alice)
+  filed own address none = subst (λ o. DeliversIn one alice at_five envelope message o (Delivered (report_of kept Silent)) (insert one alice (files_copies (inbox ∷ []) message a))) (sym open_alice)
       (record {
         report = report_of kept Silent;
         account = files_copies (inbox ∷ []) message a;
@@ -89,10 +110,10 @@ module _ (a : Account) (open_is : is_closed a ≡ false) where
       })
 
   -- near miss: another user's account changes, whatever is answered
-  delivered_to_another : (b : Account) (answer : Answer) (later : Accounts) → get later bob ≡ Some b → Delivery one alice envelope message 5 answer later → ⊥
+  delivered_to_another : (b : Account) (answer : Answer) (later : Accounts) → get later bob ≡ Some b → Delivery one alice envelope message at_five answer later → ⊥
   unfolding one
   delivered_to_another b answer later has is =
-      let no : Some b ≡ None = sym has ∙ (delivery_other bob alice one later answer envelope message 5 is (inl refl) ∙ (put_other no_accounts bob alice a refl ∙ get-empty bytes_cmp bob)) in
+      let no : Some b ≡ None = sym has ∙ (delivery_other bob alice one later answer envelope message at_five is (inl refl) ∙ (put_other no_accounts bob alice a refl ∙ get-empty bytes_cmp bob)) in
       cc
 
   -- ---- a new user

@@ -36,6 +36,7 @@ use Rattle.mailengine.specs.declared.answer.Answer.{Answer}
 use Rattle.mailengine.specs.declared.answer.Answer.TheVariants.{Out, Ignored, Refused}
 use Rattle.mailengine.specs.World.{World, Clients, with_accounts, Ignores, Becomes, InSession, Opens, Steps, Happens, MayRefuse, with_session, without_session, MayLack, MayFail, if_open, is_closed}
 use Rattle.mailengine.specs.Hosts.{Kept, IsMade, clients_of, AsksStore, HasClients, host, IsSessionEvent, KeepsClients, IsEvent, Leads, EventCrashLeaves, answer_by, answer_of, TurnsBy, MayTurnBy, MayRefuseDelivery, MayRefuseAddition, MayRefuseKeeping}
+use Rattle.sieveexec.specs.declared.when.When.{When}
 use Rattle.mailengine.specs.declared.upkeep.Upkeep.{Upkeep}
 
 -- ---- maps
@@ -358,9 +359,9 @@ lacking_may w event refusal is may = subst (MayRefuse w event) (sym is) may
 failing_may : (w : World) (event : Event) (refusal : Refusal) → refusal ≡ Store → MayFail w event → MayRefuse w event refusal
 failing_may w event refusal is may = subst (MayRefuse w event) (sym is) may
 
-pub delivery_may : (user message : List ℕ) (envelope : Envelope) (moment : ℕ) (w : World) (refusal : Refusal) → MayRefuseDelivery envelope message moment refusal → MayRefuse w (Deliver user envelope message moment) refusal
-delivery_may user message envelope moment w refusal (inl is, none) = lacking_may w (Deliver user envelope message moment) refusal is none
-delivery_may user message envelope moment w refusal (inr is, none) = failing_may w (Deliver user envelope message moment) refusal is none
+pub delivery_may : (user message : List ℕ) (envelope : Envelope) (when : When) (default : Option (List ℕ)) (w : World) (refusal : Refusal) → MayRefuseDelivery envelope message when.moment refusal → MayRefuse w (Deliver user envelope message when default) refusal
+delivery_may user message envelope when default w refusal (inl is, none) = lacking_may w (Deliver user envelope message when default) refusal is none
+delivery_may user message envelope when default w refusal (inr is, none) = failing_may w (Deliver user envelope message when default) refusal is none
 
 pub addition_may : (name address salt password : List ℕ) (w : World) (refusal : Refusal) → MayRefuseAddition name address password refusal → MayRefuse w (AddUser name address salt password) refusal
 addition_may name address salt password w refusal (inl is) = lacking_may w (AddUser name address salt password) refusal is tt

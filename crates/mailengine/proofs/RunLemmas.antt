@@ -19,6 +19,7 @@ use Rattle.mailengine.specs.Sound.{AreSound, KeepsSound}
 use Rattle.mailengine.proofs.AloneLemmas.{projection}
 use Rattle.mailengine.proofs.SpacingLemmas.{spacing}
 use Rattle.mailengine.proofs.SoundLemmas.{runs_sound}
+use Rattle.mailengine.specs.Terms.{Terms}
 use Rattle.mailengine.proofs.HostLemmas.{clients_are, delivery_may}
 
 -- a run goes on with one event more
@@ -69,21 +70,21 @@ run_counted old new events at told all ran count is =
 -- ---- a delivery alone
 
 -- the event with this answer, by the delivery's row or refused without visible cause
-delivery_next : (user : List ℕ) (envelope : Envelope) (message : List ℕ) (moment : ℕ) (w : World) (answer : Answer) (later : Accounts)
-    → TurnsBy (λ accounts. Delivery accounts user envelope message moment) (MayRefuseDelivery envelope message moment) answer w.accounts later
-    → Next w (Deliver user envelope message moment) answer (record { accounts = later; sessions = w.sessions })
-delivery_next user envelope message moment w answer later (inl row) = inl (later, row, refl)
-delivery_next user envelope message moment w answer later (inr (refusal, may, is, same)) =
-    inr (record { refusal = refusal; may = delivery_may user message envelope moment w refusal may; refused = is; stays = ap (λ all. record { accounts = all; sessions = w.sessions }) same })
+delivery_next : (user : List ℕ) (envelope : Envelope) (message : List ℕ) (terms : Terms) (w : World) (answer : Answer) (later : Accounts)
+    → TurnsBy (λ accounts. Delivery accounts user envelope message terms) (MayRefuseDelivery envelope message terms.when.moment) answer w.accounts later
+    → Next w (Deliver user envelope message terms.when terms.default) answer (record { accounts = later; sessions = w.sessions })
+delivery_next user envelope message terms w answer later (inl row) = inl (later, row, refl)
+delivery_next user envelope message terms w answer later (inr (refusal, may, is, same)) =
+    inr (record { refusal = refusal; may = delivery_may user message envelope terms.when terms.default w refusal may; refused = is; stays = ap (λ all. record { accounts = all; sessions = w.sessions }) same })
 
 -- a delivery is a run of one event
-pub delivery_spaced : (user : List ℕ) (envelope : Envelope) (message : List ℕ) (moment : ℕ) (old new : State) (q : Result Report Refusal) → ActsDelivery user envelope message moment old new q
-    → IsSpacedDelivery user envelope message moment old new q
-delivery_spaced user envelope message moment old new q acts clean w had =
+pub delivery_spaced : (user : List ℕ) (envelope : Envelope) (message : List ℕ) (terms : Terms) (old new : State) (q : Result Report Refusal) → ActsDelivery user envelope message terms old new q
+    → IsSpacedDelivery user envelope message terms old new q
+delivery_spaced user envelope message terms old new q acts clean w had =
     let turned = acts.carries clean w.accounts had in
     let end : World = record { accounts = turned.0; sessions = w.sessions } in
-    let run : Runs w (Deliver user envelope message moment ∷ []) (answer_by Delivered q ∷ []) end = (end, delivery_next user envelope message moment w (answer_by Delivered q) turned.0 turned.1, refl) in
-    (end, run, turned.2, spacing (Deliver user envelope message moment ∷ []) (answer_by Delivered q ∷ []) w end run)
+    let run : Runs w (Deliver user envelope message terms.when terms.default ∷ []) (answer_by Delivered q ∷ []) end = (end, delivery_next user envelope message terms w (answer_by Delivered q) turned.0 turned.1, refl) in
+    (end, run, turned.2, spacing (Deliver user envelope message terms.when terms.default ∷ []) (answer_by Delivered q ∷ []) w end run)
 
 -- ---- what every run is
 

@@ -360,17 +360,17 @@ filled_left folder left folders full f is = go (is_eq (bytes_cmp f folder)) (sym
 act_sound : (user : List ℕ) (account later : Option Account) (act : Act) → IfSome account IsSound → ActsAlone user account act later → IfSome later IsSound
 act_sound user account later (own.Commands command octets) sound is = commands_sound account later command octets sound is
 act_sound user account later (own.LogsIn password succeeds) sound is = subst (λ o. IfSome o IsSound) (sym is.stays) sound
-act_sound user account later (own.Receives envelope message moment answer) sound is = go (limit_refusal envelope message moment) account sound is
+act_sound user account later (own.Receives envelope message terms answer) sound is = go (limit_refusal envelope message terms.when.moment) account sound is
   where
-    go : (o : Option Refusal) (account : Option Account) → IfSome account IsSound → ReceivesIn o account envelope message moment answer later → IfSome later IsSound
+    go : (o : Option Refusal) (account : Option Account) → IfSome account IsSound → ReceivesIn o account envelope message terms answer later → IfSome later IsSound
     go (Some refusal) account sound is = subst (λ o. IfSome o IsSound) (sym is.stays) sound
     go None account sound is = opened (open_one account) refl is
       where
-        opened : (o : Option Account) → open_one account ≡ o → ReceivesOpen account o envelope message moment answer later → IfSome later IsSound
+        opened : (o : Option Account) → open_one account ≡ o → ReceivesOpen account o envelope message terms answer later → IfSome later IsSound
         opened None none is = subst (λ o. IfSome o IsSound) (sym is.stays) sound
         opened (Some a) has is =
             subst (λ o. IfSome o IsSound) (sym is.changed)
-            (delivers_sound is.delivers.own moment (mail_of message envelope) is.delivers.delivers.disposition a is.after is.report (subst (λ o. IfSome o IsSound) (open_there account a has) sound) is.delivers.delivers.delivers)
+            (delivers_sound is.delivers.own terms.when.moment (mail_of message envelope terms.when) is.delivers.delivers.disposition a is.after is.report (subst (λ o. IfSome o IsSound) (open_there account a has) sound) is.delivers.delivers.delivers)
 act_sound user account later (own.Joins address salt password answer) sound (inl (new, is)) = go account sound is
   where
     over : (a : Account) → IsSound a → (closed full : Bool) → MatchBool closed (MatchBool full (Refuses UserHasMail (Some a) answer later) (RenewsAlone a address salt password answer later)) (Refuses UserExists (Some a) answer later) → IfSome later IsSound

@@ -50,6 +50,7 @@ use Rattle.mailengine.specs.World.{World, Next, Runs}
 use Rattle.mailengine.specs.Spacing.{Thread, Entry, entry_of, entries_if, vacation_in, sent_in, sent_under, sent_by, sent_at, sent, kept_in, kept, IsPast, ComeAfter, Follow, IsAtLeast, IsSpacing}
 use Rattle.mailengine.proofs.AloneLemmas.{put_own, next_alone, projection}
 use Rattle.mailstore.proofs.AccountLemmas.{reply_total, reply_antisymmetric}
+use Rattle.mailengine.specs.Terms.{Terms, terms}
 use Rattle.sqlite_typed.proofs.TestLemmas.{bytes_eq_refl}
 
 -- ---- a kept moment never goes back
@@ -264,17 +265,17 @@ act_keeps : (user : List ℕ) (account later : Option Account) (act : Act) (thre
 act_keeps user account later (own.Commands command octets) thread is =
     subst (λ o. IsNoSooner (kept_in account thread) (kept_in o thread)) (sym is.changed) (mapped_keeps account (obeyed command is.reply.word) thread (obeyed_keeps command is.reply.word))
 act_keeps user account later (own.LogsIn password succeeds) thread is = no_sooner_is (kept_in account thread) (kept_in later thread) (ap (λ o. kept_in o thread) is.stays)
-act_keeps user account later (own.Receives envelope message moment answer) thread is = go (limit_refusal envelope message moment) account is
+act_keeps user account later (own.Receives envelope message terms answer) thread is = go (limit_refusal envelope message terms.when.moment) account is
   where
-    go : (o : Option Refusal) (account : Option Account) → ReceivesIn o account envelope message moment answer later → IsNoSooner (kept_in account thread) (kept_in later thread)
+    go : (o : Option Refusal) (account : Option Account) → ReceivesIn o account envelope message terms answer later → IsNoSooner (kept_in account thread) (kept_in later thread)
     go (Some refusal) account is = no_sooner_is (kept_in account thread) (kept_in later thread) (ap (λ o. kept_in o thread) is.stays)
     go None account is = opened (open_one account) refl is
       where
-        opened : (o : Option Account) → open_one account ≡ o → ReceivesOpen account o envelope message moment answer later → IsNoSooner (kept_in account thread) (kept_in later thread)
+        opened : (o : Option Account) → open_one account ≡ o → ReceivesOpen account o envelope message terms answer later → IsNoSooner (kept_in account thread) (kept_in later thread)
         opened None none is = no_sooner_is (kept_in account thread) (kept_in later thread) (ap (λ o. kept_in o thread) is.stays)
         opened (Some a) has is =
             subst (λ b. IsNoSooner (kept_in b thread) (kept_in later thread)) (sym (open_there account a has))
-            (subst (λ o. IsNoSooner (kept_in (Some a) thread) (kept_in o thread)) (sym is.changed) (delivers_keeps is.delivers.own moment (mail_of message envelope) is.delivers.delivers.disposition a is.after is.report thread is.delivers.delivers.delivers))
+            (subst (λ o. IsNoSooner (kept_in (Some a) thread) (kept_in o thread)) (sym is.changed) (delivers_keeps is.delivers.own terms.when.moment (mail_of message envelope terms.when) is.delivers.delivers.disposition a is.after is.report thread is.delivers.delivers.delivers))
 act_keeps user account later (own.Joins address salt password answer) thread (inl (new, is)) = go account is
   where
     -- an account that is opened anew keeps what it remembers
@@ -382,18 +383,18 @@ sent_one w next (AddUser name address salt password) answer (inl made) = tt
 sent_one w next (TakeOut name id) answer (inl made) = tt
 sent_one w next (TakeMail name folder) answer (inl made) = tt
 sent_one w next (Keep name upkeep) answer (inl made) = tt
-sent_one w next (Deliver user envelope message moment) answer (inl made) = subst (λ v. IsOneAnswer w.accounts v.accounts (sent_by w (Deliver user envelope message moment) answer next made)) (sym made.2) (go (limit_refusal envelope message moment) made.1)
+sent_one w next (Deliver user envelope message when default) answer (inl made) = subst (λ v. IsOneAnswer w.accounts v.accounts (sent_by w (Deliver user envelope message when default) answer next made)) (sym made.2) (go (limit_refusal envelope message when.moment) made.1)
   where
     later : Accounts
     later = made.0
 
-    inserted : (o : Option Account) → open_of w.accounts user ≡ o → (is : DeliversIn w.accounts user moment envelope message o answer later) → IsOneAnswer w.accounts later (sent_in w.accounts user moment envelope message o answer later is)
+    inserted : (o : Option Account) → open_of w.accounts user ≡ o → (is : DeliversIn w.accounts user (terms when default) envelope message o answer later) → IsOneAnswer w.accounts later (sent_in w.accounts user (terms when default) envelope message o answer later is)
     inserted None has is = tt
     inserted (Some a) has is =
-        named_one w.accounts later user (Some a) (Some is.account) envelope.from moment is.report.vacation (vacation_in is.delivers.delivers.disposition) (open_there (get w.accounts user) a has) (ap (λ all. get all user) is.changed ∙ put_own w.accounts user is.account (bytes_eq_refl user))
-        (delivered_one is.delivers.own user moment (mail_of message envelope) is.delivers.delivers.disposition a is.account is.report is.delivers.delivers.delivers)
+        named_one w.accounts later user (Some a) (Some is.account) envelope.from when.moment is.report.vacation (vacation_in is.delivers.delivers.disposition) (open_there (get w.accounts user) a has) (ap (λ all. get all user) is.changed ∙ put_own w.accounts user is.account (bytes_eq_refl user))
+        (delivered_one is.delivers.own user when.moment (mail_of message envelope when) is.delivers.delivers.disposition a is.account is.report is.delivers.delivers.delivers)
 
-    go : (o : Option Refusal) → (is : DeliversUnder o w.accounts user moment envelope message answer later) → IsOneAnswer w.accounts later (sent_under o w.accounts user moment envelope message answer later is)
+    go : (o : Option Refusal) → (is : DeliversUnder o w.accounts user (terms when default) envelope message answer later) → IsOneAnswer w.accounts later (sent_under o w.accounts user (terms when default) envelope message answer later is)
     go (Some refusal) is = tt
     go None is = inserted (open_of w.accounts user) refl is
 

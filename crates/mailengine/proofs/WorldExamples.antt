@@ -26,6 +26,7 @@ use Rattle.mailengine.specs.AccountEvents.{TakesIn}
 use Rattle.mailengine.specs.World.{World, Clients, with_session, without_session, Becomes, Opens, InSession, Steps, Happens, if_open, MayRefuse, IsRefused, Next, Runs}
 use Rattle.mailengine.specs.Hosts.{HasClients, MayRefuseDelivery, RefusesTaking, answer_by}
 use Rattle.mailengine.proofs.AloneLemmas.{put_own}
+use Rattle.sieveexec.specs.declared.when.When.{When}
 use Rattle.mailengine.proofs.HostLemmas.{clients_are}
 
 abbrev alice : List ℕ
@@ -199,14 +200,14 @@ envelope = record { from = []; to = codes "alice@example.org" }
 row_of_none : (c : Client) → Happens (seven c) (TakeOut alice 1) (Refused NoUser) (seven c)
 row_of_none c = (empty, subst (λ o. TakesIn empty alice 1 o (Refused NoUser) empty) (sym (ap open_one (get-empty bytes_cmp alice))) (record { refused = refl; stays = refl }), refl)
 
-delivered_and_closed : (c : Client) (message : List ℕ) (moment : ℕ) (answer : Answer) → Happens (seven c) (Deliver alice envelope message moment) answer nothing → ⊥
-delivered_and_closed c message moment answer is =
+delivered_and_closed : (c : Client) (message : List ℕ) (when : When) (default : Option (List ℕ)) (answer : Answer) → Happens (seven c) (Deliver alice envelope message when default) answer nothing → ⊥
+delivered_and_closed c message when default answer is =
     let no : None ≡ Some c = sym (get-empty nat_cmp 7) ∙ (ap (λ (w : World). get w.sessions 7) is.2 ∙ at_seven c) in
     cc
 
 -- near misses: the store refuses what a limit stands against, and a user whose name has a blank
-late_told_as_store : (w : World) → MayRefuse w (Deliver alice envelope [] 253402300800) Store → ⊥
-late_told_as_store w may = let no : Some BadMoment ≡ None = may in cc
+late_told_as_store : (w : World) (when : When) (default : Option (List ℕ)) → when.moment ≡ 253402300800 → MayRefuse w (Deliver alice envelope [] when default) Store → ⊥
+late_told_as_store w when default late may = let no : Some BadMoment ≡ None = sym (ap (limit_refusal envelope []) late) ∙ may in cc
 
 blank_told_as_store : (w : World) (address salt password : List ℕ) → MayRefuse w (AddUser (codes "a b") address salt password) Store → ⊥
 blank_told_as_store w address salt password may = let no : false ≡ true = may.named in cc

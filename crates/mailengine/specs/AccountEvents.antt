@@ -17,6 +17,7 @@ use Rattle.sessions.specs.Scripts.{Where}
 use Rattle.mailengine.specs.declared.answer.Answer.{Answer}
 use Rattle.mailengine.specs.declared.answer.Answer.TheVariants.{Delivered, Added, Taken, MailTaken, Refused}
 use Rattle.mailengine.specs.Limits.{limit_refusal, IsNewUser}
+use Rattle.mailengine.specs.Terms.{Terms}
 use Rattle.mailengine.specs.Upkeep.{rounds, kept_password}
 
 -- the event is refused by the machine itself, and nothing changes
@@ -35,18 +36,26 @@ text_named scripts (Some name) = get scripts name
 abbrev pub active_text : Account → Option (List ℕ)
 active_text a = text_named a.scripts a.active
 
--- a message is delivered to an account: to the address that it has, under the text of its active script
-pub record DeliversTo (moment : ℕ) (envelope : Envelope) (message : List ℕ) (a : Account) (report : Report) (a2 : Account) : Type 0 where
+-- the text by which an account's mail is delivered: that of its active script, and where none is active the host's default, if there is one
+abbrev pub text_or : Option (List ℕ) → Option (List ℕ) → Option (List ℕ)
+text_or None default = default
+text_or (Some text) default = Some text
+
+abbrev pub deciding_text : Option (List ℕ) → Account → Option (List ℕ)
+deciding_text default a = text_or (active_text a) default
+
+-- a message is delivered to an account: to the address that it has, under the text that decides
+pub record DeliversTo (terms : Terms) (envelope : Envelope) (message : List ℕ) (a : Account) (report : Report) (a2 : Account) : Type 0 where
   pub own : Addr
   pub address : IsBareAddress a.address own
-  pub delivers : Delivers own moment (mail_of message envelope) (active_text a) a report a2
+  pub delivers : Delivers own (mail_of message envelope terms.when) (deciding_text terms.default a) a report a2
 
 -- a delivery to the user: the account is as after it, and no other changes
-pub record DeliversUser (accounts : Accounts) (user : List ℕ) (moment : ℕ) (envelope : Envelope) (message : List ℕ)
+pub record DeliversUser (accounts : Accounts) (user : List ℕ) (terms : Terms) (envelope : Envelope) (message : List ℕ)
     (a : Account) (answer : Answer) (later : Accounts) : Type 0 where
   pub report : Report
   pub account : Account
-  pub delivers : DeliversTo moment envelope message a report account
+  pub delivers : DeliversTo terms envelope message a report account
   pub reported : answer ≡ Delivered report
   pub changed : later ≡ insert accounts user account
 
@@ -56,18 +65,18 @@ absence None = NoUser
 absence (Some a) = cond (is_removed a) NoUser AccountClosed
 
 -- by the open account of the user, if there is one
-abbrev pub DeliversIn : Accounts → List ℕ → ℕ → Envelope → List ℕ → Option Account → Answer → Accounts → Type 0
-DeliversIn accounts user moment envelope message None answer later = Refuses (absence (get accounts user)) accounts answer later
-DeliversIn accounts user moment envelope message (Some a) answer later = DeliversUser accounts user moment envelope message a answer later
+abbrev pub DeliversIn : Accounts → List ℕ → Terms → Envelope → List ℕ → Option Account → Answer → Accounts → Type 0
+DeliversIn accounts user terms envelope message None answer later = Refuses (absence (get accounts user)) accounts answer later
+DeliversIn accounts user terms envelope message (Some a) answer later = DeliversUser accounts user terms envelope message a answer later
 
 -- by the cause that stands against it, if there is one
-abbrev pub DeliversUnder : Option Refusal → Accounts → List ℕ → ℕ → Envelope → List ℕ → Answer → Accounts → Type 0
-DeliversUnder (Some refusal) accounts user moment envelope message answer later = Refuses refusal accounts answer later
-DeliversUnder None accounts user moment envelope message answer later = DeliversIn accounts user moment envelope message (open_of accounts user) answer later
+abbrev pub DeliversUnder : Option Refusal → Accounts → List ℕ → Terms → Envelope → List ℕ → Answer → Accounts → Type 0
+DeliversUnder (Some refusal) accounts user terms envelope message answer later = Refuses refusal accounts answer later
+DeliversUnder None accounts user terms envelope message answer later = DeliversIn accounts user terms envelope message (open_of accounts user) answer later
 
-abbrev pub Delivery : Accounts → List ℕ → Envelope → List ℕ → ℕ → Answer → Accounts → Type 0
-Delivery accounts user envelope message moment answer later =
-    DeliversUnder (limit_refusal envelope message moment) accounts user moment envelope message answer later
+abbrev pub Delivery : Accounts → List ℕ → Envelope → List ℕ → Terms → Answer → Accounts → Type 0
+Delivery accounts user envelope message terms answer later =
+    DeliversUnder (limit_refusal envelope message terms.when.moment) accounts user terms envelope message answer later
 
 -- ---- a new user
 

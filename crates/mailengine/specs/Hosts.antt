@@ -32,6 +32,7 @@ use Rattle.mailengine.specs.AccountEvents.{Delivery, Addition, Taking, MailTakin
 use Rattle.mailengine.specs.declared.upkeep.Upkeep.{Upkeep}
 use Rattle.mailengine.specs.Upkeep.{Keeping, IsFit, MayLackFor}
 use Rattle.mailengine.specs.Limits.{limit_refusal, IsNewUser}
+use Rattle.mailengine.specs.Terms.{Terms}
 use Rattle.mailengine.specs.World.{World, Clients, if_open, Next, Runs}
 
 -- sessions by their numbers, as the code keeps them
@@ -197,14 +198,14 @@ abbrev pub MayRefuseAddition : List ℕ → List ℕ → List ℕ → Refusal �
 MayRefuseAddition name address password refusal = (refusal ≡ Memory) ⊎ ((refusal ≡ Store) × IsNewUser name address password)
 
 -- what a delivery makes of the store
-abbrev pub ActsDelivery : List ℕ → Envelope → List ℕ → ℕ → State → State → Result Report Refusal → Type 0
-ActsDelivery user envelope message moment =
-    ActsBy (λ accounts. Delivery accounts user envelope message moment) (MayRefuseDelivery envelope message moment) Delivered
+abbrev pub ActsDelivery : List ℕ → Envelope → List ℕ → Terms → State → State → Result Report Refusal → Type 0
+ActsDelivery user envelope message terms =
+    ActsBy (λ accounts. Delivery accounts user envelope message terms) (MayRefuseDelivery envelope message terms.when.moment) Delivered
 
 -- a delivery is a run of one event, over whatever sessions there are, and the answer that it sends, if it sends one, is spaced by its period
-abbrev pub IsSpacedDelivery : List ℕ → Envelope → List ℕ → ℕ → State → State → Result Report Refusal → Type 0
-IsSpacedDelivery user envelope message moment old new result =
-    let events = Deliver user envelope message moment ∷ [] in
+abbrev pub IsSpacedDelivery : List ℕ → Envelope → List ℕ → Terms → State → State → Result Report Refusal → Type 0
+IsSpacedDelivery user envelope message terms old new result =
+    let events = Deliver user envelope message terms.when terms.default ∷ [] in
     let told = answer_by Delivered result ∷ [] in
     HasCleanDisk new → (w : World) → HasAccounts old w.accounts
     → (end : World) × (run : Runs w events told end) × HasAccounts new end.accounts × IsSpaced w events told end run

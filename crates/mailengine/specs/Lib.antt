@@ -5,6 +5,7 @@ pub mod Lookups
 pub mod OwnActs
 pub mod Sound
 pub mod Spacing
+pub mod Terms
 pub mod Upkeep
 pub mod World
 pub use Rattle.sievesyntax.specs.Meaning

@@ -31,6 +31,7 @@ use Rattle.mailstore.specs.Account.{row_with}
 use Rattle.mailengine.specs.AccountEvents.{Refuses, DeliversTo, absence}
 use Rattle.mailengine.specs.declared.upkeep.Upkeep.{Upkeep}
 use Rattle.mailengine.specs.Upkeep.{kept_password, KeepingAlone}
+use Rattle.mailengine.specs.Terms.{Terms, terms}
 use Rattle.mailengine.specs.World.{World, Runs}
 
 -- ---- acts
@@ -41,8 +42,8 @@ pub data Act : Type 0 where
   Commands : Command → List ℕ → Act
   -- a login that names the user: its password, and whether it succeeds
   LogsIn : List ℕ → Bool → Act
-  -- a message comes, with its envelope and its moment
-  Receives : Envelope → List ℕ → ℕ → Answer → Act
+  -- a message comes, with its envelope and its terms
+  Receives : Envelope → List ℕ → Terms → Answer → Act
   -- the user is to be added, with an address, a salt and a password
   Joins : List ℕ → List ℕ → List ℕ → Answer → Act
   -- a row of the queue is to be taken out
@@ -77,21 +78,21 @@ pub record LogsInAlone (account : Option Account) (password : List ℕ) (succeed
   pub stays : later ≡ account
 
 -- a message that no limit stands against is delivered to the account
-pub record ReceivesAlone (envelope : Envelope) (message : List ℕ) (moment : ℕ) (a : Account) (answer : Answer) (later : Option Account) : Type 0 where
+pub record ReceivesAlone (envelope : Envelope) (message : List ℕ) (terms : Terms) (a : Account) (answer : Answer) (later : Option Account) : Type 0 where
   pub report : Report
   pub after : Account
-  pub delivers : DeliversTo moment envelope message a report after
+  pub delivers : DeliversTo terms envelope message a report after
   pub says : answer ≡ Delivered report
   pub changed : later ≡ Some after
 
 -- by the open account, if there is one
-abbrev pub ReceivesOpen : Option Account → Option Account → Envelope → List ℕ → ℕ → Answer → Option Account → Type 0
-ReceivesOpen account None envelope message moment answer later = Refuses (absence account) account answer later
-ReceivesOpen account (Some a) envelope message moment answer later = ReceivesAlone envelope message moment a answer later
+abbrev pub ReceivesOpen : Option Account → Option Account → Envelope → List ℕ → Terms → Answer → Option Account → Type 0
+ReceivesOpen account None envelope message terms answer later = Refuses (absence account) account answer later
+ReceivesOpen account (Some a) envelope message terms answer later = ReceivesAlone envelope message terms a answer later
 
-abbrev pub ReceivesIn : Option Refusal → Option Account → Envelope → List ℕ → ℕ → Answer → Option Account → Type 0
-ReceivesIn (Some refusal) account envelope message moment answer later = Refuses refusal account answer later
-ReceivesIn None account envelope message moment answer later = ReceivesOpen account (open_one account) envelope message moment answer later
+abbrev pub ReceivesIn : Option Refusal → Option Account → Envelope → List ℕ → Terms → Answer → Option Account → Type 0
+ReceivesIn (Some refusal) account envelope message terms answer later = Refuses refusal account answer later
+ReceivesIn None account envelope message terms answer later = ReceivesOpen account (open_one account) envelope message terms answer later
 
 -- the account of a user who was just added
 abbrev pub fresh : List ℕ → List ℕ → List ℕ → Account
@@ -152,8 +153,8 @@ TakesMailAloneIn account folder answer later = TakesMailOpen account (open_one a
 abbrev pub ActsAlone : List ℕ → Option Account → Act → Option Account → Type 0
 ActsAlone user account (Commands command octets) later = CommandsAlone account command octets later
 ActsAlone user account (LogsIn password succeeds) later = LogsInAlone account password succeeds later
-ActsAlone user account (Receives envelope message moment answer) later =
-    ReceivesIn (limit_refusal envelope message moment) account envelope message moment answer later
+ActsAlone user account (Receives envelope message terms answer) later =
+    ReceivesIn (limit_refusal envelope message terms.when.moment) account envelope message terms answer later
 ActsAlone user account (Joins address salt password answer) later =
     Where (IsNewUser user address password) (JoinsIn account address salt password answer later) (Refuses BadUser account answer later)
 ActsAlone user account (TakesOut id answer) later = TakesAloneIn account id answer later
@@ -213,7 +214,7 @@ is_lost answer = false
 -- the acts of the user in one event, by the sessions that there are
 abbrev pub event_acts : List ℕ → World → Event → Answer → List Act
 event_acts user w (Step s) answer = step_acts user (get w.sessions s) answer
-event_acts user w (Deliver name envelope message moment) answer = when_of user (Some name) (Receives envelope message moment answer)
+event_acts user w (Deliver name envelope message when default) answer = when_of user (Some name) (Receives envelope message (terms when default) answer)
 event_acts user w (AddUser name address salt password) answer = when_of user (Some name) (Joins address salt password answer)
 event_acts user w (TakeOut name id) answer = when_of user (Some name) (TakesOut id answer)
 event_acts user w (TakeMail name folder) answer = when_of user (Some name) (TakesMail folder answer)

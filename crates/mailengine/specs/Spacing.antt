@@ -18,6 +18,7 @@ use Rattle.mailengine.specs.declared.event.Event.TheVariants.{Deliver}
 use Rattle.mailengine.specs.declared.answer.Answer.{Answer}
 use Rattle.mailengine.specs.Limits.{limit_refusal}
 use Rattle.mailengine.specs.AccountEvents.{DeliversTo, DeliversIn, DeliversUnder}
+use Rattle.mailengine.specs.Terms.{Terms, terms}
 use Rattle.mailengine.specs.World.{World, Happens, Next, Runs}
 
 -- to whom an answer went: whose it is, by what it is known, and the sender, case ignored
@@ -51,25 +52,25 @@ vacation_in (Acts deeds) = deeds.reply
 vacation_in (Tells text) = None
 
 -- of a delivery to the user's account, as it stands
-abbrev pub sent_to : List ℕ → (moment : ℕ) (envelope : Envelope) (message : List ℕ) (a : Account) (report : Report) (a2 : Account)
-    → DeliversTo moment envelope message a report a2 → List Entry
-sent_to user moment envelope message a report a2 made = entries_if report.vacation user envelope.from moment (vacation_in made.delivers.disposition)
+abbrev pub sent_to : List ℕ → (terms : Terms) (envelope : Envelope) (message : List ℕ) (a : Account) (report : Report) (a2 : Account)
+    → DeliversTo terms envelope message a report a2 → List Entry
+sent_to user terms envelope message a report a2 made = entries_if report.vacation user envelope.from terms.when.moment (vacation_in made.delivers.disposition)
 
-abbrev pub sent_in : (accounts : Accounts) (user : List ℕ) (moment : ℕ) (envelope : Envelope) (message : List ℕ)
+abbrev pub sent_in : (accounts : Accounts) (user : List ℕ) (terms : Terms) (envelope : Envelope) (message : List ℕ)
     (account : Option Account) (answer : Answer) (later : Accounts)
-    → DeliversIn accounts user moment envelope message account answer later → List Entry
-sent_in accounts user moment envelope message None answer later made = []
-sent_in accounts user moment envelope message (Some a) answer later made = sent_to user moment envelope message a made.report made.account made.delivers
+    → DeliversIn accounts user terms envelope message account answer later → List Entry
+sent_in accounts user terms envelope message None answer later made = []
+sent_in accounts user terms envelope message (Some a) answer later made = sent_to user terms envelope message a made.report made.account made.delivers
 
-abbrev pub sent_under : (refusal : Option Refusal) (accounts : Accounts) (user : List ℕ) (moment : ℕ) (envelope : Envelope)
+abbrev pub sent_under : (refusal : Option Refusal) (accounts : Accounts) (user : List ℕ) (terms : Terms) (envelope : Envelope)
     (message : List ℕ) (answer : Answer) (later : Accounts)
-    → DeliversUnder refusal accounts user moment envelope message answer later → List Entry
-sent_under (Some refusal) accounts user moment envelope message answer later made = []
-sent_under None accounts user moment envelope message answer later made = sent_in accounts user moment envelope message (open_of accounts user) answer later made
+    → DeliversUnder refusal accounts user terms envelope message answer later → List Entry
+sent_under (Some refusal) accounts user terms envelope message answer later made = []
+sent_under None accounts user terms envelope message answer later made = sent_in accounts user terms envelope message (open_of accounts user) answer later made
 
 abbrev pub sent_by : (w : World) (event : Event) (answer : Answer) (next : World) → Happens w event answer next → List Entry
-sent_by w (Deliver user envelope message moment) answer next made =
-    sent_under (limit_refusal envelope message moment) w.accounts user moment envelope message answer made.0 made.1
+sent_by w (Deliver user envelope message when default) answer next made =
+    sent_under (limit_refusal envelope message when.moment) w.accounts user (terms when default) envelope message answer made.0 made.1
 sent_by w event answer next made = []
 
 -- of one event; one that is refused sends nothing

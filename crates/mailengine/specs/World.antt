@@ -18,6 +18,7 @@ use Rattle.mailengine.specs.declared.answer.Answer.{Answer}
 use Rattle.mailengine.specs.declared.answer.Answer.TheVariants.{Out, Ignored, Refused}
 use Rattle.mailengine.specs.Limits.{limit_refusal, IsNewUser}
 use Rattle.mailengine.specs.AccountEvents.{Delivery, Addition, Taking, MailTaking}
+use Rattle.mailengine.specs.Terms.{terms}
 use Rattle.mailengine.specs.Upkeep.{Keeping, IsFit, MayLackFor}
 
 -- open sessions by their numbers
@@ -83,7 +84,8 @@ Happens w (Step s) answer next = InSession w (get w.sessions s) (Steps w s) answ
 Happens w (GiveUp s) answer next =
     InSession w (get w.sessions s) (λ c. Becomes (Out (progress_given_up c) (text_given_up c)) (with_session s (client_given_up c) w)) answer next
 Happens w (Close s) answer next = InSession w (get w.sessions s) (λ c. Becomes (Out progress.Close []) (without_session s w)) answer next
-Happens w (Deliver user envelope message moment) answer next = with_accounts w (Delivery w.accounts user envelope message moment) answer next
+Happens w (Deliver user envelope message when default) answer next =
+    with_accounts w (Delivery w.accounts user envelope message (terms when default)) answer next
 Happens w (AddUser name address salt password) answer next = with_accounts w (Addition w.accounts name address salt password) answer next
 Happens w (TakeOut user id) answer next = with_accounts w (Taking w.accounts user id) answer next
 Happens w (TakeMail user folder) answer next = with_accounts w (MailTaking w.accounts user folder) answer next
@@ -113,7 +115,7 @@ MayLack w (Give s piece) = if_open (λ c. true) (get w.sessions s) ≡ true
 MayLack w (Step s) = if_open may_lack (get w.sessions s) ≡ true
 MayLack w (GiveUp s) = ⊥
 MayLack w (Close s) = ⊥
-MayLack w (Deliver user envelope message moment) = limit_refusal envelope message moment ≡ None
+MayLack w (Deliver user envelope message when default) = limit_refusal envelope message when.moment ≡ None
 MayLack w (AddUser name address salt password) = Unit {0}
 MayLack w (TakeOut user id) = Unit {0}
 MayLack w (TakeMail user folder) = Unit {0}
@@ -122,7 +124,7 @@ MayLack w (Keep user upkeep) = MayLackFor upkeep
 -- whether the event may be refused by the store: only one that asks it
 abbrev pub MayFail : World → Event → Type 0
 MayFail w (Step s) = if_open may_fail (get w.sessions s) ≡ true
-MayFail w (Deliver user envelope message moment) = limit_refusal envelope message moment ≡ None
+MayFail w (Deliver user envelope message when default) = limit_refusal envelope message when.moment ≡ None
 MayFail w (AddUser name address salt password) = IsNewUser name address password
 MayFail w (TakeOut user id) = Unit {0}
 MayFail w (TakeMail user folder) = Unit {0}

@@ -9,10 +9,11 @@ ghost use Rattle.mailstore.specs.Promises.{WritesAccount};
 ghost use Rattle.mailstore.specs.Refusals.{IsTransient};
 ghost use Rattle.sessions.specs.Acts.{ReadsAccounts};
 ghost use Rattle.std.specs.FinMap.{get};
-ghost use Rattle.mailengine.specs.AccountEvents.{absence as absence_of};
+ghost use Rattle.mailengine.specs.AccountEvents.{absence as absence_of, text_or};
 ghost use Rattle.mailengine.specs.Hosts.{ActsDelivery, IsSpacedDelivery, RefusesDelivery};
 ghost use Rattle.mailengine.specs.Limits as limits;
 ghost use Rattle.mailengine.specs.Lookups.{LooksUp, IsLookup};
+ghost use Rattle.mailengine.specs.Terms.{terms_of};
 
 use crate::account::{ActiveScript, active_script};
 use crate::limits::limit_refusal;
@@ -20,7 +21,7 @@ use addrparts::bare_address;
 use deliverplan::{View, plan};
 use mailstore::{Plan, Refusal, Report, Store};
 use octets::Octets;
-use sieveexec::{Envelope, Mail};
+use sieveexec::{Envelope, Mail, When};
 use sqlite::Alter;
 use std::alloc::Global;
 
@@ -34,10 +35,11 @@ pub(crate) struct Lookup {
 
 /// Delivers a message to a user by the active script (RFC 5228, 2.10), in one transaction, which is its last act.
 ///
-/// `moment` is in seconds since 1970-01-01 UTC. The message is borrowed and read once; no copy of it is made beside what
-/// the store writes. What the script says is carried out: the message joins folders and the queue, and the sender is
-/// answered, at most once in a period. Without an active script it joins INBOX; where the text is no script, where its run
-/// fails, or where the message has more than 100 Received fields, it joins INBOX too, and the user is left a notice.
+/// `default` is the text of the host's default script: an account without an active script is treated as if this were its active
+/// one, and an account with an active script never sees it. The message is borrowed and read once; no copy of it is made beside
+/// what the store writes. What the script says is carried out: the message joins folders and the queue, and the sender is
+/// answered, at most once in a period. Without any script it joins INBOX; where the text is no script, where its run fails, or
+/// where the message has more than 100 Received fields, it joins INBOX too, and the user is left a notice.
 ///
 /// # Errors
 ///
@@ -52,15 +54,16 @@ pub fn deliver<S: Alter>(
     user: &[u8],
     envelope: Envelope,
     message: &[u8],
-    moment: u64,
+    when: When,
+    default: Option<&[u8]>,
 ) -> Result<Report, Refusal>
-    ensures acts { ActsDelivery user.now envelope message.now moment (state S.Store store.old) (state S.Store store.new) result }
+    ensures acts { ActsDelivery user.now envelope message.now (terms_of when default.entry) (state S.Store store.old) (state S.Store store.new) result }
     ensures settled { HasCleanDisk (state S.Store store.new) → OnOk result (IsSettled (state S.Store store.new)) }
-    ensures spaced { IsSpacedDelivery user.now envelope message.now moment (state S.Store store.old) (state S.Store store.new) result }
-    ensures early { IfSome (limits.limit_refusal envelope message.now moment) (λ refusal. (result ≡ Err refusal) × (store.new ≡ store.old)) }
-    ensures named { IfErr result (RefusesDelivery envelope message.now moment) }
+    ensures spaced { IsSpacedDelivery user.now envelope message.now (terms_of when default.entry) (state S.Store store.old) (state S.Store store.new) result }
+    ensures early { IfSome (limits.limit_refusal envelope message.now when.moment) (λ refusal. (result ≡ Err refusal) × (store.new ≡ store.old)) }
+    ensures named { IfErr result (RefusesDelivery envelope message.now when.moment) }
 {
-    if let Some(refusal) = limit_refusal(&envelope, message, moment) {
+    if let Some(refusal) = limit_refusal(&envelope, message, when.moment) {
         return Err(refusal);
     }
     let looked = look_up(alloc, store, user, envelope.from.as_slice());
@@ -68,8 +71,8 @@ pub fn deliver<S: Alter>(
         return Err(absence(store, user)?);
     }
     let found = looked?;
-    let mail = Mail::read(alloc, message, envelope)?;
-    let plan = plan(alloc, &found.view, slice_of(&found.text), &mail, moment)?;
+    let mail = Mail::read(alloc, message, envelope, when)?;
+    let plan = plan(alloc, &found.view, deciding(&found.text, default), &mail)?;
     commit(store, user, &plan)?;
     Ok(report_of(plan))
 }
@@ -134,12 +137,12 @@ fn report_of(plan: Plan<'_>) -> Report
     report
 }
 
-// The text's octets, if there is one.
-fn slice_of(text: &Option<Octets>) -> Option<&[u8]>
-    ensures { contents result ≡ text.now }
+/// The text that decides: that of the active script, and where none is active the host's default, if there is one.
+fn deciding<'t>(active: &'t Option<Octets>, default: Option<&'t [u8]>) -> Option<&'t [u8]>
+    ensures { contents result ≡ text_or active.now (contents default.entry) }
 {
-    match text {
+    match active {
         Some(text) => Some(text.as_slice()),
-        None => None,
+        None => default,
     }
 }

@@ -9,11 +9,11 @@ ghost use Rattle.sieveexec.specs.Outcomes.{outcome_at};
 ghost use Rattle.sieveexec.specs.Runs.{outcome_view};
 
 use deliverplan::outcome_on;
-use sieveexec::{Envelope, Mail, Outcome};
+use sieveexec::{Envelope, Mail, Outcome, When};
 use sievelex::ScriptError;
 use std::alloc::Global;
 
-/// What a script does with a message (RFC 5228, 2.10), or why it is no valid script.
+/// What a script does with a message that is delivered then (RFC 5228, 2.10), or why it is no valid script.
 ///
 /// Nothing is filed, sent or answered: the outcome says what would be. Script, envelope and message have no limit
 /// on their size. The script is compiled in time linear in it, and each of its tests is asked once at most; the
@@ -28,14 +28,15 @@ pub fn attempt(
     script: &[u8],
     envelope: Envelope,
     message: &[u8],
+    when: When,
 ) -> Result<Outcome, ScriptError>
     ensures valid { IfOk result (λ done. (tree : Commands) × Means script.now tree) }
     ensures done { IfOk result (λ done. (tree : Commands) → Means script.now tree →
-        outcome_view done ≡ outcome_at (mail_of message.now envelope) tree) }
+        outcome_view done ≡ outcome_at (mail_of message.now envelope when) tree) }
     ensures fault { IfFault result ((tree : Commands) → Means script.now tree → ⊥) }
     ensures line { IfFaultLine result (λ line.
         (1 ≤ line) × (line ≤ 1 + line_ends script.now)) }
 {
-    let mail = Mail::read(alloc, message, envelope)?;
+    let mail = Mail::read(alloc, message, envelope, when)?;
     outcome_on(alloc, script, &mail)
 }

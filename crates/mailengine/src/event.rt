@@ -1,7 +1,7 @@
 //! What happens to the accounts and the sessions, one event after the other.
 use crate::upkeep::Upkeep;
 use octets::Octets;
-use sieveexec::Envelope;
+use sieveexec::{Envelope, When};
 
 /// What happens, with all that it brings from outside. A session goes by a number.
 #[derive(Drop)]
@@ -23,8 +23,10 @@ pub enum Event {
         envelope: Envelope,
         /// The octets that were received.
         message: Octets,
-        /// When, in seconds since 1970-01-01 UTC.
-        moment: u64,
+        when: When,
+        /// The text of the host's default script, if it has one: an account without an active script is treated as if this were
+        /// its active one.
+        default: Option<Octets>,
     },
     /// An account is made, or a closed one that has no mail is opened anew.
     AddUser {

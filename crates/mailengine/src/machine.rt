@@ -3,6 +3,8 @@ ghost use Rattle.std.specs.Prelude.{◌≡◌, [], IsTrue, IfOk, IfSome, IfNone,
 ghost use Rattle.sqlite.specs.Held.{state};
 ghost use Rattle.sqlite.specs.State.{HasCleanDisk};
 ghost use Rattle.mailengine.specs.declared.event.Event.TheVariants.{Deliver};
+ghost use Rattle.mailstore.specs.Cells.{contents};
+ghost use Rattle.mailengine.specs.Terms.{terms};
 ghost use Rattle.mailengine.specs.Hosts as hosts;
 ghost use Rattle.mailengine.specs.Hosts.{host, host_with, AsksStore, IsEvent, IsGivenUp, IsSessionEvent, KeepsClients, SurvivesEvent, IsPrepared, ActsDelivery};
 
@@ -17,7 +19,7 @@ use crate::user::add_user;
 use mailstore::{Outgoing, Refusal, Report, Store};
 use octets::Octets;
 use sessions::Session;
-use sieveexec::Envelope;
+use sieveexec::{Envelope, When};
 use sqlite::Alter;
 use std::alloc::{AllocError, Global};
 use std::collections::BTreeMap;
@@ -139,7 +141,8 @@ fn carry_out<S: Alter>(
             user,
             envelope,
             message,
-            moment,
+            when,
+            default,
         } => {
             let report = carry_out_delivery(
                 alloc,
@@ -147,7 +150,8 @@ fn carry_out<S: Alter>(
                 user.as_slice(),
                 envelope,
                 message.as_slice(),
-                *moment,
+                *when,
+                default,
             );
             answer_of(report.map(Answer::Delivered))
         }
@@ -215,15 +219,27 @@ fn carry_out_delivery<S: Alter>(
     user: &[u8],
     envelope: &Envelope,
     message: &[u8],
-    moment: u64,
+    when: When,
+    default: &Option<Octets>,
 ) -> Result<Report, Refusal>
-    ensures { ActsDelivery user.now envelope.now message.now moment (state S.Store store.old) (state S.Store store.new) result }
+    ensures { ActsDelivery user.now envelope.now message.now (terms when default.now) (state S.Store store.old) (state S.Store store.new) result }
 {
-    if let Some(refusal) = limit_refusal(envelope, message, moment) {
+    if let Some(refusal) = limit_refusal(envelope, message, when.moment) {
         return Err(refusal);
     }
     let envelope = envelope.try_clone(alloc)?;
-    deliver(alloc, store, user, envelope, message, moment)
+    let default = slice_of(default);
+    deliver(alloc, store, user, envelope, message, when, default)
+}
+
+/// The text's octets, if there is one.
+fn slice_of(text: &Option<Octets>) -> Option<&[u8]>
+    ensures { contents result ≡ text.now }
+{
+    match text {
+        Some(text) => Some(text.as_slice()),
+        None => None,
+    }
 }
 
 fn answer_of(done: Result<Answer, Refusal>) -> Answer

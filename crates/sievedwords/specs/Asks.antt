@@ -70,6 +70,8 @@ pub record IsLocation (m : ArgMatches) (a : StoreLocation) : Type 0 where
 pub record IsTry (line : CommandLine) (m : ArgMatches) (a : Try) : Type 0 where
   pub from : IsAddress line (text_in m (codes "from")) a.from.now
   pub to : IsAddress line (text_in m (codes "to")) a.to.now
+  pub at : option_copied a.at ≡ value_in m (codes "at")
+  pub zone : option_copied a.zone ≡ value_in m (codes "zone")
 
 pub record IsInit (line : CommandLine) (m : ArgMatches) (a : Init) : Type 0 where
   pub location : IsLocation m a.location
@@ -118,6 +120,8 @@ pub record IsDeliver (line : CommandLine) (m : ArgMatches) (a : Deliver) : Type 
   pub from : IsAddress line (text_in m (codes "from")) a.from.now
   pub to : IsAddress line (text_in m (codes "to")) a.to.now
   pub at : option_copied a.at ≡ value_in m (codes "at")
+  pub zone : option_copied a.zone ≡ value_in m (codes "zone")
+  pub default : option_copied a.default ≡ value_in m (codes "default")
   pub user : a.user.now ≡ text_in m (codes "user")
 
 pub record IsFolders (line : CommandLine) (m : ArgMatches) (a : Folders) : Type 0 where
@@ -176,6 +180,8 @@ pub record IsDaemon (line : CommandLine) (m : ArgMatches) (a : Daemon) : Type 0 
   pub names : option_copied a.names ≡ value_in m (codes "names")
   pub mail : option_copied a.mail ≡ value_in m (codes "mail")
   pub separator : option_copied a.separator ≡ value_in m (codes "separator")
+  pub zone : option_copied a.zone ≡ value_in m (codes "zone")
+  pub default : option_copied a.default ≡ value_in m (codes "default")
   pub host : option_copied a.host ≡ value_in m (codes "host")
   pub memory : option_copied a.memory ≡ value_in m (codes "memory")
   pub quiet : IsFlag m (codes "quiet") a.quiet
@@ -237,7 +243,7 @@ pub record Enters (m : ArgMatches) (name : List ℕ) (given : ArgMatches) : Type
 
 -- `try` with an empty envelope
 abbrev pub AsksForNothing : Subcommand → Type 0
-AsksForNothing (asked.Try a) = (a.from.now ≡ []) × (a.to.now ≡ [])
+AsksForNothing (asked.Try a) = (a.from.now ≡ []) × (a.to.now ≡ []) × (option_copied a.at ≡ None) × (option_copied a.zone ≡ None)
 AsksForNothing s = ⊥
 
 -- the words that `clap` matched so ask for a subcommand; without one it is `try` with an empty envelope

@@ -14,6 +14,9 @@ pub enum Argument {
     To,
     AnyTo,
     At,
+    TrialAt,
+    Zone,
+    Default,
     Salt,
     Name,
     Address,
@@ -95,6 +98,9 @@ impl Argument {
             | Argument::To
             | Argument::AnyTo
             | Argument::At
+            | Argument::TrialAt
+            | Argument::Zone
+            | Argument::Default
             | Argument::Salt
             | Argument::Most
             | Argument::Separator
@@ -133,7 +139,9 @@ impl Argument {
             Argument::Wait => "wait",
             Argument::From => "from",
             Argument::To | Argument::AnyTo => "to",
-            Argument::At => "at",
+            Argument::At | Argument::TrialAt => "at",
+            Argument::Zone => "zone",
+            Argument::Default => "default",
             Argument::Salt => "salt",
             Argument::Name => "name",
             Argument::Address => "address",
@@ -176,13 +184,18 @@ impl Argument {
             | Argument::Activate => "",
             Argument::Separator => ".|/",
             Argument::From | Argument::To | Argument::AnyTo => "A",
-            Argument::At | Argument::Number | Argument::Sessions | Argument::Until => "N",
+            Argument::At
+            | Argument::TrialAt
+            | Argument::Number
+            | Argument::Sessions
+            | Argument::Until => "N",
+            Argument::Zone => "ZONE",
             Argument::Most | Argument::MostRows => "K",
             Argument::Smtp => "ADDRESS:PORT|PATH",
             Argument::Port | Argument::Managesieve => "P",
             Argument::Memory => "MIB",
             Argument::Salt => "HEX32",
-            Argument::Db | Argument::Files => "FILE",
+            Argument::Db | Argument::Default | Argument::Files => "FILE",
             Argument::Script | Argument::AnyScript => "SCRIPT",
             Argument::Name | Argument::Host | Argument::HostName => "NAME",
             Argument::Lmtp => "P|PATH|-",
@@ -204,6 +217,9 @@ impl Argument {
             Argument::To => "The envelope's recipient",
             Argument::AnyTo => "The envelope's recipient [default: none]",
             Argument::At => "Seconds since 1970 [default: the clock]",
+            Argument::TrialAt => "Seconds since 1970 [default: 0]",
+            Argument::Zone => "The zone: +HHMM, or a rule as CET-1CEST,M3.5.0,M10.5.0/3 [default: +0000]",
+            Argument::Default => "The script for accounts without an active one",
             Argument::Salt => "16 random octets in hexadecimal [default: the system's]",
             Argument::Name => "1 to 64 of letters, digits and . _ - @",
             Argument::Address => "The mail address, without a display name",
@@ -247,6 +263,9 @@ impl Argument {
                 | Argument::From
                 | Argument::AnyTo
                 | Argument::At
+                | Argument::TrialAt
+                | Argument::Zone
+                | Argument::Default
                 | Argument::AnyId
                 | Argument::Most
                 | Argument::Directories

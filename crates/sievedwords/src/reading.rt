@@ -38,7 +38,12 @@ pub fn read<'a>(alloc: Global, words: &'a CommandLine) -> Result<Subcommand<'a>,
         Err(_) => return Err(ReadError::NotText),
     };
     let Some((name, found)) = matches.subcommand() else {
-        return Ok(Subcommand::Try(Try { from: b"", to: b"" }));
+        return Ok(Subcommand::Try(Try {
+            from: b"",
+            to: b"",
+            at: None,
+            zone: None,
+        }));
     };
     let given = Given {
         line: words,

@@ -1,5 +1,6 @@
 -- The definitions at a few mails: what they fit, and what is near it that they don't.
-use Rattle.std.proofs.Common.{◌≡◌, lit<, true, false, Some, None, inl, inr, [], ◌∷◌, ◌++◌, codes, refl, arith}
+use Rattle.std.proofs.Common.{◌≡◌, lit<, true, false, Some, None, inl, inr, [], ◌∷◌, ◌++◌, codes, refl, arith, pos, neg_ℤ, rules}
+use Rattle.std.proofs.lemmas.Int.{ints}
 use Rattle.sievesyntax.specs.declared.tree.checks.Matching.TheVariants.{Is, Contains, Value, Count}
 use Rattle.sievesyntax.specs.declared.tree.checks.Relation.TheVariants as R
 use Rattle.sievesyntax.specs.declared.tree.checks.AddressPart.TheVariants.{LocalPart, Domain, User, Detail}
@@ -10,15 +11,32 @@ use Rattle.addrparts.specs.declared.address.Addr.{Addr}
 use Rattle.addrparts.specs.Reading.{addrs}
 use Rattle.addrparts.specs.Reading as reading
 use Rattle.addrparts.proofs.Lists.{addrs-are}
+use Rattle.maildates.specs.DateTimes.{IsZone}
+use Rattle.sieveexec.specs.declared.when.When.{When}
 use Rattle.sieveexec.specs.Mails.{MailSpec, mail_of, values_of, text_shown, has_addresses, addresses_of}
 use Rattle.sieveexec.specs.Matches.{matches_key, matches_some}
 use Rattle.sieveexec.specs.Counts.{fields_counted, addresses_counted, envelope_counted}
 use Rattle.sieveexec.specs.Parts.{CutsAtFirst, IsPartOf, part_of, Cuts, CutsAtLast, IsPart, part_in}
 use Rattle.sieveexec.specs.Holding.{IsBeyond, IsNamed, SomeAddress}
 
+-- the first second of 1970, two hours east of UTC
+abbrev start : When
+start = record { moment = 0; zone = pos 120; within = (search (rules, ints), search (rules, ints)) }
+
 -- "To: a@b", LF, "to: c", LF, from `x@y@z` to nobody
 abbrev sample : MailSpec
-sample = mail_of (codes "To: a@b" ++ 10 ∷ codes "to: c" ++ 10 ∷ []) (record { from = codes "x@y@z"; to = [] })
+sample = mail_of (codes "To: a@b" ++ 10 ∷ codes "to: c" ++ 10 ∷ []) (record { from = codes "x@y@z"; to = [] }) start
+
+-- the mail has the moment and the zone of its delivery
+sample-when : (sample.moment ≡ 0) × (sample.zone ≡ pos 120)
+sample-when = (refl, refl)
+
+-- a zone of 23:59 is one, and 24:00 is none, east and west
+last_zones : IsZone (pos 1439) × IsZone (neg_ℤ (pos 1439))
+last_zones = ((omega (arith, ints), omega (arith, ints)), (omega (arith, ints), omega (arith, ints)))
+
+no_day : (IsZone (pos 1440) → ⊥) × (IsZone (neg_ℤ (pos 1440)) → ⊥)
+no_day = (λ east. omega (arith, ints, east.1), λ west. omega (arith, ints, west.0))
 
 -- two fields have the name, in any case
 values-here : values_of sample (codes "TO") ≡ codes " a@b" ∷ codes " c" ∷ []
@@ -58,7 +76,7 @@ in_to = record { fields = refl; there = (0, codes " a@b", lit< tt, refl, (addrs 
 no_subject : (mail : MailSpec) (P : Addr → Type 0) → SomeAddress mail (codes "subject") P → ⊥
 no_subject mail P some = let no : false ≡ true = some.fields in absurd (cc no)
 
-subject_gives_none : addresses_of (mail_of (codes "Subject: a@b") (record { from = []; to = [] })) (codes "subject") ≡ []
+subject_gives_none : addresses_of (mail_of (codes "Subject: a@b") (record { from = []; to = [] }) start) (codes "subject") ≡ []
 subject_gives_none = refl
 
 -- an address is cut at its last `@`, and not at its first
@@ -143,7 +161,7 @@ counted : matches_some AsciiNumeric (Count R.Equal) (codes "02" ∷ []) (codes "
 counted = refl
 
 -- the null reverse-path isn't counted
-envelope-null : envelope_counted (mail_of [] (record { from = []; to = codes "x@y" })) (record { comparator = AsciiNumeric; part = part.All; matching = Count R.Equal; parts = record { from = true; to = true }; keys = [] }) ≡ 1
+envelope-null : envelope_counted (mail_of [] (record { from = []; to = codes "x@y" }) start) (record { comparator = AsciiNumeric; part = part.All; matching = Count R.Equal; parts = record { from = true; to = true }; keys = [] }) ≡ 1
 envelope-null = refl
 
 -- a test that names the recipient alone doesn't look at the sender

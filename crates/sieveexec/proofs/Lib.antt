@@ -2,10 +2,12 @@ pub mod Decisions
 pub mod MatchLemmas
 pub mod OrderLemmas
 pub mod PartLemmas
+pub mod DateLemmas
 pub mod TruthLemmas
 pub mod IndexLemmas
 pub mod JoinedLemmas
 pub mod NameLemmas
 mod Examples
+mod DateExamples
 pub mod MachineLemmas
 pub mod MailboxLemmas

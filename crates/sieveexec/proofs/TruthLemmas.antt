@@ -1,6 +1,7 @@
 -- The truth of a test is whether it holds.
 use Rattle.std.proofs.lemmas.Str.{IsUtf8-from_is_utf8, is_utf8-from_IsUtf8}
 use Rattle.std.proofs.Common.{decimal, IfOk, Result, ◌≡◌, ◌≢◌, ◌≤◌, ◌↔◌, length, ℕ, Bool, true, false, cond, ◌||◌, ◌⊎◌, inl, inr, List, [], ◌∷◌, Option, Some, None, refl, sym, ap, ◌∙◌, subst, arith}
+use Rattle.std.specs.Prelude.{unwrap_or}
 use Rattle.std.specs.Bool.{Decides, MatchBool}
 use Rattle.std.specs.List.{list_any, list_all, flat_map, Any, All}
 use Rattle.std.proofs.lemmas.List.Folds.{list_any-append}
@@ -11,18 +12,22 @@ use Rattle.sievesyntax.specs.declared.tree.checks.Collation.{Collation}
 use Rattle.sievesyntax.specs.declared.tree.checks.Matching.{Matching}
 use Rattle.sievesyntax.specs.declared.tree.checks.EnvelopeTest.{EnvelopeTest}
 use Rattle.sievesyntax.specs.declared.tree.checks.Check.{Check}
-use Rattle.sievesyntax.specs.declared.tree.checks.Check.TheVariants.{Size, Exists, Header, Address, Envelope, MailboxExists}
+use Rattle.sievesyntax.specs.declared.tree.checks.Check.TheVariants.{Size, Exists, Header, Address, Envelope, MailboxExists, Date, CurrentDate}
 use Rattle.sievesyntax.specs.Valid.{IsMailbox}
 use Rattle.addrparts.specs.declared.address.Addr.{Addr}
 use Rattle.addrparts.specs.Parts.{AreAddresses}
 use Rattle.addrparts.specs.Reading.{addrs}
 use Rattle.addrparts.proofs.Lists.{addrs-are, addrs-only}
+use Rattle.maildates.specs.Parts.{part_text}
+use Rattle.maildates.proofs.FindingLaws.{moment_decides}
+use Rattle.sieveexec.specs.Dates.{field_date, date_count}
+use Rattle.sieveexec.proofs.DateLemmas.{count_decides, found_decides}
 use Rattle.sieveexec.specs.Mails.{MailSpec, values_of, texts_of, has_addresses, addresses_of}
 use Rattle.sieveexec.specs.Matches.{MatchesSome}
 use Rattle.sieveexec.specs.Parts.{IsPartOf, part_of, IsPart, part_in}
 use Rattle.sieveexec.specs.Counts.{is_count, is_some_of, fields_counted, addresses_counted, envelope_counted}
 use Rattle.sieveexec.specs.Holding.{IsBeyond, IsNamed, SomeAddress, TestHolds}
-use Rattle.sieveexec.specs.Truth.{is_beyond, is_mailbox, is_some_there, part_matches, envelope_matches, truth_at}
+use Rattle.sieveexec.specs.Truth.{is_beyond, is_mailbox, is_some_there, part_matches, envelope_matches, date_matches, truth_at}
 use Rattle.sieveexec.proofs.Decisions.{decides_as, any_decides, all_decides}
 use Rattle.sieveexec.proofs.MatchLemmas.{matches_some_decides}
 use Rattle.sieveexec.proofs.PartLemmas.{given, part_of_is, part_of_only, part_is, part_only}
@@ -135,6 +140,16 @@ truth_decides mail (Address address) =
     (any_decides _ _ (λ name. some_decides _ _ (λ one.
     part_decides address.comparator address.matching address.keys (part_of address.part one) (IsPartOf address.part one) (part_of_is address.part one) (part_of_only address.part one)) mail name) address.fields)
 truth_decides mail (MailboxExists names) = all_decides is_mailbox IsMailbox mailbox_decides names
+truth_decides mail (Date test) =
+    counts_decides (is_count test.matching) _ _ _ _
+    (count_decides mail test.field _ (MatchesSome test.comparator test.matching test.keys) (matches_some_decides test.comparator test.matching test.keys (decimal (date_count (field_date mail test.field)))))
+    (found_decides (date_matches test.comparator test.matching test.keys test.part) (λ shown. MatchesSome test.comparator test.matching test.keys (part_text test.part shown))
+    (λ shown. matches_some_decides test.comparator test.matching test.keys (part_text test.part shown)) mail test.zone test.field)
+truth_decides mail (CurrentDate test) =
+    counts_decides (is_count test.matching) _ _ _ _
+    (matches_some_decides test.comparator test.matching test.keys (decimal 1))
+    (moment_decides (date_matches test.comparator test.matching test.keys test.part) (λ shown. MatchesSome test.comparator test.matching test.keys (part_text test.part shown))
+    (λ shown. matches_some_decides test.comparator test.matching test.keys (part_text test.part shown)) mail.moment (unwrap_or test.zone mail.zone))
 truth_decides mail (Envelope test) =
     counts_decides (is_count test.matching) _ _ _ _
     (matches_some_decides test.comparator test.matching test.keys (decimal (envelope_counted mail test)))
@@ -151,3 +166,6 @@ module _ {E : Type 0} (r : Result Bool E) (counts one other : Bool) where
 
 pub number_asked : (counts one other : Bool) → counts ≡ true → one ≡ cond counts one other
 number_asked counts one other on = subst (λ b. one ≡ cond b one other) (sym on) refl
+
+pub other_asked : (counts one : Bool) (here other : Bool) → counts ≡ false → here ≡ other → here ≡ cond counts one other
+other_asked counts one here other off same = subst (λ b. here ≡ cond b one other) (sym off) same

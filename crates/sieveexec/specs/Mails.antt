@@ -1,5 +1,5 @@
--- A message with its envelope, as the tests of a script see it (RFC 5228, 2.4.2 and 5).
-use Rattle.std.specs.Prelude.{ℕ, Bool, cond, codes, List, [], ◌∷◌, map, nat_eq}
+-- A message with its envelope and when it is delivered, as the tests of a script see it (RFC 5228, 2.4.2 and 5).
+use Rattle.std.specs.Prelude.{ℕ, ℤ, Bool, cond, codes, List, [], ◌∷◌, map, nat_eq}
 use Rattle.std.specs.List.{filter, flat_map, list_any}
 use Rattle.std.specs.Cmp.Lexicographic.{pointwise}
 use Rattle.octets.specs.Ascii.{lowered, trimmed}
@@ -9,8 +9,9 @@ use Rattle.encwords.specs.Values.{text_of}
 use Rattle.addrparts.specs.declared.address.Addr.{Addr}
 use Rattle.addrparts.specs.Reading.{addrs}
 use Rattle.sieveexec.specs.declared.envelope.Envelope.{Envelope}
+use Rattle.sieveexec.specs.declared.when.When.{When}
 
--- what a message and its envelope bring
+-- what a message, its envelope and its delivery bring
 pub record MailSpec : Type 0 where
   -- the message's fields, in order
   pub fields : List FieldText
@@ -21,16 +22,22 @@ pub record MailSpec : Type 0 where
   pub size : ℕ
   -- the message's octets
   pub octets : List ℕ
+  -- when it is delivered, in seconds since 1970-01-01 UTC
+  pub moment : ℕ
+  -- the host's zone at that moment, in minutes east of UTC
+  pub zone : ℤ
 
--- the mail of a message and its envelope
-abbrev pub mail_of : List ℕ → Envelope → MailSpec
-mail_of message envelope =
+-- the mail of a message, its envelope and the moment of its delivery
+abbrev pub mail_of : List ℕ → Envelope → When → MailSpec
+mail_of message envelope when =
     record {
       fields = fields_of message;
       from = envelope.from;
       to = envelope.to;
       size = size_of message;
       octets = message;
+      moment = when.moment;
+      zone = when.zone;
     }
 
 -- a field has this name, in any ASCII case

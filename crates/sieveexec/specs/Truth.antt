@@ -1,5 +1,5 @@
 -- The truth of tests at a mail: true exactly where the test holds (`truth_of_a_check` of laws.rt).
-use Rattle.std.specs.Prelude.{◌==◌, ℕ, Bool, true, false, cond, not, ◌&&◌, ◌||◌, nat_lt, length, decimal, List, [], ◌∷◌, Option, Some, None}
+use Rattle.std.specs.Prelude.{◌==◌, ℕ, Bool, true, false, cond, not, ◌&&◌, ◌||◌, ◌/◌, ◌%◌, nat_lt, length, decimal, List, [], ◌∷◌, Option, Some, None, unwrap_or}
 use Rattle.std.specs.List.{list_any, list_all}
 use Rattle.std.specs.Str.{is_utf8}
 use Rattle.sievesyntax.specs.declared.tree.checks.Bound.{Bound}
@@ -7,11 +7,19 @@ use Rattle.sievesyntax.specs.declared.tree.checks.Bound.TheVariants.{Over, Under
 use Rattle.sievesyntax.specs.declared.tree.checks.Header.{Header as HeaderTest}
 use Rattle.sievesyntax.specs.declared.tree.checks.Address.{Address as AddressTest}
 use Rattle.sievesyntax.specs.declared.tree.checks.EnvelopeTest.{EnvelopeTest}
+use Rattle.sievesyntax.specs.declared.tree.checks.DateTest.{DateTest}
+use Rattle.sievesyntax.specs.declared.tree.checks.CurrentDate.{CurrentDate}
 use Rattle.sievesyntax.specs.declared.tree.checks.Collation.{Collation}
 use Rattle.sievesyntax.specs.declared.tree.checks.Matching.{Matching}
 use Rattle.sievesyntax.specs.declared.tree.checks.Check.{Check}
-use Rattle.sievesyntax.specs.declared.tree.checks.Check.TheVariants.{Size, Exists, Header, Address, Envelope, MailboxExists}
+use Rattle.sievesyntax.specs.declared.tree.checks.Check.TheVariants.{Size, Exists, Header, Address, Envelope, MailboxExists, Date}
+use Rattle.sievesyntax.specs.declared.tree.checks.Check.TheVariants as Q
 use Rattle.addrparts.specs.declared.address.Addr.{Addr}
+use Rattle.maildates.specs.declared.date_time.DateTime.{DateTime}
+use Rattle.maildates.specs.declared.part.DatePart.{DatePart}
+use Rattle.maildates.specs.Finding.{moment_passes}
+use Rattle.maildates.specs.Parts.{part_text}
+use Rattle.sieveexec.specs.Dates.{field_date, date_count, found_passes}
 use Rattle.sieveexec.specs.Mails.{MailSpec, values_of, texts_of, addresses_of}
 use Rattle.sieveexec.specs.Matches.{matches_some}
 use Rattle.sieveexec.specs.Parts.{part_of, part_in}
@@ -90,6 +98,24 @@ envelope_holds mail test =
     (count_matches test.comparator test.matching test.keys (envelope_counted mail test))
     (some_named_matches mail test)
 
+-- whether the part of a date matches a key
+abbrev pub date_matches : Collation → Matching → List (List ℕ) → DatePart → DateTime → Bool
+date_matches collation matching keys part date = matches_some collation matching keys (part_text part date)
+
+-- whether `date` holds
+abbrev pub date_holds : MailSpec → DateTest → Bool
+date_holds mail test =
+    cond (is_count test.matching)
+    (count_matches test.comparator test.matching test.keys (date_count (field_date mail test.field)))
+    (found_passes mail test.zone (date_matches test.comparator test.matching test.keys test.part) (field_date mail test.field))
+
+-- whether `currentdate` holds
+abbrev pub current_holds : MailSpec → CurrentDate → Bool
+current_holds mail test =
+    cond (is_count test.matching)
+    (count_matches test.comparator test.matching test.keys 1)
+    (moment_passes (mail.moment / 60) (mail.moment % 60) (unwrap_or test.zone mail.zone) (date_matches test.comparator test.matching test.keys test.part))
+
 -- whether a test that looks at the message or its envelope holds
 abbrev pub truth_at : MailSpec → Check → Bool
 truth_at mail (Size size) = is_beyond size.bound mail.size size.limit
@@ -98,3 +124,5 @@ truth_at mail (Header header) = header_holds mail header
 truth_at mail (Address address) = address_holds mail address
 truth_at mail (Envelope test) = envelope_holds mail test
 truth_at mail (MailboxExists names) = list_all is_mailbox names
+truth_at mail (Date test) = date_holds mail test
+truth_at mail (Q.CurrentDate test) = current_holds mail test

@@ -4,6 +4,7 @@ ghost use Rattle.sievesyntax.specs.Valid.{IsMailbox};
 ghost use Rattle.sieveexec.specs.Counts.{is_counted, envelope_counted};
 ghost use Rattle.sieveexec.specs.Truth.{truth_at, header_holds, address_holds, envelope_holds, some_named_matches, envelope_matches};
 
+use crate::date::{current_holds, date_holds};
 use crate::envelope::part_in;
 use crate::field_cache::FieldCache;
 use crate::joined_address::JoinedAddress;
@@ -46,10 +47,12 @@ impl<'m, 'a> CachedMail<'m, 'a> {
         }
     }
 
-    /// Whether a test that looks at the message or its envelope holds (RFC 5228, 5.1, 5.4, 5.5, 5.7, 5.9; RFC 5231; RFC 5490, 3.1).
+    /// Whether a test that looks at the message or its envelope holds (RFC 5228, 5.1, 5.4, 5.5, 5.7, 5.9; RFC 5231; RFC 5260, 4 and 5;
+    /// RFC 5490, 3.1).
     ///
     /// A value is compared with each key: the time is that of `is`, `contains` or `matches` or one pass over both for each pair, and
-    /// where a test is the first to ask for a field, linear in the field's values besides.
+    /// where a test is the first to ask for a field, linear in the field's values besides. Each
+    /// `date` reads the one value that it looks at.
     pub fn evaluate(&mut self, alloc: Global, check: &Check) -> Result<bool, AllocError>
         ensures truth { IfOk result (λ holds. holds ≡ truth_at self.old check.now) }
         ensures kept { self.new ≡ self.old }
@@ -61,6 +64,8 @@ impl<'m, 'a> CachedMail<'m, 'a> {
             Check::Address(address) => self.address_holds(alloc, address),
             Check::Envelope(test) => Ok(envelope_holds(self.mail, test)),
             Check::MailboxExists(names) => Ok(are_mailboxes(names.as_slice())),
+            Check::Date(test) => date_holds(alloc, self.mail, test),
+            Check::CurrentDate(test) => current_holds(alloc, self.mail, test),
         }
     }
 

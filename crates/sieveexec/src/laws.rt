@@ -4,6 +4,7 @@ ghost use Rattle.std.specs.List.{list_all};
 ghost use Rattle.mailhead.specs.Fields.{is_name};
 ghost use Rattle.sievesyntax.specs.declared.tree.checks.Check.{Check};
 ghost use Rattle.sieveexec.specs.declared.envelope.Envelope.{Envelope};
+ghost use Rattle.sieveexec.specs.declared.when.When.{When};
 ghost use Rattle.sieveexec.specs.Mails.{MailSpec, mail_of, values_of};
 ghost use Rattle.sieveexec.specs.Parts.{IsUser, IsDetail, user_of, detail_of, Cuts, local_of, domain_of};
 ghost use Rattle.sieveexec.specs.Holding.{TestHolds};
@@ -29,6 +30,6 @@ pub fn parts_of_a_local_part()
 
 /// A name that is no field's name, empty or with an octet that can't stand in one, names no field.
 pub fn invalid_names()
-    ensures { (message : List ℕ) (envelope : Envelope) (name : List ℕ) → (list_all is_name name ≡ false) ⊎ (name ≡ [])
-        → values_of (mail_of message envelope) name ≡ [] }
+    ensures { (message : List ℕ) (envelope : Envelope) (when : When) (name : List ℕ) → (list_all is_name name ≡ false) ⊎ (name ≡ [])
+        → values_of (mail_of message envelope when) name ≡ [] }
 {}

@@ -4,6 +4,7 @@
 mod address;
 mod cached_mail;
 mod copies;
+mod date;
 mod envelope;
 mod field_cache;
 mod header;
@@ -17,6 +18,7 @@ mod matching;
 mod outcome;
 mod raw_values;
 mod run_state;
+mod when;
 
 pub use cached_mail::CachedMail;
 pub use envelope::{Envelope, domain_in, local_in};
@@ -24,3 +26,4 @@ pub use machine::run;
 pub use mail::Mail;
 pub use outcome::{Failure, Outcome};
 pub use run_state::INBOX;
+pub use when::When;

@@ -1,6 +1,7 @@
-//! A message with its envelope, as the tests of a script see it.
-ghost use Rattle.std.specs.Prelude.{◌≡◌, [], IfOk, unwrap_or, option_copied};
+//! A message with its envelope and when it is delivered, as the tests of a script see it.
+ghost use Rattle.std.specs.Prelude.{◌≡◌, ℕ, List, [], ◌∷◌, IfOk, MatchOption, unwrap_or, option_copied};
 ghost use Rattle.mailhead.specs.Fields.{texts_of};
+ghost use Rattle.maildates.specs.DateTimes.{IsZone};
 ghost use Rattle.sieveexec.specs.Mails.{mail_of};
 ghost use Rattle.sieveexec.specs.Indexes.{raws_keyed};
 ghost use Rattle.sieveexec.specs.Truth.{is_beyond, is_some_there, all_exist};
@@ -8,6 +9,7 @@ ghost use Rattle.sieveexec.specs.Truth.{is_beyond, is_some_there, all_exist};
 use crate::envelope::Envelope;
 use crate::index::index_of;
 use crate::raw_values::RawValues;
+use crate::when::When;
 use mailhead::{Field, Head};
 use octets::{Octets, lowered};
 use sievesyntax::{Bound, Size};
@@ -15,14 +17,15 @@ use std::alloc::{AllocError, Global};
 use std::collections::BTreeMap;
 use std::marker::Model;
 
-/// A message with its envelope (RFC 5228, 2.4.2). It borrows the message and copies nothing of it but the names of its
-/// fields. Contracts see the fields, the envelope's addresses, the size and the octets.
+/// A message with its envelope (RFC 5228, 2.4.2) and when it is delivered. It borrows the message and copies nothing of it but
+/// the names of its fields. Contracts see the fields, the envelope's addresses, the size, the octets, the moment and the zone.
 #[derive(Drop)]
 pub struct Mail<'a> {
     head: Head<'a>,
     envelope: Envelope,
     size: u64,
     index: BTreeMap<Octets, RawValues<'a>>,
+    when: When,
 }
 
 impl<'a> Model for Mail<'a> {
@@ -33,7 +36,7 @@ impl<'a> Model for Mail<'a> {
 
     ghost Value = { MailSpec };
 
-    ghost view = { λ mail. mail_of mail.head mail.envelope };
+    ghost view = { λ mail. mail_of mail.head mail.envelope mail.when };
 
     ghost invariant = { λ mail. (mail.size ≡ size_of mail.head) × IsIndex (fields_of mail.head) mail.index };
 }
@@ -47,8 +50,9 @@ impl<'a> Mail<'a> {
         alloc: Global,
         message: &'a [u8],
         envelope: Envelope,
+        when: When,
     ) -> Result<Mail<'a>, AllocError>
-        ensures { IfOk result (λ mail. mail ≡ mail_of message.now envelope) }
+        ensures { IfOk result (λ mail. mail ≡ mail_of message.now envelope when) }
     {
         let head = Head::read(alloc, message)?;
         let size = head.size();
@@ -58,6 +62,7 @@ impl<'a> Mail<'a> {
             envelope,
             size,
             index,
+            when,
         })
     }
 
@@ -96,6 +101,21 @@ impl<'a> Mail<'a> {
         self.envelope.to.as_slice()
     }
 
+    /// The moment of the delivery, in seconds since 1970-01-01 UTC.
+    pub fn moment(&self) -> u64
+        ensures { result ≡ self.now.moment }
+    {
+        self.when.moment
+    }
+
+    /// The zone of the host at that moment, in minutes east of UTC.
+    pub fn zone(&self) -> i16
+        ensures zone { result ≡ self.now.zone }
+        ensures within { IsZone result }
+    {
+        self.when.zone
+    }
+
     /// The raw values of the fields that have this name in lower case; none where no field has it.
     ///
     /// No pass over the fields: log n comparisons of names where the fields have n names.
@@ -103,6 +123,13 @@ impl<'a> Mail<'a> {
         ensures { unwrap_or (option_copied result) [] ≡ raws_keyed self.now.fields key.now }
     {
         self.index.get(key)
+    }
+
+    /// The raw value of the first field that has this name in lower case.
+    pub(crate) fn first_raw(&self, key: &Octets) -> Option<&'a [u8]>
+        ensures { MatchOption result (raws_keyed self.now.fields key.now ≡ []) (λ raw. (more : List (List ℕ)) × (raws_keyed self.now.fields key.now ≡ raw.now ∷ more)) }
+    {
+        self.raws(key)?.as_slice().first().copied()
     }
 
     /// Whether some field has this name in lower case.

@@ -13,10 +13,10 @@ use Rattle.sievesyntax.specs.declared.tree.checks.AddressPart.{AddressPart}
 use Rattle.sievesyntax.specs.declared.tree.checks.Collation.{Collation}
 use Rattle.sievesyntax.specs.declared.tree.checks.Matching.{Matching}
 use Rattle.sievesyntax.specs.declared.tree.checks.Check.{Check}
-use Rattle.sievesyntax.specs.declared.tree.checks.Check.TheVariants.{Size, Exists, Header, Address, Envelope, MailboxExists}
+use Rattle.sievesyntax.specs.declared.tree.checks.Check.TheVariants.{Size, Exists, Header, Address, Envelope, MailboxExists, Date, CurrentDate}
 use Rattle.sievesyntax.specs.declared.tree.vacation.VacArgs.{VacArgs}
-use Rattle.sievesyntax.specs.Before.{with_cancelled, performed_in, outcome_in, IsOfBefore, EachAction, EachInBranches, EachIn, StillMeans, IsFormerMatch, IsFormerCheck, IsFormerAction, EachCheck, EachCheckOf, EachAsks, EachAsksInBranches, EachAsksIn, MeansFormerly}
-use Rattle.sievesyntax.specs.Languages.{Language, is_capability_before, is_former_capability, today, before, former}
+use Rattle.sievesyntax.specs.Before.{with_cancelled, performed_in, outcome_in, IsOfBefore, EachAction, EachInBranches, EachIn, StillMeans, IsFormerMatch, IsFormerCheck, IsFormerAction, IsUndatedCheck, EachCheck, EachCheckOf, EachAsks, EachAsksInBranches, EachAsksIn, MeansFormerly, MeansUndated}
+use Rattle.sievesyntax.specs.Languages.{Language, is_capability_before, is_former_capability, is_undated_capability, today, before, former, undated}
 use Rattle.sievesyntax.specs.Lexemes.{lexemes_of}
 use Rattle.sievesyntax.specs.Meaning.{holds, ended, outcome}
 use Rattle.sievesyntax.specs.Means.{MeansIn}
@@ -25,7 +25,7 @@ use Rattle.sievesyntax.specs.Trace.{Trace, then_runs, runs, runs_branch, runs_al
 use Rattle.sievesyntax.specs.Tree.{TestTree, yes, no, looks, not_of, all_of, any_of, Tests, no_tests, test, CommandTree, require, choose, stop, act, Branches, no_branches, branch, Commands, no_commands, command}
 use Rattle.sievesyntax.specs.Valid.{is_named, is_capability, granted_by, is_subaddress, is_relational, is_numeric, MayPart, MayMatch, MayCheck, MayTest, MayAllTest, MayAct, MayStand, MayBranch, MayAllStand, required, after_requires, IsValid, IsValidIn}
 use Rattle.sievesyntax.proofs.DecodingLemmas.{read_as_written}
-use Rattle.sievesyntax.proofs.LanguageLemmas.{read_today}
+use Rattle.sievesyntax.proofs.LanguageLemmas.{read_today, decoded_today}
 use Rattle.sievesyntax.proofs.TraceLemmas.{outcome_in_turn}
 
 -- ---- what `require` knew
@@ -73,11 +73,28 @@ seven_more true b c d e f g h is = refl
 seven_more false true c d e f g h is = refl
 seven_more false false c d e f g h is = five_more c d e f g h is
 
+twelve_more : (a b c d e f g h i j k l m : Bool) → (a || (b || (c || (d || (e || (f || (g || (h || (i || (j || (k || l))))))))))) ≡ true
+    → (a || (b || (c || (d || (e || (f || (g || (h || (i || (j || (k || (l || m)))))))))))) ≡ true
+twelve_more true b c d e f g h i j k l m is = refl
+twelve_more false true c d e f g h i j k l m is = refl
+twelve_more false false true d e f g h i j k l m is = refl
+twelve_more false false false true e f g h i j k l m is = refl
+twelve_more false false false false true f g h i j k l m is = refl
+twelve_more false false false false false true g h i j k l m is = refl
+twelve_more false false false false false false true h i j k l m is = refl
+twelve_more false false false false false false false h i j k l m is = five_more h i j k l m is
+
 -- what was known is known
+known_undated : (name : List ℕ) → is_undated_capability name ≡ true → is_capability name ≡ true
+known_undated name =
+    twelve_more (is_named (codes "fileinto") name) (is_named (codes "envelope") name) (is_named (codes "vacation") name) (is_named (codes "comparator-i;octet") name) (is_named (codes "comparator-i;ascii-casemap") name)
+    (is_named (codes "copy") name) (is_named (codes "vacation-seconds") name) (is_named (codes "subaddress") name) (is_named (codes "relational") name) (is_named (codes "comparator-i;ascii-numeric") name)
+    (is_named (codes "encoded-character") name) (is_named (codes "mailbox") name) (is_named (codes "date") name)
+
 known_formerly : (name : List ℕ) → is_former_capability name ≡ true → is_capability name ≡ true
-known_formerly name =
-    seven_more (is_named (codes "fileinto") name) (is_named (codes "envelope") name) (is_named (codes "vacation") name) (is_named (codes "comparator-i;octet") name) (is_named (codes "comparator-i;ascii-casemap") name)
-    (is_named (codes "copy") name) (is_named (codes "vacation-seconds") name) (is_named (codes "subaddress") name || (is_named (codes "relational") name || (is_named (codes "comparator-i;ascii-numeric") name || (is_named (codes "encoded-character") name || is_named (codes "mailbox") name))))
+known_formerly name is =
+    known_undated name (seven_more (is_named (codes "fileinto") name) (is_named (codes "envelope") name) (is_named (codes "vacation") name) (is_named (codes "comparator-i;octet") name) (is_named (codes "comparator-i;ascii-casemap") name)
+    (is_named (codes "copy") name) (is_named (codes "vacation-seconds") name) (is_named (codes "subaddress") name || (is_named (codes "relational") name || (is_named (codes "comparator-i;ascii-numeric") name || (is_named (codes "encoded-character") name || is_named (codes "mailbox") name)))) is)
 
 still_former : (name : List ℕ) → is_capability_before name ≡ true → is_former_capability name ≡ true
 still_former name =
@@ -181,8 +198,15 @@ no_encoded name = apart_formerly (codes "encoded-character") name refl refl refl
 no_mailbox : (name : List ℕ) → is_former_capability name ≡ true → is_named (codes "mailbox") name ≡ false
 no_mailbox name = apart_formerly (codes "mailbox") name refl refl refl refl refl refl refl
 
+no_date : (name : List ℕ) → is_former_capability name ≡ true → is_named (codes "date") name ≡ false
+no_date name = apart_formerly (codes "date") name refl refl refl refl refl refl refl
+
+-- what isn't granted isn't asked for
+ungranted : {X : Type 0} (granted : Bool) → granted ≡ false → granted ≡ true → X
+ungranted granted none may = let bad : false ≡ true = sym none ∙ may in absurd (cc bad)
+
 -- where none of the new ones is granted
-module _ (granted : Capabilities) (none : granted.subaddress ≡ false) (no_relation : granted.relational ≡ false) (no_number : granted.numeric ≡ false) (no_box : granted.mailbox ≡ false) where
+module _ (granted : Capabilities) (none : granted.subaddress ≡ false) (no_relation : granted.relational ≡ false) (no_number : granted.numeric ≡ false) (no_box : granted.mailbox ≡ false) (no_day : granted.date ≡ false) where
   former_part : (part : AddressPart) → MayPart granted part → is_subaddress part ≡ false
   former_part part may = not_true (is_subaddress part) (unused granted.subaddress (is_subaddress part) none may)
 
@@ -198,7 +222,9 @@ module _ (granted : Capabilities) (none : granted.subaddress ≡ false) (no_rela
   former_check (Header header) may = former_match header.comparator header.matching may
   former_check (Address address) may = (former_part address.part may.0, former_match address.comparator address.matching may.1)
   former_check (Envelope envelope) may = (former_part envelope.part may.1, former_match envelope.comparator envelope.matching may.2)
-  former_check (MailboxExists names) may = let bad : false ≡ true = sym no_box ∙ may in absurd (cc bad)
+  former_check (MailboxExists names) may = ungranted granted.mailbox no_box may
+  former_check (Date date) may = ungranted granted.date no_day may.0
+  former_check (CurrentDate current) may = ungranted granted.date no_day may.0
 
   former_action : (action : Action) → MayAct granted action → IsFormerAction action
   former_action Keep may = tt
@@ -207,52 +233,96 @@ module _ (granted : Capabilities) (none : granted.subaddress ≡ false) (no_rela
   former_action (Redirect redirect) may = tt
   former_action (Vacation args) may = tt
 
+-- where `date` isn't granted
+module _ (granted : Capabilities) (no_day : granted.date ≡ false) where
+  undated_check : (check : Check) → MayCheck granted check → IsUndatedCheck check
+  undated_check (Size size) may = tt
+  undated_check (Exists fields) may = tt
+  undated_check (Header header) may = tt
+  undated_check (Address address) may = tt
+  undated_check (Envelope envelope) may = tt
+  undated_check (MailboxExists names) may = tt
+  undated_check (Date date) may = ungranted granted.date no_day may.0
+  undated_check (CurrentDate current) may = ungranted granted.date no_day may.0
+
+-- what is so of each test that may stand is so of each in a tree that may
+module _ (P : Check → Type 0) (granted : Capabilities) (each : (check : Check) → MayCheck granted check → P check) where
   mutual
-    former_test : (condition : TestTree) → MayTest granted condition → EachCheck IsFormerCheck condition
-    former_test yes may = tt
-    former_test no may = tt
-    former_test (looks check) may = former_check check may
-    former_test (not_of inner) may = former_test inner may
-    former_test (all_of inner) may = former_tests inner may
-    former_test (any_of inner) may = former_tests inner may
+    asks_test : (condition : TestTree) → MayTest granted condition → EachCheck P condition
+    asks_test yes may = tt
+    asks_test no may = tt
+    asks_test (looks check) may = each check may
+    asks_test (not_of inner) may = asks_test inner may
+    asks_test (all_of inner) may = asks_tests inner may
+    asks_test (any_of inner) may = asks_tests inner may
 
-    former_tests : (tests : Tests) → MayAllTest granted tests → EachCheckOf IsFormerCheck tests
-    former_tests no_tests may = tt
-    former_tests (test first more) may = (former_test first may.0, former_tests more may.1)
+    asks_tests : (tests : Tests) → MayAllTest granted tests → EachCheckOf P tests
+    asks_tests no_tests may = tt
+    asks_tests (test first more) may = (asks_test first may.0, asks_tests more may.1)
 
   mutual
-    former_command : (tree : CommandTree) → MayStand granted tree → EachAsks IsFormerCheck tree
-    former_command (require names) may = tt
-    former_command (choose branches) may = former_branches branches may
-    former_command stop may = tt
-    former_command (act action) may = tt
+    asks_of : (tree : CommandTree) → MayStand granted tree → EachAsks P tree
+    asks_of (require names) may = tt
+    asks_of (choose branches) may = asks_in_branches branches may
+    asks_of stop may = tt
+    asks_of (act action) may = tt
 
-    former_branches : (branches : Branches) → MayBranch granted branches → EachAsksInBranches IsFormerCheck branches
-    former_branches no_branches may = tt
-    former_branches (branch condition block more) may = (former_test condition may.0.0, (former_commands block may.1.0, former_branches more may.1.1))
+    asks_in_branches : (branches : Branches) → MayBranch granted branches → EachAsksInBranches P branches
+    asks_in_branches no_branches may = tt
+    asks_in_branches (branch condition block more) may = (asks_test condition may.0.0, (each_asks block may.1.0, asks_in_branches more may.1.1))
 
-    former_commands : (commands : Commands) → MayAllStand granted commands → EachAsksIn IsFormerCheck commands
-    former_commands no_commands may = tt
-    former_commands (command first more) may = (former_command first may.0, former_commands more may.1)
+    each_asks : (commands : Commands) → MayAllStand granted commands → EachAsksIn P commands
+    each_asks no_commands may = tt
+    each_asks (command first more) may = (asks_of first may.0, each_asks more may.1)
 
 -- each test in a tree stands after its requires
-after_former : (tree : Commands) → EachAsksIn IsFormerCheck (after_requires tree) → EachAsksIn IsFormerCheck tree
-after_former no_commands each = each
-after_former (command (require names) more) each = (tt, after_former more each)
-after_former (command (choose choice) more) each = each
-after_former (command stop more) each = each
-after_former (command (act action) more) each = each
+after_asks : (P : Check → Type 0) (tree : Commands) → EachAsksIn P (after_requires tree) → EachAsksIn P tree
+after_asks P no_commands each = each
+after_asks P (command (require names) more) each = (tt, after_asks P more each)
+after_asks P (command (choose choice) more) each = each
+after_asks P (command stop more) each = each
+after_asks P (command (act action) more) each = each
 
 valid_former : (tree : Commands) → IsValidIn is_former_capability tree → EachAsksIn IsFormerCheck tree × EachIn IsFormerAction tree
 valid_former tree valid =
     let names = required tree in
+    let granted = granted_by names in
     let none = none_named (codes "subaddress") names (of_all _ _ no_subaddress names valid.known) in
     let no_relation = none_named (codes "relational") names (of_all _ _ no_relational names valid.known) in
     let no_number = none_named (codes "comparator-i;ascii-numeric") names (of_all _ _ no_numeric names valid.known) in
-    let no_box = none_named (codes "mailbox") names (of_all _ _ no_mailbox names valid.known) in (
-      after_former tree (former_commands (granted_by names) none no_relation no_number no_box (after_requires tree) valid.stand),
-      after_each IsFormerAction tree (each_act IsFormerAction (granted_by names) (former_action (granted_by names) none no_relation no_number no_box) (after_requires tree) valid.stand),
+    let no_box = none_named (codes "mailbox") names (of_all _ _ no_mailbox names valid.known) in
+    let no_day = none_named (codes "date") names (of_all _ _ no_date names valid.known) in (
+      after_asks IsFormerCheck tree (each_asks IsFormerCheck granted (former_check granted none no_relation no_number no_box no_day) (after_requires tree) valid.stand),
+      after_each IsFormerAction tree (each_act IsFormerAction granted (former_action granted none no_relation no_number no_box no_day) (after_requires tree) valid.stand),
     )
+
+-- ---- trees that were valid before `date` have no test of a date
+
+-- a name that was known is none of `date`
+module _ (word name : List ℕ)
+    (fileinto : pointwise nat_eq (codes "fileinto") word ≡ false) (envelope : pointwise nat_eq (codes "envelope") word ≡ false) (vacation : pointwise nat_eq (codes "vacation") word ≡ false)
+    (octet : pointwise nat_eq (codes "comparator-i;octet") word ≡ false) (casemap : pointwise nat_eq (codes "comparator-i;ascii-casemap") word ≡ false)
+    (copy : pointwise nat_eq (codes "copy") word ≡ false) (seconds : pointwise nat_eq (codes "vacation-seconds") word ≡ false) (subaddress : pointwise nat_eq (codes "subaddress") word ≡ false)
+    (relational : pointwise nat_eq (codes "relational") word ≡ false) (numeric : pointwise nat_eq (codes "comparator-i;ascii-numeric") word ≡ false)
+    (encoded : pointwise nat_eq (codes "encoded-character") word ≡ false) (mailbox : pointwise nat_eq (codes "mailbox") word ≡ false) where
+  apart_undated : is_undated_capability name ≡ true → is_named word name ≡ false
+  apart_undated =
+      let P = is_named word name ≡ false in
+      either P _ _ (apart (codes "fileinto") word name fileinto) (either P _ _ (apart (codes "envelope") word name envelope)
+      (either P _ _ (apart (codes "vacation") word name vacation) (either P _ _ (apart (codes "comparator-i;octet") word name octet)
+      (either P _ _ (apart (codes "comparator-i;ascii-casemap") word name casemap) (either P _ _ (apart (codes "copy") word name copy)
+      (either P _ _ (apart (codes "vacation-seconds") word name seconds) (either P _ _ (apart (codes "subaddress") word name subaddress)
+      (either P _ _ (apart (codes "relational") word name relational) (either P _ _ (apart (codes "comparator-i;ascii-numeric") word name numeric)
+      (either P _ _ (apart (codes "encoded-character") word name encoded) (apart (codes "mailbox") word name mailbox)))))))))))
+
+not_date : (name : List ℕ) → is_undated_capability name ≡ true → is_named (codes "date") name ≡ false
+not_date name = apart_undated (codes "date") name refl refl refl refl refl refl refl refl refl refl refl refl
+
+valid_undated : (tree : Commands) → IsValidIn is_undated_capability tree → EachAsksIn IsUndatedCheck tree
+valid_undated tree valid =
+    let names = required tree in
+    let no_day = none_named (codes "date") names (of_all _ _ not_date names valid.known) in
+    after_asks IsUndatedCheck tree (each_asks IsUndatedCheck (granted_by names) (undated_check (granted_by names) no_day) (after_requires tree) valid.stand)
 
 -- ---- the outcome
 
@@ -411,3 +481,15 @@ means_formerly text tree means =
       actions = (valid_former tree means.valid).1;
       same = λ truth. todays_outcome truth tree;
     }
+
+pub means_undated : (text : List ℕ) (tree : Commands) → MeansIn undated text tree → MeansUndated text tree
+means_undated text tree means = record {
+  means = record {
+    tokens = means.tokens;
+    spelled = means.spelled;
+    read = decoded_today undated (contents_of means.tokens) tree means.read;
+    valid = record { known = of_all _ _ known_undated (required tree) means.valid.known; stand = means.valid.stand; shallow = means.valid.shallow };
+  };
+  checks = valid_undated tree means.valid;
+  same = λ truth. todays_outcome truth tree;
+}

@@ -1,5 +1,6 @@
 -- What is read in a language has no tag that the language hasn't.
 use Rattle.std.proofs.Common.{◌≡◌, ℕ, Bool, true, false, cond, List, [], ◌∷◌, Option, Some, None, refl, sym, ap, subst, inl, inr}
+use Rattle.octets.proofs.Lists.{some_pair}
 use Rattle.sievelex.specs.declared.token.Content.{Content}
 use Rattle.sievelex.specs.declared.token.Content.TheVariants as C
 use Rattle.sievelex.specs.declared.token.Mark.TheVariants as K
@@ -17,10 +18,13 @@ use Rattle.sievesyntax.specs.declared.table.tag_group.TagValue.TheVariants as S
 use Rattle.sievesyntax.specs.declared.table.tag_group.TagGroup.{TagGroup}
 use Rattle.sievesyntax.specs.Arguments.{IsOther, AreStrings, IsArgument}
 use Rattle.sievesyntax.specs.Chains.{Chain}
+use Rattle.sievesyntax.specs.declared.parser.decoding.Decoding.{Decoding}
+use Rattle.sievesyntax.specs.declared.parser.decoding.Decoding.TheVariants.{Open, Named, On, Off}
+use Rattle.sievesyntax.specs.Decoding.{decoding_after, seen, seen_from, as_read}
 use Rattle.sievesyntax.specs.Grammar.{Braced, Tested, IsStatement, IsCommand, IsChoice, AreBranches, AreCommands, ReadsScript}
 use Rattle.sievesyntax.specs.Languages.{Language, lexeme_in, lexemes_in}
-use Rattle.sievesyntax.specs.Lexemes.{tag_of, Lexeme, keyword, tag, number, text, mark, lexeme_of, lexemes_of}
-use Rattle.sievesyntax.specs.Positional.{pair, one_number, one_text, one_list, two_lists}
+use Rattle.sievesyntax.specs.Lexemes.{tag_of, Lexeme, keyword, tag, number, text, mark, misfit, lexeme_of, lexemes_of}
+use Rattle.sievesyntax.specs.Positional.{pair, string_of, one_number, one_text, one_list, two_lists, text_and_list, two_texts_and_list}
 use Rattle.sievesyntax.specs.Table.{IsRow, IsPlainTest, IsPlainCommand}
 use Rattle.sievesyntax.specs.Tags.{strings_of, IsTagValue, IsAllowed, IsCall}
 use Rattle.sievesyntax.specs.Tests.{IsPlain, IsTest, AreTests, AreMoreTests}
@@ -84,6 +88,8 @@ tag_value_known S.Mime from to e so = first_known _ from to e tt so
 tag_value_known (S.Handle handle) from to e so = first_known _ from _ e tt (tt, so)
 tag_value_known S.Copy from to e so = first_known _ from to e tt so
 tag_value_known S.Create from to e so = first_known _ from to e tt so
+tag_value_known (S.Zone zone) from to (string, (e, is)) so = first_known _ from _ e tt (tt, so)
+tag_value_known S.OriginalZone from to e so = first_known _ from to e tt so
 
 tag_values_known : (allowed : List TagGroup) (tag_values : List TagValue) (from to : List Argument) → Chain (IsAllowed allowed) tag_values from to → AreKnown to → AreKnown from
 tag_values_known allowed [] from to e so = subst AreKnown (sym e) so
@@ -122,6 +128,35 @@ lists_known (first ∷ (second ∷ [])) texts e = step (strings_of first) (strin
     step None two p q e = absurd (cc e)
 lists_known (first ∷ (second ∷ (_ ∷ _))) texts e = absurd (cc e)
 
+string_known : (value : Argument) (string : List ℕ) → string_of value ≡ Some string → IsKnown value
+string_known (A.Tag t) string e = absurd (cc e)
+string_known (A.Number n) string e = tt
+string_known (A.Text other) string e = tt
+string_known (A.Strings strings) string e = tt
+
+pair_there : {X Y : Type 0} (one : Option X) (two : Option Y) (both : X × Y) → pair one two ≡ Some both → (one ≡ Some both.0) × (two ≡ Some both.1)
+pair_there {X} {Y} (Some x) (Some y) both e = let same = some_pair (x, y) both e in (ap (λ (v : X). Some v) same.0, ap (λ (v : Y). Some v) same.1)
+pair_there (Some x) None both e = absurd (cc e)
+pair_there None two both e = absurd (cc e)
+
+two_known : (args : List Argument) (both : List ℕ × List (List ℕ)) → text_and_list args ≡ Some both → AreKnown args
+two_known [] both e = tt
+two_known (first ∷ []) both e = absurd (cc e)
+two_known (first ∷ (second ∷ [])) both e =
+    let there = pair_there (string_of first) (strings_of second) both e in
+    (string_known first both.0 there.0, (strings_known second both.1 there.1, tt))
+two_known (first ∷ (second ∷ (_ ∷ _))) both e = absurd (cc e)
+
+three_known : (args : List Argument) (all : List ℕ × (List ℕ × List (List ℕ))) → two_texts_and_list args ≡ Some all → AreKnown args
+three_known [] all e = tt
+three_known (first ∷ []) all e = absurd (cc e)
+three_known (first ∷ (second ∷ [])) all e = absurd (cc e)
+three_known (first ∷ (second ∷ (third ∷ []))) all e =
+    let there = pair_there (string_of first) (pair (string_of second) (strings_of third)) all e in
+    let more = pair_there (string_of second) (strings_of third) all.1 there.1 in
+    (string_known first all.0 there.0, (string_known second all.1.0 more.0, (strings_known third all.1.1 more.1, tt)))
+three_known (first ∷ (second ∷ (third ∷ (_ ∷ _)))) all e = absurd (cc e)
+
 -- the rows of the table
 row_known : {X T : Type 0} (allowed : List TagGroup) (Says : List TagValue → List Argument → X → Type 0) (make : X → T) → ((tag_values : List TagValue) (positional : List Argument) (x : X) → Says tag_values positional x → AreKnown positional)
     → (args : List Argument) (tree : T) → IsRow (IsCall allowed Says) make args tree → AreKnown args
@@ -140,6 +175,8 @@ test_known W.Exists args tree is = row_known _ _ _ (λ s p fields says. list_kno
 test_known W.Header args tree is = row_known _ _ _ (λ s p header says. lists_known p (header.fields, header.keys) says.lists) args tree is
 test_known W.Address args tree is = row_known _ _ _ (λ s p address says. lists_known p (address.fields, address.keys) says.lists) args tree is
 test_known W.MailboxExists args tree is = row_known _ _ _ (λ s p names says. list_known p names says) args tree is
+test_known W.Date args tree is = row_known _ _ _ (λ s p date says. three_known p (date.field, (says.name, date.keys)) says.arguments) args tree is
+test_known W.CurrentDate args tree is = row_known _ _ _ (λ s p current says. two_known p (says.name, current.keys) says.arguments) args tree is
 test_known W.Envelope args tree is = row_known _ _ _ (λ s p envelope says. lists_known p (says.names, envelope.keys) says.lists) args tree is
 test_known _ args tree is = absurd is
 
@@ -259,3 +296,25 @@ lexemes_same language (content ∷ more) known = λ i. lexeme_same language cont
 pub read_today : (language : Language) (contents : List Content) (tree : Commands) → ReadsScript tree (lexemes_in language contents) → ReadsScript tree (lexemes_of contents)
 read_today language contents tree read =
     subst (ReadsScript tree) (lexemes_same language contents (script_known tree (lexemes_in language contents) read)) read
+
+-- no tag is decoded
+seen_known : (decoding : Decoding) (first : Lexeme) → IsKnownLexeme (seen decoding first) → IsKnownLexeme first
+seen_known Open first known = known
+seen_known Named first known = known
+seen_known Off first known = known
+seen_known On (tag t) known = known
+seen_known On (keyword name) known = tt
+seen_known On (number n) known = tt
+seen_known On (text written) known = tt
+seen_known On (mark kind) known = tt
+seen_known On misfit known = tt
+
+seen_from_known : (decoding : Decoding) (lexemes : List Lexeme) → AreKnownLexemes (seen_from decoding lexemes) → AreKnownLexemes lexemes
+seen_from_known decoding [] known = tt
+seen_from_known decoding (first ∷ more) known = (seen_known decoding first known.0, seen_from_known (decoding_after decoding first) more known.1)
+
+-- the same of what is decoded
+pub decoded_today : (language : Language) (contents : List Content) (tree : Commands) → ReadsScript tree (as_read (lexemes_in language contents)) → ReadsScript tree (as_read (lexemes_of contents))
+decoded_today language contents tree read =
+    let known = seen_from_known Open (lexemes_in language contents) (script_known tree (as_read (lexemes_in language contents)) read) in
+    subst (λ lexemes. ReadsScript tree (as_read lexemes)) (lexemes_same language contents known) read

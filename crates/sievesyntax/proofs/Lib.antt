@@ -15,6 +15,7 @@ pub mod ReadingLaws
 pub mod MeansLaws
 pub mod Examples
 pub mod ScriptExamples
+pub mod DateExamples
 pub mod TraceLemmas
 pub mod OutcomeLemmas
 pub mod EntityLemmas

@@ -21,7 +21,7 @@ use Rattle.sievesyntax.specs.Tree.{TestTree, yes, no, looks, not_of, all_of, any
 use Rattle.sievesyntax.proofs.ArgumentLemmas.{IsMarked, end_none}
 use Rattle.sievesyntax.proofs.TagLemmas.{tag_value_only, plain_none}
 use Rattle.sievesyntax.proofs.TestLemmas.{is_plain}
-use Rattle.sievesyntax.proofs.TableLemmas.{size_same, header_same, address_same, envelope_same}
+use Rattle.sievesyntax.proofs.TableLemmas.{size_same, header_same, address_same, envelope_same, date_same, current_date_same}
 use Rattle.sievesyntax.proofs.VacationLemmas.{file_into_same, redirect_same, vacation_same}
 
 -- things one after another, up to where they are done, are one list
@@ -101,6 +101,8 @@ plain_test_same W.False args t u a b = a.tree_is ∙ sym b.tree_is
 plain_test_same W.Size args t u a b = row_same _ _ args (call_same _ _ size_same args) t u a b
 plain_test_same W.Exists args t u a b = row_same _ _ args (list_same args) t u a b
 plain_test_same W.MailboxExists args t u a b = row_same _ _ args (list_same args) t u a b
+plain_test_same W.Date args t u a b = row_same _ _ args (call_same _ _ date_same args) t u a b
+plain_test_same W.CurrentDate args t u a b = row_same _ _ args (call_same _ _ current_date_same args) t u a b
 plain_test_same W.Header args t u a b = row_same _ _ args (call_same _ _ header_same args) t u a b
 plain_test_same W.Address args t u a b = row_same _ _ args (call_same _ _ address_same args) t u a b
 plain_test_same W.Envelope args t u a b = row_same _ _ args (call_same _ _ envelope_same args) t u a b

@@ -1,19 +1,22 @@
 -- Lemmas on the rows of the table.
-use Rattle.std.proofs.Common.{◌≡◌, ℕ, List, [], Some, Result, Ok, Err, sym, ap, ◌∙◌, subst}
+use Rattle.std.proofs.Common.{◌≡◌, ℕ, List, [], Some, None, Result, Ok, Err, sym, ap, ◌∙◌, subst}
 use Rattle.octets.proofs.Lists.{some_is, some_pair}
+use Rattle.maildates.specs.Parts.{part_named}
 use Rattle.sievesyntax.specs.declared.error.ReadError.{ReadError}
 use Rattle.sievesyntax.specs.declared.tree.checks.Size.{Size}
 use Rattle.sievesyntax.specs.declared.tree.checks.Header.{Header}
 use Rattle.sievesyntax.specs.declared.tree.checks.Address.{Address}
 use Rattle.sievesyntax.specs.declared.tree.checks.EnvelopeTest.{EnvelopeTest}
 use Rattle.sievesyntax.specs.declared.tree.checks.EnvelopeParts.{EnvelopeParts}
+use Rattle.sievesyntax.specs.declared.tree.checks.DateTest.{DateTest}
+use Rattle.sievesyntax.specs.declared.tree.checks.CurrentDate.{CurrentDate}
 use Rattle.sievesyntax.specs.declared.parser.argument.Argument.{Argument}
 use Rattle.sievesyntax.specs.declared.table.tag_group.TagValue.{TagValue}
 use Rattle.sievesyntax.specs.declared.table.tag_group.TagGroup.{TagGroup}
 use Rattle.sievesyntax.specs.Parsing.{Finds, OnFault}
 use Rattle.sievesyntax.specs.Tags.{IsSplit, IsSplitAlone, IsCall}
-use Rattle.sievesyntax.specs.Positional.{two_lists}
-use Rattle.sievesyntax.specs.Table.{SaysSize, SaysHeader, SaysAddress, SaysEnvelope, NamesParts, IsRow, IsBare}
+use Rattle.sievesyntax.specs.Positional.{two_lists, text_and_list, two_texts_and_list}
+use Rattle.sievesyntax.specs.Table.{SaysSize, SaysHeader, SaysAddress, SaysEnvelope, SaysDate, SaysCurrentDate, NamesParts, IsRow, IsBare}
 use Rattle.sievesyntax.proofs.FaultLemmas.{fault_on}
 
 -- the rows of words with arguments
@@ -95,3 +98,37 @@ module _ (tag_values : List TagValue) (positional : List Argument) where
   envelope_no_parts names keys lists none x a =
       let same = some_pair (a.names, x.keys) (names, keys) (sym a.lists ∙ lists) in
       none x.parts (subst (λ them. NamesParts them x.parts) same.0 a.parts)
+
+  pub date_same : (x y : DateTest) → SaysDate tag_values positional x → SaysDate tag_values positional y → x ≡ y
+  date_same x y a b =
+      let zone : x.zone ≡ y.zone = a.zone ∙ sym b.zone in
+      let comparator : x.comparator ≡ y.comparator = a.comparator ∙ sym b.comparator in
+      let matching : x.matching ≡ y.matching = a.matching ∙ sym b.matching in
+      let all = some_pair (x.field, (a.name, x.keys)) (y.field, (b.name, y.keys)) (sym a.arguments ∙ b.arguments) in
+      let name : a.name ≡ b.name = ap (λ (p : List ℕ × List (List ℕ)). p.0) all.1 in
+      let keys : x.keys ≡ y.keys = ap (λ (p : List ℕ × List (List ℕ)). p.1) all.1 in
+      let part : x.part ≡ y.part = some_is x.part y.part (sym a.part ∙ (ap part_named name ∙ b.part)) in
+      λ i. record { zone = zone i; comparator = comparator i; matching = matching i; field = all.0 i; part = part i; keys = keys i }
+
+  pub current_date_same : (x y : CurrentDate) → SaysCurrentDate tag_values positional x → SaysCurrentDate tag_values positional y → x ≡ y
+  current_date_same x y a b =
+      let zone : x.zone ≡ y.zone = some_is x.zone y.zone (sym a.zone ∙ b.zone) in
+      let comparator : x.comparator ≡ y.comparator = a.comparator ∙ sym b.comparator in
+      let matching : x.matching ≡ y.matching = a.matching ∙ sym b.matching in
+      let both = some_pair (a.name, x.keys) (b.name, y.keys) (sym a.arguments ∙ b.arguments) in
+      let part : x.part ≡ y.part = some_is x.part y.part (sym a.part ∙ (ap part_named both.0 ∙ b.part)) in
+      λ i. record { zone = zone i; comparator = comparator i; matching = matching i; part = part i; keys = both.1 i }
+
+  -- what names no part of a date
+  pub date_no_part : (field name : List ℕ) (keys : List (List ℕ)) → two_texts_and_list positional ≡ Some (field, (name, keys)) → part_named name ≡ None → (x : DateTest) → SaysDate tag_values positional x → ⊥
+  date_no_part field name keys arguments none x a =
+      let all = some_pair (x.field, (a.name, x.keys)) (field, (name, keys)) (sym a.arguments ∙ arguments) in
+      let named : a.name ≡ name = ap (λ (p : List ℕ × List (List ℕ)). p.0) all.1 in
+      let bad : None ≡ Some x.part = sym none ∙ (ap part_named (sym named) ∙ a.part) in
+      absurd (cc bad)
+
+  pub current_no_part : (name : List ℕ) (keys : List (List ℕ)) → text_and_list positional ≡ Some (name, keys) → part_named name ≡ None → (x : CurrentDate) → SaysCurrentDate tag_values positional x → ⊥
+  current_no_part name keys arguments none x a =
+      let both = some_pair (a.name, x.keys) (name, keys) (sym a.arguments ∙ arguments) in
+      let bad : None ≡ Some x.part = sym none ∙ (ap part_named (sym both.0) ∙ a.part) in
+      absurd (cc bad)

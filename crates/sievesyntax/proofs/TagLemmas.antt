@@ -1,9 +1,12 @@
 -- Lemmas on tags.
-use Rattle.std.proofs.Common.{◌≡◌, ℕ, List, [], ◌∷◌, ◌++◌, map, Option, Some, None, option_map, cond, codes, nat_eq, refl, sym, ap, ◌∙◌, subst, arith, inl, inr}
+use Rattle.std.proofs.Common.{◌≡◌, ℕ, ℤ, List, [], ◌∷◌, ◌++◌, map, Option, Some, None, option_map, cond, codes, nat_eq, refl, sym, ap, ◌∙◌, subst, arith, inl, inr}
 use Rattle.std.specs.List.{Contains}
 use Rattle.std.proofs.lemmas.List.Elements.{Contains-append_left, Contains-append_right, Contains-append_cases, Contains-push, Contains-push_cases}
 use Rattle.std.specs.Cmp.Lexicographic.{pointwise}
 use Rattle.octets.proofs.Lists.{some_pair}
+use Rattle.maildates.specs.Zones.{numeric_of, IsOffset}
+use Rattle.maildates.proofs.WordLemmas.{map_some}
+use Rattle.maildates.proofs.ZoneLaws.{numeric_is, numeric_again}
 use Rattle.sievesyntax.specs.declared.table.tag.Tag.TheVariants as T
 use Rattle.sievesyntax.specs.declared.tree.checks.Bound.TheVariants as B
 use Rattle.sievesyntax.specs.declared.tree.checks.Matching.TheVariants as M
@@ -52,6 +55,8 @@ tag_value_read (A.Tag T.Comparator ∷ (A.Text name ∷ to)) = option_map (λ c.
 tag_value_read (A.Tag T.Days ∷ (A.Number n ∷ to)) = Some (S.Days n, to)
 tag_value_read (A.Tag T.Copy ∷ to) = Some (S.Copy, to)
 tag_value_read (A.Tag T.Create ∷ to) = Some (S.Create, to)
+tag_value_read (A.Tag T.Zone ∷ (A.Text s ∷ to)) = option_map (λ z. (S.Zone z, to)) (numeric_of s)
+tag_value_read (A.Tag T.OriginalZone ∷ to) = Some (S.OriginalZone, to)
 tag_value_read (A.Tag T.Seconds ∷ (A.Number n ∷ to)) = Some (S.Seconds n, to)
 tag_value_read (A.Tag T.Subject ∷ (A.Text s ∷ to)) = Some (S.Subject s, to)
 tag_value_read (A.Tag T.From ∷ (A.Text s ∷ to)) = Some (S.From s, to)
@@ -94,6 +99,19 @@ tag_value_again S.Mime from to at = ap tag_value_read at
 tag_value_again (S.Handle s) from to at = ap tag_value_read at
 tag_value_again S.Copy from to at = ap tag_value_read at
 tag_value_again S.Create from to at = ap tag_value_read at
+tag_value_again (S.Zone zone) from to (string, (at, is)) = ap tag_value_read at ∙ ap (option_map (λ z. (S.Zone z, to))) (numeric_again string zone is)
+tag_value_again S.OriginalZone from to at = ap tag_value_read at
+
+-- where no zone follows, no tag stands at the front
+pub zone_nowhere : (args : List Argument) → ((s : List ℕ) (zone : ℤ) (to : List Argument) → args ≡ A.Text s ∷ to → IsOffset s zone → ⊥) → (s : TagValue) (to : List Argument) → IsTagValue s (A.Tag T.Zone ∷ args) to → ⊥
+zone_nowhere args none s to at = step args none (tag_value_again s (A.Tag T.Zone ∷ args) to at)
+  where
+    step : (rest : List Argument) → ((string : List ℕ) (zone : ℤ) (end : List Argument) → rest ≡ A.Text string ∷ end → IsOffset string zone → ⊥) → tag_value_read (A.Tag T.Zone ∷ rest) ≡ Some (s, to) → ⊥
+    step [] nowhere e = absurd (cc e)
+    step (A.Tag t ∷ more) nowhere e = absurd (cc e)
+    step (A.Number n ∷ more) nowhere e = absurd (cc e)
+    step (A.Strings strings ∷ more) nowhere e = absurd (cc e)
+    step (A.Text string ∷ more) nowhere e = let found = map_some _ (numeric_of string) (s, to) e in nowhere string found.0 more refl (numeric_is string found.0 found.1.0)
 
 -- at most one tag stands at the front
 pub tag_value_only : (s t : TagValue) (from to end : List Argument) → IsTagValue s from to → IsTagValue t from end → (t ≡ s) × (end ≡ to)
@@ -128,6 +146,8 @@ plain_none S.Mime from to at plain = subst IsPlain at plain
 plain_none (S.Handle s) from to at plain = subst IsPlain at plain
 plain_none S.Copy from to at plain = subst IsPlain at plain
 plain_none S.Create from to at plain = subst IsPlain at plain
+plain_none (S.Zone zone) from to at plain = subst IsPlain at.1.0 plain
+plain_none S.OriginalZone from to at plain = subst IsPlain at plain
 
 -- nothing is among none
 pub none_there : (x : TagGroup) → Contains [] x → ⊥

@@ -5,8 +5,8 @@ use Rattle.sievesyntax.specs.declared.tree.action.Action.TheVariants.{Keep, Disc
 use Rattle.sievesyntax.specs.declared.tree.checks.Collation.{Collation}
 use Rattle.sievesyntax.specs.declared.tree.checks.Matching.{Matching}
 use Rattle.sievesyntax.specs.declared.tree.checks.Check.{Check}
-use Rattle.sievesyntax.specs.declared.tree.checks.Check.TheVariants.{Header, Address, Envelope, MailboxExists}
-use Rattle.sievesyntax.specs.Languages.{Language, before, former}
+use Rattle.sievesyntax.specs.declared.tree.checks.Check.TheVariants.{Header, Address, Envelope, MailboxExists, Date, CurrentDate}
+use Rattle.sievesyntax.specs.Languages.{Language, before, former, undated}
 use Rattle.sievesyntax.specs.Means.{Means}
 use Rattle.sievesyntax.specs.Meaning.{Outcome, ended, outcome}
 use Rattle.sievesyntax.specs.RunState.{RunState, at_first, Flow, Going, Stopped, Failed, performed}
@@ -57,14 +57,23 @@ abbrev pub IsFormerMatch : Collation → Matching → Type 0
 IsFormerMatch comparator matching = (is_relational matching ≡ false) × (is_numeric comparator ≡ false)
 
 -- a test that it had: it looks at no part of a local part (RFC 5233, 4), and asks for no mailbox (RFC 5490, 3.1)
+-- and no date (RFC 5260)
 abbrev pub IsFormerCheck : Check → Type 0
 IsFormerCheck (Header header) = IsFormerMatch header.comparator header.matching
 IsFormerCheck (Address address) = (is_subaddress address.part ≡ false) × IsFormerMatch address.comparator address.matching
 IsFormerCheck (Envelope envelope) = (is_subaddress envelope.part ≡ false) × IsFormerMatch envelope.comparator envelope.matching
 IsFormerCheck (MailboxExists names) = ⊥
+IsFormerCheck (Date date) = ⊥
+IsFormerCheck (CurrentDate current) = ⊥
 IsFormerCheck _ = Unit {0}
 
--- an action that it had: without `:create`
+-- a test that the language before `date` had: it asks for no date (RFC 5260)
+abbrev pub IsUndatedCheck : Check → Type 0
+IsUndatedCheck (Date date) = ⊥
+IsUndatedCheck (CurrentDate current) = ⊥
+IsUndatedCheck _ = Unit {0}
+
+-- an action that the former language had: without `:create`
 abbrev pub IsFormerAction : Action → Type 0
 IsFormerAction (FileInto filing) = filing.create ≡ false
 IsFormerAction _ = Unit {0}
@@ -110,3 +119,9 @@ pub record MeansFormerly (text : List ℕ) (tree : Commands) : Type 0 where
   pub checks : EachAsksIn IsFormerCheck tree
   pub actions : EachIn IsFormerAction tree
   pub same : (truth : Check → Bool) → outcome truth tree ≡ outcome_in former truth tree
+
+-- the text means this tree, which asks for no date, and on every mail it comes to what it came to before
+pub record MeansUndated (text : List ℕ) (tree : Commands) : Type 0 where
+  pub means : Means text tree
+  pub checks : EachAsksIn IsUndatedCheck tree
+  pub same : (truth : Check → Bool) → outcome truth tree ≡ outcome_in undated truth tree

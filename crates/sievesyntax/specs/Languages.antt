@@ -100,6 +100,8 @@ is_former_tag T.Detail = false
 is_former_tag T.Value = false
 is_former_tag T.Count = false
 is_former_tag T.Create = false
+is_former_tag T.Zone = false
+is_former_tag T.OriginalZone = false
 is_former_tag _ = true
 
 abbrev pub is_former_capability : List ℕ → Bool
@@ -115,3 +117,29 @@ is_former_capability name =
 -- actions cancelled what they cancel today
 abbrev pub former : Language
 former = record { has = is_former_tag; knows = is_former_capability; decodes = false; cancels = cancels_today }
+
+-- ---- the language before `date` (RFC 5260)
+
+abbrev pub is_undated_tag : Tag → Bool
+is_undated_tag T.Zone = false
+is_undated_tag T.OriginalZone = false
+is_undated_tag _ = true
+
+abbrev pub is_undated_capability : List ℕ → Bool
+is_undated_capability name =
+    is_named (codes "fileinto") name
+    || (is_named (codes "envelope") name
+    || (is_named (codes "vacation") name
+    || (is_named (codes "comparator-i;octet") name
+    || (is_named (codes "comparator-i;ascii-casemap") name
+    || (is_named (codes "copy") name
+    || (is_named (codes "vacation-seconds") name
+    || (is_named (codes "subaddress") name
+    || (is_named (codes "relational") name
+    || (is_named (codes "comparator-i;ascii-numeric") name
+    || (is_named (codes "encoded-character") name
+    || is_named (codes "mailbox") name))))))))))
+
+-- strings were decoded, and actions cancelled what they cancel today
+abbrev pub undated : Language
+undated = record { has = is_undated_tag; knows = is_undated_capability; decodes = true; cancels = cancels_today }

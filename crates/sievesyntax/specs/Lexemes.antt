@@ -41,7 +41,9 @@ keyword_of name =
     (cond (same_name name (codes "address")) W.Address
     (cond (same_name name (codes "envelope")) W.Envelope
     (cond (same_name name (codes "mailboxexists")) W.MailboxExists
-    W.Other))))))))))))))))))))
+    (cond (same_name name (codes "date")) W.Date
+    (cond (same_name name (codes "currentdate")) W.CurrentDate
+    W.Other))))))))))))))))))))))
 
 -- the tag of this name
 abbrev pub tag_of : List ℕ → Tag
@@ -68,7 +70,9 @@ tag_of name =
     (cond (same_name name (codes "handle")) T.Handle
     (cond (same_name name (codes "copy")) T.Copy
     (cond (same_name name (codes "create")) T.Create
-    T.Other)))))))))))))))))))))
+    (cond (same_name name (codes "zone")) T.Zone
+    (cond (same_name name (codes "originalzone")) T.OriginalZone
+    T.Other)))))))))))))))))))))))
 
 -- a word of the grammar (RFC 5228, 8.2)
 pub data Lexeme : Type 0 where

@@ -9,6 +9,11 @@ abbrev pub pair : {X Y : Type 0} → Option X → Option Y → Option (X × Y)
 pair (Some x) (Some y) = Some (x, y)
 pair _ _ = None
 
+-- the string of an argument without brackets
+abbrev pub string_of : Argument → Option (List ℕ)
+string_of (A.Text string) = Some string
+string_of _ = None
+
 -- one number and nothing else
 abbrev pub one_number : List Argument → Option ℕ
 one_number (A.Number n ∷ []) = Some n
@@ -28,3 +33,13 @@ one_list _ = None
 abbrev pub two_lists : List Argument → Option (List (List ℕ) × List (List ℕ))
 two_lists (first ∷ (second ∷ [])) = pair (strings_of first) (strings_of second)
 two_lists _ = None
+
+-- one string without brackets, a list of strings, and nothing else
+abbrev pub text_and_list : List Argument → Option (List ℕ × List (List ℕ))
+text_and_list (first ∷ (second ∷ [])) = pair (string_of first) (strings_of second)
+text_and_list _ = None
+
+-- two strings without brackets, a list of strings, and nothing else
+abbrev pub two_texts_and_list : List Argument → Option (List ℕ × (List ℕ × List (List ℕ)))
+two_texts_and_list (first ∷ (second ∷ (third ∷ []))) = pair (string_of first) (pair (string_of second) (strings_of third))
+two_texts_and_list _ = None

@@ -109,6 +109,7 @@ granted_too granted names = record {
   relational = granted.relational || (granted_by names).relational;
   numeric = granted.numeric || (granted_by names).numeric;
   mailbox = granted.mailbox || (granted_by names).mailbox;
+  date = granted.date || (granted_by names).date;
 }
 
 -- requires at the front, up to another command or the end

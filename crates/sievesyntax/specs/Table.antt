@@ -1,5 +1,5 @@
 -- The table of commands and tests without a block or a test in them: for each word, what its arguments say.
-use Rattle.std.specs.Prelude.{◌≡◌, ℕ, Bool, true, ◌||◌, List, [], ◌∷◌, Some, codes}
+use Rattle.std.specs.Prelude.{◌≡◌, ℕ, ℤ, Bool, true, ◌||◌, List, [], ◌∷◌, Option, Some, None, codes}
 use Rattle.std.specs.List.{list_all, list_any}
 use Rattle.sievesyntax.specs.declared.table.keyword.Keyword.{Keyword}
 use Rattle.sievesyntax.specs.declared.table.keyword.Keyword.TheVariants as W
@@ -8,6 +8,10 @@ use Rattle.sievesyntax.specs.declared.tree.checks.Header.{Header}
 use Rattle.sievesyntax.specs.declared.tree.checks.Address.{Address}
 use Rattle.sievesyntax.specs.declared.tree.checks.EnvelopeTest.{EnvelopeTest}
 use Rattle.sievesyntax.specs.declared.tree.checks.EnvelopeParts.{EnvelopeParts}
+use Rattle.sievesyntax.specs.declared.tree.checks.DateTest.{DateTest}
+use Rattle.sievesyntax.specs.declared.tree.checks.CurrentDate.{CurrentDate}
+use Rattle.sievesyntax.specs.declared.tree.checks.DateZone.{DateZone}
+use Rattle.sievesyntax.specs.declared.tree.checks.DateZone.TheVariants as Z
 use Rattle.sievesyntax.specs.declared.tree.checks.Check.TheVariants as C
 use Rattle.sievesyntax.specs.declared.tree.action.Action.TheVariants as D
 use Rattle.sievesyntax.specs.declared.tree.action.FileInto.{FileInto}
@@ -15,10 +19,11 @@ use Rattle.sievesyntax.specs.declared.tree.action.Redirect.{Redirect}
 use Rattle.sievesyntax.specs.declared.parser.argument.Argument.{Argument}
 use Rattle.sievesyntax.specs.declared.table.tag_group.TagValue.{TagValue}
 use Rattle.sievesyntax.specs.declared.table.tag_group.TagGroup.TheVariants as P
+use Rattle.maildates.specs.Parts.{part_named}
 use Rattle.sievesyntax.specs.Lexemes.{same_name}
 use Rattle.sievesyntax.specs.Tags.{IsCall}
-use Rattle.sievesyntax.specs.Positional.{one_number, one_text, one_list, two_lists}
-use Rattle.sievesyntax.specs.TagValues.{bound_in, comparator_in, matching_in, part_in, copy_in, create_in}
+use Rattle.sievesyntax.specs.Positional.{one_number, one_text, one_list, two_lists, text_and_list, two_texts_and_list}
+use Rattle.sievesyntax.specs.TagValues.{bound_in, comparator_in, matching_in, part_in, copy_in, create_in, zone_in}
 use Rattle.sievesyntax.specs.Vacations.{Names, IsVacation}
 use Rattle.sievesyntax.specs.Tree.{TestTree, yes, no, looks, CommandTree, require, stop, act}
 
@@ -73,6 +78,37 @@ pub record SaysEnvelope (tag_values : List TagValue) (positional : List Argument
 abbrev pub IsEnvelope : List Argument → EnvelopeTest → Type 0
 IsEnvelope = IsCall (P.Comparator ∷ (P.Part ∷ (P.Matching ∷ []))) SaysEnvelope
 
+-- date [<":zone" <time-zone: string>> / ":originalzone"] [COMPARATOR] [MATCH-TYPE] <header-name: string> <date-part: string>
+-- <key-list: string-list> (RFC 5260, 4)
+pub record SaysDate (tag_values : List TagValue) (positional : List Argument) (date : DateTest) : Type 0 where
+  pub name : List ℕ
+  pub zone : date.zone ≡ zone_in tag_values
+  pub comparator : date.comparator ≡ comparator_in tag_values
+  pub matching : date.matching ≡ matching_in tag_values
+  pub arguments : two_texts_and_list positional ≡ Some (date.field, (name, date.keys))
+  pub part : part_named name ≡ Some date.part
+
+abbrev pub IsDate : List Argument → DateTest → Type 0
+IsDate = IsCall (P.Zone ∷ (P.Comparator ∷ (P.Matching ∷ []))) SaysDate
+
+-- the zone that the moment is looked at in, of which there is no original one
+abbrev pub without_original : DateZone → Option (Option ℤ)
+without_original Z.Host = Some None
+without_original (Z.Given zone) = Some (Some zone)
+without_original Z.Original = None
+
+-- currentdate [":zone" <time-zone: string>] [COMPARATOR] [MATCH-TYPE] <date-part: string> <key-list: string-list> (RFC 5260, 5)
+pub record SaysCurrentDate (tag_values : List TagValue) (positional : List Argument) (current : CurrentDate) : Type 0 where
+  pub name : List ℕ
+  pub zone : without_original (zone_in tag_values) ≡ Some current.zone
+  pub comparator : current.comparator ≡ comparator_in tag_values
+  pub matching : current.matching ≡ matching_in tag_values
+  pub arguments : text_and_list positional ≡ Some (name, current.keys)
+  pub part : part_named name ≡ Some current.part
+
+abbrev pub IsCurrentDate : List Argument → CurrentDate → Type 0
+IsCurrentDate = IsCall (P.Zone ∷ (P.Comparator ∷ (P.Matching ∷ []))) SaysCurrentDate
+
 -- require <capabilities: string-list>; exists <header-names: string-list>; mailboxexists <mailbox-names: string-list>
 -- (RFC 5228, 3.2, 5.5; RFC 5490, 3.1)
 abbrev pub IsList : List Argument → List (List ℕ) → Type 0
@@ -120,6 +156,8 @@ IsPlainTest W.Header = IsRow IsHeader (λ header. looks (C.Header header))
 IsPlainTest W.Address = IsRow IsAddress (λ address. looks (C.Address address))
 IsPlainTest W.Envelope = IsRow IsEnvelope (λ envelope. looks (C.Envelope envelope))
 IsPlainTest W.MailboxExists = IsRow IsList (λ names. looks (C.MailboxExists names))
+IsPlainTest W.Date = IsRow IsDate (λ date. looks (C.Date date))
+IsPlainTest W.CurrentDate = IsRow IsCurrentDate (λ current. looks (C.CurrentDate current))
 IsPlainTest _ = λ args condition. ⊥
 
 -- the commands that end in a semicolon (RFC 5228, 3, 4)

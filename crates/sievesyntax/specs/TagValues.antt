@@ -7,6 +7,8 @@ use Rattle.sievesyntax.specs.declared.tree.checks.AddressPart.{AddressPart}
 use Rattle.sievesyntax.specs.declared.tree.checks.AddressPart.TheVariants as H
 use Rattle.sievesyntax.specs.declared.tree.checks.Collation.{Collation}
 use Rattle.sievesyntax.specs.declared.tree.checks.Collation.TheVariants as C
+use Rattle.sievesyntax.specs.declared.tree.checks.DateZone.{DateZone}
+use Rattle.sievesyntax.specs.declared.tree.checks.DateZone.TheVariants as Z
 use Rattle.sievesyntax.specs.declared.table.tag_group.TagValue.{TagValue}
 use Rattle.sievesyntax.specs.declared.table.tag_group.TagValue.TheVariants as S
 
@@ -87,3 +89,10 @@ abbrev pub create_in : List TagValue → Bool
 create_in [] = false
 create_in (S.Create ∷ _) = true
 create_in (_ ∷ more) = create_in more
+
+-- the zone that a date is looked at in: the host's unless another is given (RFC 5260, 4.1)
+abbrev pub zone_in : List TagValue → DateZone
+zone_in [] = Z.Host
+zone_in (S.Zone zone ∷ _) = Z.Given zone
+zone_in (S.OriginalZone ∷ _) = Z.Original
+zone_in (_ ∷ more) = zone_in more

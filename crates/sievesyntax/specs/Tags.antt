@@ -19,6 +19,7 @@ use Rattle.sievesyntax.specs.declared.table.tag_group.TagValue.{TagValue}
 use Rattle.sievesyntax.specs.declared.table.tag_group.TagValue.TheVariants as S
 use Rattle.sievesyntax.specs.declared.table.tag_group.TagGroup.{TagGroup}
 use Rattle.sievesyntax.specs.declared.table.tag_group.TagGroup.TheVariants as P
+use Rattle.maildates.specs.Zones.{IsOffset}
 use Rattle.sievesyntax.specs.Chains.{Chain}
 
 -- the tag of a side of a limit
@@ -78,6 +79,8 @@ IsTagValue S.Mime from to = from ≡ A.Tag T.Mime ∷ to
 IsTagValue (S.Handle handle) from to = from ≡ A.Tag T.Handle ∷ (A.Text handle ∷ to)
 IsTagValue S.Copy from to = from ≡ A.Tag T.Copy ∷ to
 IsTagValue S.Create from to = from ≡ A.Tag T.Create ∷ to
+IsTagValue (S.Zone zone) from to = (string : List ℕ) × ((from ≡ A.Tag T.Zone ∷ (A.Text string ∷ to)) × IsOffset string zone)
+IsTagValue S.OriginalZone from to = from ≡ A.Tag T.OriginalZone ∷ to
 
 -- the group of a tag: tags that exclude each other are one group
 abbrev pub group_of : TagValue → TagGroup
@@ -94,6 +97,8 @@ group_of S.Mime = P.Mime
 group_of (S.Handle _) = P.Handle
 group_of S.Copy = P.Copy
 group_of S.Create = P.Create
+group_of (S.Zone _) = P.Zone
+group_of S.OriginalZone = P.Zone
 
 -- no group stands twice
 abbrev pub AreApart : List TagGroup → Type 0

@@ -12,7 +12,7 @@ use Rattle.sievesyntax.specs.declared.tree.checks.Collation.TheVariants.{AsciiNu
 use Rattle.sievesyntax.specs.declared.tree.checks.Matching.{Matching}
 use Rattle.sievesyntax.specs.declared.tree.checks.Matching.TheVariants.{Contains, Matches, Value, Count}
 use Rattle.sievesyntax.specs.declared.tree.checks.Check.{Check}
-use Rattle.sievesyntax.specs.declared.tree.checks.Check.TheVariants.{Size, Exists, Header, Address, Envelope, MailboxExists}
+use Rattle.sievesyntax.specs.declared.tree.checks.Check.TheVariants.{Size, Exists, Header, Address, Envelope, MailboxExists, Date, CurrentDate}
 use Rattle.sievesyntax.specs.declared.table.capability.Capabilities.{Capabilities}
 use Rattle.sievesyntax.specs.Reasons.{IsReason}
 use Rattle.sievesyntax.specs.Tree.{TestTree, yes, no, looks, not_of, all_of, any_of, Tests, no_tests, test, list_depth, not_depth, CommandTree, require, choose, stop, act, Branches, no_branches, branch, Commands, no_commands, command, depth}
@@ -42,7 +42,8 @@ is_capability name =
     || (is_named (codes "relational") name
     || (is_named (codes "comparator-i;ascii-numeric") name
     || (is_named (codes "encoded-character") name
-    || is_named (codes "mailbox") name))))))))))
+    || (is_named (codes "mailbox") name
+    || is_named (codes "date") name)))))))))))
 
 abbrev pub IsCapability : List ℕ → Type 0
 IsCapability name = is_capability name ≡ true
@@ -59,6 +60,7 @@ granted_by names = record {
   relational = list_any (is_named (codes "relational")) names;
   numeric = list_any (is_named (codes "comparator-i;ascii-numeric")) names;
   mailbox = list_any (is_named (codes "mailbox")) names;
+  date = list_any (is_named (codes "date")) names;
 }
 
 -- `vacation` may be used: `vacation-seconds` stands for it too (RFC 6131, 2)
@@ -119,6 +121,8 @@ MayCheck granted (Address address) = MayPart granted address.part × MayMatch gr
 MayCheck granted (Envelope envelope) =
     (granted.envelope ≡ true) × MayPart granted envelope.part × MayMatch granted envelope.comparator envelope.matching
 MayCheck granted (MailboxExists names) = granted.mailbox ≡ true
+MayCheck granted (Date date) = (granted.date ≡ true) × MayMatch granted date.comparator date.matching
+MayCheck granted (CurrentDate current) = (granted.date ≡ true) × MayMatch granted current.comparator current.matching
 
 -- a test that may stand where this is granted
 abbrev mutual

@@ -1,8 +1,8 @@
 //! Laws of the definitions, each the contract of a function that does nothing.
 ghost use Rattle.std.specs.Prelude.{◌≡◌, ◌↔◌, ℕ, Bool, true, List, All};
 ghost use Rattle.sievesyntax.specs.declared.tree.checks.Check.{Check};
-ghost use Rattle.sievesyntax.specs.Before.{outcome_in, StillMeans, MeansFormerly};
-ghost use Rattle.sievesyntax.specs.Languages.{today, before, former};
+ghost use Rattle.sievesyntax.specs.Before.{outcome_in, StillMeans, MeansFormerly, MeansUndated};
+ghost use Rattle.sievesyntax.specs.Languages.{today, before, former, undated};
 ghost use Rattle.sievesyntax.specs.Meaning.{ended, outcome};
 ghost use Rattle.sievesyntax.specs.Means.{MeansIn, Means};
 ghost use Rattle.sievesyntax.specs.Reasons.{is_entity, IsEntity};
@@ -42,6 +42,12 @@ pub fn entity_of_a_reason()
 /// has nothing of these, and on every mail it comes to what it came to before.
 pub fn scripts_of_former_language()
     ensures { (text : List ℕ) (tree : Commands) → MeansIn former text tree → MeansFormerly text tree }
+{}
+
+/// A text that meant a tree before `date` (RFC 5260) means the same tree now. None of its tests asks for a date, and on every mail it
+/// comes to what it came to before.
+pub fn scripts_of_undated_language()
+    ensures { (text : List ℕ) (tree : Commands) → MeansIn undated text tree → MeansUndated text tree }
 {}
 
 /// A text that meant a tree before `:copy` (RFC 3894) and `:seconds` (RFC 6131) means the same tree now. The tree has neither, and

@@ -8,13 +8,14 @@ mod script;
 mod table;
 mod tree;
 
+pub use maildates::DatePart;
 pub use script::{Script, check};
 pub use sievelex::{FaultKind, ScriptError, ScriptFault};
 pub use table::command::is_mailbox;
 pub use tree::action::{Action, FileInto, Redirect};
 pub use tree::checks::{
-    Address, AddressPart, Bound, Check, Collation, EnvelopeParts, EnvelopeTest, Header, Matching,
-    Relation, Size,
+    Address, AddressPart, Bound, Check, Collation, CurrentDate, DateTest, DateZone, EnvelopeParts,
+    EnvelopeTest, Header, Matching, Relation, Size,
 };
 pub use tree::command::{Branch, Command};
 pub use tree::test::Test;

@@ -1,5 +1,5 @@
 -- Each reason of the table, where it just holds and where it just doesn't.
-use Rattle.std.proofs.Common.{◌≡◌, ℕ, true, false, [], ◌∷◌, List, refl}
+use Rattle.std.proofs.Common.{◌≡◌, ℕ, true, false, [], ◌∷◌, List, refl, pos}
 use Rattle.std.specs.Prelude.{codes, Option, Some, None}
 use Rattle.mailhead.specs.Fields.{FieldText}
 use Rattle.addrparts.specs.declared.address.Addr.{Addr}
@@ -20,7 +20,7 @@ abbrev plain : Option ℕ → VacArgs
 plain days = record { days = days; seconds = None; subject = None; from = None; addresses = aliens ∷ []; mime = false; handle = None; reason = codes "Away." }
 
 abbrev mail_from : List ℕ → List FieldText → MailSpec
-mail_from sender fields = record { fields = fields; from = sender; to = codes "Al@Example.org"; size = 0; octets = [] }
+mail_from sender fields = record { fields = fields; from = sender; to = codes "Al@Example.org"; size = 0; octets = []; moment = 0; zone = pos 0 }
 
 abbrev line : List ℕ → List ℕ → FieldText
 line name raw = record { name = name; raw = raw }

@@ -20,6 +20,8 @@ Status 0: all is right (--check). 64: wrong words or numbers, or no socket at PA
         Argument::Names,
         Argument::Mail,
         Argument::Separator,
+        Argument::Zone,
+        Argument::Default,
         Argument::Host,
         Argument::Memory,
         Argument::Quiet,
@@ -42,6 +44,10 @@ pub struct Daemon<'a> {
     pub mail: Option<&'a str>,
     /// What separates the levels of a folder's name there: `.` or `/`.
     pub separator: Option<&'a str>,
+    /// The host's zone; UTC where it is left out.
+    pub zone: Option<&'a str>,
+    /// The path of the script for accounts without an active one.
+    pub default: Option<&'a str>,
     /// The name with which clients of LMTP are greeted.
     pub host: Option<&'a str>,
     /// How much all connections may hold, in MiB, in decimal: of ManageSieve what isn't answered yet, of LMTP lines and texts.
@@ -63,6 +69,8 @@ impl<'a> Daemon<'a> {
             names: given.value(Argument::Names),
             mail: given.value(Argument::Mail),
             separator: given.value(Argument::Separator),
+            zone: given.value(Argument::Zone),
+            default: given.value(Argument::Default),
             host: given.value(Argument::Host),
             memory: given.value(Argument::Memory),
             quiet: given.flag(Argument::Quiet),

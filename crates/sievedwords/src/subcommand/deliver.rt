@@ -17,6 +17,8 @@ Status 0: delivered, and on the disk. 64: wrong words or values. 65: refused for
         Argument::From,
         Argument::To,
         Argument::At,
+        Argument::Zone,
+        Argument::Default,
         Argument::User,
     ],
 };
@@ -31,6 +33,10 @@ pub struct Deliver<'a> {
     pub to: &'a [u8],
     /// The moment in seconds since 1970, in decimal; the clock's where it is left out.
     pub at: Option<&'a str>,
+    /// The host's zone; UTC where it is left out.
+    pub zone: Option<&'a str>,
+    /// The path of the script for accounts without an active one.
+    pub default: Option<&'a str>,
     /// The account's name.
     pub user: &'a str,
 }
@@ -44,6 +50,8 @@ impl<'a> Deliver<'a> {
             from: given.address(Argument::From),
             to: given.address(Argument::To),
             at: given.value(Argument::At),
+            zone: given.value(Argument::Zone),
+            default: given.value(Argument::Default),
             user: given.text(Argument::User),
         }
     }

@@ -11,16 +11,25 @@ pub static TRY: Row = Row {
     more: "Reads a line with the script's length in decimal, the script, and the message.
 Prints `file NAME`, `send ADDRESS`, `vacation wanted`, or `discard`; `failed: TEXT` of a run that fails; or `line N: ..` of a script that isn't valid.
 Status 0: said. 64: wrong words. 65: not valid, or no such input. 75: memory, input or output failed.",
-    arguments: &[Argument::From, Argument::AnyTo],
+    arguments: &[
+        Argument::From,
+        Argument::AnyTo,
+        Argument::TrialAt,
+        Argument::Zone,
+    ],
 };
 
-/// The envelope of the message that a script is tried on. An address that was left out is empty.
+/// The envelope of the message that a script is tried on, and when. An address that was left out is empty.
 #[derive(Clone, Copy)]
 pub struct Try<'a> {
     /// The envelope's sender.
     pub from: &'a [u8],
     /// The envelope's recipient.
     pub to: &'a [u8],
+    /// The moment in seconds since 1970, in decimal; 0 where it is left out.
+    pub at: Option<&'a str>,
+    /// The host's zone; UTC where it is left out.
+    pub zone: Option<&'a str>,
 }
 
 impl<'a> Try<'a> {
@@ -30,6 +39,8 @@ impl<'a> Try<'a> {
         Try {
             from: given.address(Argument::From),
             to: given.address(Argument::AnyTo),
+            at: given.value(Argument::TrialAt),
+            zone: given.value(Argument::Zone),
         }
     }
 }

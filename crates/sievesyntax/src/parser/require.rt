@@ -57,6 +57,7 @@ fn read_requires(
         relational: false,
         numeric: false,
         mailbox: false,
+        date: false,
     };
     'found: while take_require(reader) {
         let names = read_names(alloc, reader)?;

@@ -31,6 +31,8 @@ pub struct Capabilities {
     pub numeric: bool,
     /// `mailbox` (RFC 5490).
     pub mailbox: bool,
+    /// `date` (RFC 5260, 4 and 5).
+    pub date: bool,
 }
 
 impl Capabilities {
@@ -72,6 +74,7 @@ pub(crate) fn grant(granted: Capabilities, names: &[Octets]) -> Result<Capabilit
         relational: also(granted.relational, names, b"relational"),
         numeric: also(granted.numeric, names, b"comparator-i;ascii-numeric"),
         mailbox: also(granted.mailbox, names, b"mailbox"),
+        date: also(granted.date, names, b"date"),
     })
 }
 
@@ -110,4 +113,5 @@ fn is_capability(name: &[u8]) -> bool
         || name == b"comparator-i;ascii-numeric".as_slice()
         || name == b"encoded-character".as_slice()
         || name == b"mailbox".as_slice()
+        || name == b"date".as_slice()
 }

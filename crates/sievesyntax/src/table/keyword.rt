@@ -26,6 +26,8 @@ pub enum Keyword {
     Address,
     Envelope,
     MailboxExists,
+    Date,
+    CurrentDate,
     /// Any other identifier.
     Other,
 }
@@ -83,6 +85,10 @@ pub(crate) fn keyword_named(name: &[u8]) -> Keyword
         Keyword::Envelope
     } else if is_name(name, b"mailboxexists") {
         Keyword::MailboxExists
+    } else if is_name(name, b"date") {
+        Keyword::Date
+    } else if is_name(name, b"currentdate") {
+        Keyword::CurrentDate
     } else {
         Keyword::Other
     }

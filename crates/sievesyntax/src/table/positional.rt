@@ -1,7 +1,7 @@
 //! Positional arguments.
 ghost use Rattle.std.specs.Prelude.{◌≡◌, ℕ, List, [], IfOk, OnOk, Some, None};
 ghost use Rattle.sievesyntax.specs.Parsing.{IfFault, Finds};
-ghost use Rattle.sievesyntax.specs.Positional.{one_number, one_text, one_list, two_lists};
+ghost use Rattle.sievesyntax.specs.Positional.{one_number, one_text, one_list, two_lists, text_and_list, two_texts_and_list};
 ghost use Rattle.sievesyntax.specs.Table.{IsList};
 
 use crate::error::ReadError;
@@ -77,6 +77,40 @@ pub(crate) fn lists(alloc: Global, args: &[Argument]) -> Result<(Texts, Texts), 
             Ok((one, two))
         }
         _ => Err(ReadError::Fault(count_fault(args, 2))),
+    }
+}
+
+/// One string without brackets, and a list of strings.
+pub(crate) fn text_and_list(
+    alloc: Global,
+    args: &[Argument],
+) -> Result<(Octets, Texts), ReadError>
+    ensures found { IfOk result (λ both. text_and_list args.now ≡ Some (both.0, both.1)) }
+    ensures fault { IfFault result (text_and_list args.now ≡ None) }
+{
+    match args {
+        [Argument::Text(first), second] => {
+            let keys = strings(alloc, second)?;
+            Ok((first.try_clone(alloc)?, keys))
+        }
+        _ => Err(ReadError::Fault(count_fault(args, 2))),
+    }
+}
+
+/// Two strings without brackets, and a list of strings.
+pub(crate) fn two_texts_and_list(
+    alloc: Global,
+    args: &[Argument],
+) -> Result<(Octets, Octets, Texts), ReadError>
+    ensures found { IfOk result (λ all. two_texts_and_list args.now ≡ Some (all.0, (all.1, all.2))) }
+    ensures fault { IfFault result (two_texts_and_list args.now ≡ None) }
+{
+    match args {
+        [Argument::Text(first), Argument::Text(second), third] => {
+            let keys = strings(alloc, third)?;
+            Ok((first.try_clone(alloc)?, second.try_clone(alloc)?, keys))
+        }
+        _ => Err(ReadError::Fault(count_fault(args, 3))),
     }
 }
 

@@ -29,6 +29,8 @@ pub enum Tag {
     Handle,
     Copy,
     Create,
+    Zone,
+    OriginalZone,
     /// A tag of no command and no test.
     Other,
 }
@@ -81,6 +83,10 @@ pub(crate) fn tag_named(name: &[u8]) -> Tag
         Tag::Copy
     } else if is_name(name, b"create") {
         Tag::Create
+    } else if is_name(name, b"zone") {
+        Tag::Zone
+    } else if is_name(name, b"originalzone") {
+        Tag::OriginalZone
     } else {
         Tag::Other
     }

@@ -8,7 +8,7 @@ ghost use Rattle.sievesyntax.specs.Tags.{IsTagValue, group_of, IsAllowed, IsPlai
 use crate::error::ReadError;
 use crate::parser::argument::Argument;
 use crate::table::tag::Tag;
-use crate::table::tagged::{collation_at, number_at, relation_at, text_at, texts_at};
+use crate::table::tagged::{collation_at, number_at, relation_at, text_at, texts_at, zone_at};
 use crate::tree::checks::{AddressPart, Bound, Collation, Matching};
 use octets::{Octets, Texts};
 use sievelex::FaultKind;
@@ -43,6 +43,10 @@ pub enum TagValue {
     Copy,
     /// `:create`.
     Create,
+    /// `:zone`, in minutes east of UTC.
+    Zone(i16),
+    /// `:originalzone`.
+    OriginalZone,
 }
 
 /// What a tag settles. Tags that exclude each other settle one thing.
@@ -60,6 +64,7 @@ pub enum TagGroup {
     Handle,
     Copy,
     Create,
+    Zone,
 }
 
 impl TagValue {
@@ -80,6 +85,8 @@ impl TagValue {
             TagValue::Handle(_) => TagGroup::Handle,
             TagValue::Copy => TagGroup::Copy,
             TagValue::Create => TagGroup::Create,
+            TagValue::Zone(_) => TagGroup::Zone,
+            TagValue::OriginalZone => TagGroup::Zone,
         }
     }
 }
@@ -161,6 +168,11 @@ fn tag_value_at<'a>(
         Tag::Mime => Ok((TagValue::Mime, args)),
         Tag::Copy => Ok((TagValue::Copy, args)),
         Tag::Create => Ok((TagValue::Create, args)),
+        Tag::OriginalZone => Ok((TagValue::OriginalZone, args)),
+        Tag::Zone => {
+            let (zone, rest) = zone_at(args)?;
+            Ok((TagValue::Zone(zone), rest))
+        }
         Tag::Value => {
             let (relation, rest) = relation_at(args)?;
             Ok((TagValue::Matching(Matching::Value(relation)), rest))

@@ -1,9 +1,9 @@
 //! What the tags of a command or a test say: the value that is given, or its default.
 ghost use Rattle.std.specs.Prelude.{◌≡◌, IfOk};
-ghost use Rattle.sievesyntax.specs.TagValues.{bound_in, comparator_in, matching_in, part_in, days_in, seconds_in, subject_in, mime_in, handle_in, copy_in, create_in};
+ghost use Rattle.sievesyntax.specs.TagValues.{bound_in, comparator_in, matching_in, part_in, days_in, seconds_in, subject_in, mime_in, handle_in, copy_in, create_in, zone_in};
 
 use crate::table::tag_group::TagValue;
-use crate::tree::checks::{AddressPart, Bound, Collation, Matching};
+use crate::tree::checks::{AddressPart, Bound, Collation, DateZone, Matching};
 use octets::Octets;
 use std::alloc::{AllocError, Global};
 
@@ -143,4 +143,19 @@ pub(crate) fn given_create(tag_values: &[TagValue]) -> bool
         }
     }
     false
+}
+
+/// The zone that a date is looked at in, or the default.
+pub(crate) fn given_zone(tag_values: &[TagValue]) -> DateZone
+    ensures { result ≡ zone_in tag_values.now }
+{
+    for tag_value in tag_values {
+        if let TagValue::Zone(zone) = tag_value {
+            return DateZone::Given(*zone);
+        }
+        if let TagValue::OriginalZone = tag_value {
+            return DateZone::Original;
+        }
+    }
+    DateZone::Host
 }

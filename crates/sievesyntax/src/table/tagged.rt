@@ -1,5 +1,6 @@
 //! The values after tags (RFC 5228, 2.6.2).
-ghost use Rattle.std.specs.Prelude.{◌≡◌, ℕ, List, ◌∷◌, IfOk, Some, None};
+ghost use Rattle.std.specs.Prelude.{◌≡◌, ℕ, ℤ, List, ◌∷◌, IfOk, Some, None};
+ghost use Rattle.maildates.specs.Zones.{IsOffset};
 ghost use Rattle.sievesyntax.specs.declared.parser.argument.Argument.{Argument};
 ghost use Rattle.sievesyntax.specs.declared.parser.argument.Argument.TheVariants as A;
 ghost use Rattle.sievesyntax.specs.declared.tree.checks.Collation.{Collation};
@@ -10,6 +11,7 @@ ghost use Rattle.sievesyntax.specs.Tags.{name_of, relation_name, strings_of};
 use crate::error::ReadError;
 use crate::parser::argument::Argument;
 use crate::tree::checks::{Collation, Relation};
+use maildates::read_zone;
 use octets::{Octets, Texts};
 use sievelex::FaultKind;
 use std::alloc::Global;
@@ -121,6 +123,28 @@ fn relation_named(name: &[u8]) -> Result<Relation, ReadError>
         Ok(Relation::NotEqual)
     } else {
         Err(ReadError::Fault(FaultKind::WrongArgument))
+    }
+}
+
+/// A zone (RFC 5260, 4.1), in minutes east of UTC.
+pub(crate) fn zone_at(args: &[Argument]) -> Result<(i16, &[Argument]), ReadError>
+    ensures found { IfOk result (λ r. (s : List ℕ) × ((args.now ≡ A.Text s ∷ r.1.now) × IsOffset s r.0)) }
+    ensures fault { IfFault result ((s : List ℕ) (zone : ℤ) (to : List Argument) → args.now ≡ A.Text s ∷ to → IsOffset s zone → ⊥) }
+{
+    let (value, rest) = value_at(args)?;
+    match value {
+        Argument::Text(text) => Ok((offset_in(text.as_slice())?, rest)),
+        _ => Err(ReadError::Fault(FaultKind::WrongArgument)),
+    }
+}
+
+fn offset_in(text: &[u8]) -> Result<i16, ReadError>
+    ensures found { IfOk result (λ zone. IsOffset text.now zone) }
+    ensures fault { IfFault result ((zone : ℤ) → IsOffset text.now zone → ⊥) }
+{
+    match read_zone(text) {
+        Some(zone) => Ok(zone),
+        None => Err(ReadError::Fault(FaultKind::WrongArgument)),
     }
 }
 

@@ -4,7 +4,7 @@ ghost use Rattle.sievesyntax.specs.Parsing.{IfFault, FindsFit};
 ghost use Rattle.sievesyntax.specs.declared.tree.checks.Check.TheVariants as C;
 ghost use Rattle.sievesyntax.specs.Tree.{TestTree};
 ghost use Rattle.sievesyntax.specs.View.{test_view};
-ghost use Rattle.sievesyntax.specs.Table.{IsPlainTest, IsList, IsHeader, IsAddress, IsEnvelope};
+ghost use Rattle.sievesyntax.specs.Table.{IsPlainTest, IsList, IsHeader, IsAddress, IsEnvelope, IsDate, IsCurrentDate};
 ghost use Rattle.sievesyntax.specs.Valid.{MayCheck, MayMatch, MayTest};
 
 use crate::error::ReadError;
@@ -12,8 +12,12 @@ use crate::parser::argument::Argument;
 use crate::table::capability::{Capabilities, require};
 use crate::table::keyword::Keyword;
 use crate::table::positional::{no_arguments, read_list};
-use crate::table::test_arguments::{read_address, read_envelope, read_header, read_size};
-use crate::tree::checks::{Address, Check, Collation, EnvelopeTest, Header, Matching};
+use crate::table::test_arguments::{
+    read_address, read_current_date, read_date_test, read_envelope, read_header, read_size,
+};
+use crate::tree::checks::{
+    Address, Check, Collation, CurrentDate, DateTest, EnvelopeTest, Header, Matching,
+};
 use crate::tree::test::Test;
 use octets::Texts;
 use sievelex::FaultKind;
@@ -66,6 +70,18 @@ pub(crate) fn plain_test(
         Keyword::MailboxExists => {
             let names = permitted_names(alloc, args, granted)?;
             Ok(Test::Check(Check::MailboxExists(names)))
+        }
+        // Syntax: date [<":zone" <time-zone: string>> / ":originalzone"] [COMPARATOR] [MATCH-TYPE] <header-name: string>
+        // <date-part: string> <key-list: string-list>, where `date` is required (RFC 5260, 4)
+        Keyword::Date => {
+            let date = permitted_date(alloc, args, granted)?;
+            Ok(Test::Check(Check::Date(date)))
+        }
+        // Syntax: currentdate [":zone" <time-zone: string>] [COMPARATOR] [MATCH-TYPE] <date-part: string> <key-list: string-list>,
+        // where `date` is required (RFC 5260, 5)
+        Keyword::CurrentDate => {
+            let current = permitted_current(alloc, args, granted)?;
+            Ok(Test::Check(Check::CurrentDate(current)))
         }
         _ => Err(ReadError::Fault(FaultKind::UnknownTest)),
     }
@@ -142,4 +158,32 @@ fn permitted_names(
     require(granted.mailbox, true)?;
     let names = read_list(alloc, args)?;
     Ok(names)
+}
+
+/// The arguments of `date`, where it may stand.
+fn permitted_date(
+    alloc: Global,
+    args: &[Argument],
+    granted: Capabilities,
+) -> Result<DateTest, ReadError>
+    ensures { FindsFit (IsDate args.now) (λ date. MayCheck granted (C.Date date)) result }
+{
+    require(granted.date, true)?;
+    let date = read_date_test(alloc, args)?;
+    require_match(granted, date.comparator, date.matching)?;
+    Ok(date)
+}
+
+/// The arguments of `currentdate`, where it may stand.
+fn permitted_current(
+    alloc: Global,
+    args: &[Argument],
+    granted: Capabilities,
+) -> Result<CurrentDate, ReadError>
+    ensures { FindsFit (IsCurrentDate args.now) (λ current. MayCheck granted (C.CurrentDate current)) result }
+{
+    require(granted.date, true)?;
+    let current = read_current_date(alloc, args)?;
+    require_match(granted, current.comparator, current.matching)?;
+    Ok(current)
 }

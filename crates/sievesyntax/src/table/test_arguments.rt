@@ -1,18 +1,22 @@
 //! The arguments of the tests that look at a message or its envelope.
-ghost use Rattle.std.specs.Prelude.{◌≡◌};
+ghost use Rattle.std.specs.Prelude.{◌≡◌, IfOk};
 ghost use Rattle.std.specs.List.{list_all, list_any};
 ghost use Rattle.sievesyntax.specs.Lexemes.{same_name};
-ghost use Rattle.sievesyntax.specs.Parsing.{Finds};
-ghost use Rattle.sievesyntax.specs.Table.{SaysSize, SaysHeader, SaysAddress, SaysEnvelope, NamesParts, IsSize, IsHeader, IsAddress, IsEnvelope};
+ghost use Rattle.maildates.specs.Parts.{part_named};
+ghost use Rattle.sievesyntax.specs.Parsing.{Finds, IfFault};
+ghost use Rattle.sievesyntax.specs.Table.{SaysSize, SaysHeader, SaysAddress, SaysEnvelope, SaysDate, SaysCurrentDate, NamesParts, IsSize, IsHeader, IsAddress, IsEnvelope, IsDate, IsCurrentDate};
 ghost use Rattle.sievesyntax.specs.Table as spec;
 
 use crate::error::ReadError;
 use crate::parser::argument::Argument;
 use crate::table::keyword::is_name;
-use crate::table::positional::{lists, number};
+use crate::table::positional::{lists, number, text_and_list, two_texts_and_list};
 use crate::table::tag_group::{TagGroup, TagValue, split_tags};
-use crate::table::tag_values::{given_bound, given_comparator, given_matching, given_part};
-use crate::tree::checks::{Address, EnvelopeParts, EnvelopeTest, Header, Size};
+use crate::table::tag_values::{given_bound, given_comparator, given_matching, given_part, given_zone};
+use crate::tree::checks::{
+    Address, CurrentDate, DateTest, DateZone, EnvelopeParts, EnvelopeTest, Header, Size,
+};
+use maildates::DatePart;
 use octets::Octets;
 use sievelex::FaultKind;
 use std::alloc::Global;
@@ -114,6 +118,85 @@ fn envelope_from(
         parts,
         keys,
     })
+}
+
+/// The arguments of `date`.
+pub(crate) fn read_date_test(alloc: Global, args: &[Argument]) -> Result<DateTest, ReadError>
+    ensures { Finds (IsDate args.now) result }
+{
+    let allowed = &[TagGroup::Zone, TagGroup::Comparator, TagGroup::Matching];
+    let (tag_values, positional) = split_tags(alloc, args, allowed)?;
+    date_from(alloc, tag_values.as_slice(), positional)
+}
+
+fn date_from(
+    alloc: Global,
+    tag_values: &[TagValue],
+    positional: &[Argument],
+) -> Result<DateTest, ReadError>
+    ensures { Finds (SaysDate tag_values.now positional.now) result }
+{
+    let (field, name, keys) = two_texts_and_list(alloc, positional)?;
+    let part = date_part(name.as_slice())?;
+    Ok(DateTest {
+        zone: given_zone(tag_values),
+        comparator: given_comparator(tag_values),
+        matching: given_matching(tag_values),
+        field,
+        part,
+        keys,
+    })
+}
+
+/// The arguments of `currentdate`.
+pub(crate) fn read_current_date(alloc: Global, args: &[Argument]) -> Result<CurrentDate, ReadError>
+    ensures { Finds (IsCurrentDate args.now) result }
+{
+    let allowed = &[TagGroup::Zone, TagGroup::Comparator, TagGroup::Matching];
+    let (tag_values, positional) = split_tags(alloc, args, allowed)?;
+    current_date_from(alloc, tag_values.as_slice(), positional)
+}
+
+fn current_date_from(
+    alloc: Global,
+    tag_values: &[TagValue],
+    positional: &[Argument],
+) -> Result<CurrentDate, ReadError>
+    ensures { Finds (SaysCurrentDate tag_values.now positional.now) result }
+{
+    let zone = zone_without_original(given_zone(tag_values))?;
+    let (name, keys) = text_and_list(alloc, positional)?;
+    let part = date_part(name.as_slice())?;
+    Ok(CurrentDate {
+        zone,
+        comparator: given_comparator(tag_values),
+        matching: given_matching(tag_values),
+        part,
+        keys,
+    })
+}
+
+/// The zone of `currentdate`, which has no `:originalzone`.
+fn zone_without_original(zone: DateZone) -> Result<Option<i16>, ReadError>
+    ensures found { IfOk result (λ given. spec.without_original zone ≡ Some given) }
+    ensures fault { IfFault result (spec.without_original zone ≡ None) }
+{
+    match zone {
+        DateZone::Host => Ok(None),
+        DateZone::Given(minutes) => Ok(Some(minutes)),
+        DateZone::Original => Err(ReadError::Fault(FaultKind::UnknownTag)),
+    }
+}
+
+/// The part of a date of this name (RFC 5260, 4.2).
+fn date_part(name: &[u8]) -> Result<DatePart, ReadError>
+    ensures found { IfOk result (λ part. part_named name.now ≡ Some part) }
+    ensures fault { IfFault result (part_named name.now ≡ None) }
+{
+    match DatePart::named(name) {
+        Some(part) => Ok(part),
+        None => Err(ReadError::Fault(FaultKind::WrongArgument)),
+    }
 }
 
 /// The parts of the envelope that these name.

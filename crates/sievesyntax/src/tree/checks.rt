@@ -2,7 +2,8 @@
 ghost use Rattle.std.specs.Prelude.{◌≡◌};
 ghost use Rattle.sievesyntax.specs.Valid.{is_subaddress, is_relational, is_numeric, seeks_part};
 
-use octets::Texts;
+use maildates::DatePart;
+use octets::{Octets, Texts};
 
 /// A test that looks at the message or its envelope.
 #[derive(Drop)]
@@ -19,6 +20,10 @@ pub enum Check {
     Envelope(EnvelopeTest),
     /// `mailboxexists`, with the names that have to be those of mailboxes, each of them (RFC 5490, 3.1).
     MailboxExists(Texts),
+    /// `date` (RFC 5260, 4).
+    Date(DateTest),
+    /// `currentdate` (RFC 5260, 5).
+    CurrentDate(CurrentDate),
 }
 
 /// The arguments of `size`: how the message's size has to stand to the limit, in octets.
@@ -71,6 +76,49 @@ pub struct EnvelopeTest {
     pub parts: EnvelopeParts,
     /// The keys.
     pub keys: Texts,
+}
+
+/// The arguments of `date`: a part of the date in the first field of a name has to match one of the keys.
+#[derive(Drop)]
+pub struct DateTest {
+    /// The zone that the date is looked at in.
+    pub zone: DateZone,
+    /// How octets are compared.
+    pub comparator: Collation,
+    /// How the part has to match a key.
+    pub matching: Matching,
+    /// The name of the field, as it was written.
+    pub field: Octets,
+    /// The part of the date.
+    pub part: DatePart,
+    /// The keys.
+    pub keys: Texts,
+}
+
+/// The arguments of `currentdate`: a part of the delivery's moment has to match one of the keys.
+#[derive(Drop)]
+pub struct CurrentDate {
+    /// The zone that the moment is looked at in, in minutes east of UTC; the host's where there is none.
+    pub zone: Option<i16>,
+    /// How octets are compared.
+    pub comparator: Collation,
+    /// How the part has to match a key.
+    pub matching: Matching,
+    /// The part of the date.
+    pub part: DatePart,
+    /// The keys.
+    pub keys: Texts,
+}
+
+/// The zone that a date is looked at in (RFC 5260, 4.1).
+#[derive(Clone, Copy, Debug, PartialEq, Eq)]
+pub enum DateZone {
+    /// The host's.
+    Host,
+    /// `:zone`: this one, in minutes east of UTC.
+    Given(i16),
+    /// `:originalzone`: the one that the date was written in.
+    Original,
 }
 
 /// Which addresses of the envelope a test names.

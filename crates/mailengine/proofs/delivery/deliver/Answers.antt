@@ -8,103 +8,106 @@ use Rattle.mailengine.specs.Limits.{limit_refusal}
 use Rattle.mailengine.specs.Lookups.{LooksUp, IsLookup}
 use Rattle.mailengine.proofs.DeliveryLemmas.{moment_fits, transient_refuses, absent_refuses, planned_at, delivery_limited, delivery_unread, delivery_absent, delivery_unasked, delivery_failed, delivery_made, delivery_undone}
 use Rattle.mailengine.proofs.RunLemmas.{delivery_spaced}
+use Rattle.mailstore.specs.Cells.{contents}
+use Rattle.mailengine.specs.AccountEvents.{text_or}
+use Rattle.mailengine.specs.Terms.{terms_of}
 use Rattle.mailengine.proofs.delivery.deliver.Goals as goal
 
 pub returns-in-Some-clause-acts : goal.returns-in-Some-clause-acts
-returns-in-Some-clause-acts g c = delivery_limited c.args.user.now c.args.envelope c.args.message.now c.args.moment (state g.S.Store c.args.store.now) c.in-Some.refusal (sym c.limit_refusal.ensures ∙ c.in-Some.is)
+returns-in-Some-clause-acts g c = delivery_limited c.args.user.now c.args.envelope c.args.message.now (terms_of c.args.when c.args.default) (state g.S.Store c.args.store.now) c.in-Some.refusal (sym c.limit_refusal.ensures ∙ c.in-Some.is)
 
 pub returns-in-Some-clause-spaced : goal.returns-in-Some-clause-spaced
-returns-in-Some-clause-spaced g c = delivery_spaced c.args.user.now c.args.envelope c.args.message.now c.args.moment (state g.S.Store c.args.store.now) (state g.S.Store c.args.store.now) (Err c.in-Some.refusal) (returns-in-Some-clause-acts g c)
+returns-in-Some-clause-spaced g c = delivery_spaced c.args.user.now c.args.envelope c.args.message.now (terms_of c.args.when c.args.default) (state g.S.Store c.args.store.now) (state g.S.Store c.args.store.now) (Err c.in-Some.refusal) (returns-in-Some-clause-acts g c)
 
 pub returns-in_err-absence-clause-acts : goal.returns-in_err-absence-clause-acts
 returns-in_err-absence-clause-acts g c =
     let undone : OnOk c.from_residual.result ⊥ = search rules in
     let transient : IfErr c.from_residual.result IsTransient = search rules in
     let is : c.look_up-looked.result ≡ Err NoUser = search rules in
-    let none : limit_refusal c.args.envelope c.args.message.now c.args.moment ≡ None = sym c.limit_refusal.ensures ∙ c.in_default.is in
-    delivery_unasked c.args.user.now c.args.envelope c.args.message.now c.args.moment none (state g.S.Store c.args.store.now) (state g.S.Store c.look_up-looked.new.store) (state g.S.Store c.absence.new.store) c.look_up-looked.result is
+    let none : limit_refusal c.args.envelope c.args.message.now c.args.when.moment ≡ None = sym c.limit_refusal.ensures ∙ c.in_default.is in
+    delivery_unasked c.args.user.now c.args.envelope c.args.message.now (terms_of c.args.when c.args.default) none (state g.S.Store c.args.store.now) (state g.S.Store c.look_up-looked.new.store) (state g.S.Store c.absence.new.store) c.look_up-looked.result is
     (subst (λ sender. LooksUp c.args.user.now (IsLookup sender) (state g.S.Store c.args.store.now) (state g.S.Store c.look_up-looked.new.store) c.look_up-looked.result) c.as_slice.ensures c.look_up-looked.ensures) c.absence.result c.absence.ensures.reads c.from_residual.result undone transient
 
 pub returns-in_err-absence-clause-spaced : goal.returns-in_err-absence-clause-spaced
-returns-in_err-absence-clause-spaced g c = delivery_spaced c.args.user.now c.args.envelope c.args.message.now c.args.moment (state g.S.Store c.args.store.now) (state g.S.Store c.absence.new.store) c.from_residual.result (returns-in_err-absence-clause-acts g c)
+returns-in_err-absence-clause-spaced g c = delivery_spaced c.args.user.now c.args.envelope c.args.message.now (terms_of c.args.when c.args.default) (state g.S.Store c.args.store.now) (state g.S.Store c.absence.new.store) c.from_residual.result (returns-in_err-absence-clause-acts g c)
 
 pub returns-in-Err-NoUser-clause-acts : goal.returns-in-Err-NoUser-clause-acts
 returns-in-Err-NoUser-clause-acts g c =
     let is : c.look_up-looked.result ≡ Err NoUser = search rules in
-    let none : limit_refusal c.args.envelope c.args.message.now c.args.moment ≡ None = sym c.limit_refusal.ensures ∙ c.in_default.is in
-    delivery_absent c.args.user.now c.args.envelope c.args.message.now c.args.moment none (state g.S.Store c.args.store.now) (state g.S.Store c.look_up-looked.new.store) (state g.S.Store c.absence.new.store) c.look_up-looked.result is
+    let none : limit_refusal c.args.envelope c.args.message.now c.args.when.moment ≡ None = sym c.limit_refusal.ensures ∙ c.in_default.is in
+    delivery_absent c.args.user.now c.args.envelope c.args.message.now (terms_of c.args.when c.args.default) none (state g.S.Store c.args.store.now) (state g.S.Store c.look_up-looked.new.store) (state g.S.Store c.absence.new.store) c.look_up-looked.result is
     (subst (λ sender. LooksUp c.args.user.now (IsLookup sender) (state g.S.Store c.args.store.now) (state g.S.Store c.look_up-looked.new.store) c.look_up-looked.result) c.as_slice.ensures c.look_up-looked.ensures) c.absence.result c.absence.ensures.reads c.in_ok-absence.field-0 (Err c.in_ok-absence.field-0) c.in_ok-absence.was refl
 
 pub returns-in-Err-NoUser-clause-spaced : goal.returns-in-Err-NoUser-clause-spaced
-returns-in-Err-NoUser-clause-spaced g c = delivery_spaced c.args.user.now c.args.envelope c.args.message.now c.args.moment (state g.S.Store c.args.store.now) (state g.S.Store c.absence.new.store) (Err c.in_ok-absence.field-0) (returns-in-Err-NoUser-clause-acts g c)
+returns-in-Err-NoUser-clause-spaced g c = delivery_spaced c.args.user.now c.args.envelope c.args.message.now (terms_of c.args.when c.args.default) (state g.S.Store c.args.store.now) (state g.S.Store c.absence.new.store) (Err c.in_ok-absence.field-0) (returns-in-Err-NoUser-clause-acts g c)
 
 pub returns-in-Err-NoUser-clause-named : goal.returns-in-Err-NoUser-clause-named
 returns-in-Err-NoUser-clause-named g c =
-    let none : limit_refusal c.args.envelope c.args.message.now c.args.moment ≡ None = sym c.limit_refusal.ensures ∙ c.in_default.is in
-    absent_refuses {X = Report} c.args.envelope c.args.message.now c.args.moment (Err c.in_ok-absence.field-0) c.in_ok-absence.field-0 none refl c.in_ok-absence.ensures.told
+    let none : limit_refusal c.args.envelope c.args.message.now c.args.when.moment ≡ None = sym c.limit_refusal.ensures ∙ c.in_default.is in
+    absent_refuses {X = Report} c.args.envelope c.args.message.now c.args.when.moment (Err c.in_ok-absence.field-0) c.in_ok-absence.field-0 none refl c.in_ok-absence.ensures.told
 
 pub returns-in_err-found-clause-acts : goal.returns-in_err-found-clause-acts
 returns-in_err-found-clause-acts g c =
     let is : c.from_residual-in_err-found.result ≡ Err c.in_err-found.field-0.0 = search rules in
     let there : c.in_err-found.field-0.0 ≡ NoUser → ⊥ = search rules in
-    let none : limit_refusal c.args.envelope c.args.message.now c.args.moment ≡ None = sym c.limit_refusal.ensures ∙ c.in_default.is in
-    delivery_unread c.args.user.now c.args.envelope c.args.message.now c.args.moment none (state g.S.Store c.args.store.now) (state g.S.Store c.look_up-looked.new.store) c.in_err-found.field-0.0 c.from_residual-in_err-found.result is there
+    let none : limit_refusal c.args.envelope c.args.message.now c.args.when.moment ≡ None = sym c.limit_refusal.ensures ∙ c.in_default.is in
+    delivery_unread c.args.user.now c.args.envelope c.args.message.now (terms_of c.args.when c.args.default) none (state g.S.Store c.args.store.now) (state g.S.Store c.look_up-looked.new.store) c.in_err-found.field-0.0 c.from_residual-in_err-found.result is there
     (subst (λ sender. LooksUp c.args.user.now (IsLookup sender) (state g.S.Store c.args.store.now) (state g.S.Store c.look_up-looked.new.store) (Err c.in_err-found.field-0.0)) c.as_slice.ensures c.in_err-found.ensures)
 
 pub returns-in_err-found-clause-spaced : goal.returns-in_err-found-clause-spaced
-returns-in_err-found-clause-spaced g c = delivery_spaced c.args.user.now c.args.envelope c.args.message.now c.args.moment (state g.S.Store c.args.store.now) (state g.S.Store c.look_up-looked.new.store) c.from_residual-in_err-found.result (returns-in_err-found-clause-acts g c)
+returns-in_err-found-clause-spaced g c = delivery_spaced c.args.user.now c.args.envelope c.args.message.now (terms_of c.args.when c.args.default) (state g.S.Store c.args.store.now) (state g.S.Store c.look_up-looked.new.store) c.from_residual-in_err-found.result (returns-in_err-found-clause-acts g c)
 
 pub returns-in_err-mail-clause-acts : goal.returns-in_err-mail-clause-acts
 returns-in_err-mail-clause-acts g c =
     let undone : OnOk c.from_residual-in_err-mail.result ⊥ = search rules in
     let transient : IfErr c.from_residual-in_err-mail.result IsTransient = search rules in
-    let none : limit_refusal c.args.envelope c.args.message.now c.args.moment ≡ None = sym c.limit_refusal.ensures ∙ c.in_default.is in
-    delivery_failed c.args.user.now c.args.envelope c.args.message.now c.args.moment none (state g.S.Store c.args.store.now) (state g.S.Store c.look_up-looked.new.store) c.look_up-looked.result c.in_ok-found.found c.in_ok-found.was
+    let none : limit_refusal c.args.envelope c.args.message.now c.args.when.moment ≡ None = sym c.limit_refusal.ensures ∙ c.in_default.is in
+    delivery_failed c.args.user.now c.args.envelope c.args.message.now (terms_of c.args.when c.args.default) none (state g.S.Store c.args.store.now) (state g.S.Store c.look_up-looked.new.store) c.look_up-looked.result c.in_ok-found.found c.in_ok-found.was
     (subst (λ sender. LooksUp c.args.user.now (IsLookup sender) (state g.S.Store c.args.store.now) (state g.S.Store c.look_up-looked.new.store) c.look_up-looked.result) c.as_slice.ensures c.look_up-looked.ensures) c.from_residual-in_err-mail.result undone transient
 
 pub returns-in_err-mail-clause-spaced : goal.returns-in_err-mail-clause-spaced
-returns-in_err-mail-clause-spaced g c = delivery_spaced c.args.user.now c.args.envelope c.args.message.now c.args.moment (state g.S.Store c.args.store.now) (state g.S.Store c.look_up-looked.new.store) c.from_residual-in_err-mail.result (returns-in_err-mail-clause-acts g c)
+returns-in_err-mail-clause-spaced g c = delivery_spaced c.args.user.now c.args.envelope c.args.message.now (terms_of c.args.when c.args.default) (state g.S.Store c.args.store.now) (state g.S.Store c.look_up-looked.new.store) c.from_residual-in_err-mail.result (returns-in_err-mail-clause-acts g c)
 
 pub plan-requires : goal.plan-requires
-plan-requires g c = moment_fits c.args.envelope c.args.message.now c.args.moment (sym c.limit_refusal.ensures ∙ c.in_default.is)
+plan-requires g c = moment_fits c.args.envelope c.args.message.now c.args.when.moment (sym c.limit_refusal.ensures ∙ c.in_default.is)
 
 pub returns-in_err-plan-clause-acts : goal.returns-in_err-plan-clause-acts
 returns-in_err-plan-clause-acts g c =
     let undone : OnOk c.from_residual-in_err-plan.result ⊥ = search rules in
     let transient : IfErr c.from_residual-in_err-plan.result IsTransient = search rules in
-    let none : limit_refusal c.args.envelope c.args.message.now c.args.moment ≡ None = sym c.limit_refusal.ensures ∙ c.in_default.is in
-    delivery_failed c.args.user.now c.args.envelope c.args.message.now c.args.moment none (state g.S.Store c.args.store.now) (state g.S.Store c.look_up-looked.new.store) c.look_up-looked.result c.in_ok-found.found c.in_ok-found.was
+    let none : limit_refusal c.args.envelope c.args.message.now c.args.when.moment ≡ None = sym c.limit_refusal.ensures ∙ c.in_default.is in
+    delivery_failed c.args.user.now c.args.envelope c.args.message.now (terms_of c.args.when c.args.default) none (state g.S.Store c.args.store.now) (state g.S.Store c.look_up-looked.new.store) c.look_up-looked.result c.in_ok-found.found c.in_ok-found.was
     (subst (λ sender. LooksUp c.args.user.now (IsLookup sender) (state g.S.Store c.args.store.now) (state g.S.Store c.look_up-looked.new.store) c.look_up-looked.result) c.as_slice.ensures c.look_up-looked.ensures) c.from_residual-in_err-plan.result undone transient
 
 pub returns-in_err-plan-clause-spaced : goal.returns-in_err-plan-clause-spaced
-returns-in_err-plan-clause-spaced g c = delivery_spaced c.args.user.now c.args.envelope c.args.message.now c.args.moment (state g.S.Store c.args.store.now) (state g.S.Store c.look_up-looked.new.store) c.from_residual-in_err-plan.result (returns-in_err-plan-clause-acts g c)
+returns-in_err-plan-clause-spaced g c = delivery_spaced c.args.user.now c.args.envelope c.args.message.now (terms_of c.args.when c.args.default) (state g.S.Store c.args.store.now) (state g.S.Store c.look_up-looked.new.store) c.from_residual-in_err-plan.result (returns-in_err-plan-clause-acts g c)
 
 pub returns-in_err-commit-clause-acts : goal.returns-in_err-commit-clause-acts
 returns-in_err-commit-clause-acts g c =
     let is : c.from_residual-in_err-commit.result ≡ Err c.in_err-commit.field-0.0 = search (rules, c.from_residual-in_err-commit.ensures) in
-    let none : limit_refusal c.args.envelope c.args.message.now c.args.moment ≡ None = sym c.limit_refusal.ensures ∙ c.in_default.is in
-    delivery_undone c.args.user.now c.args.envelope c.args.message.now c.args.moment none (state g.S.Store c.args.store.now) (state g.S.Store c.look_up-looked.new.store) c.look_up-looked.result c.in_ok-found.found c.in_ok-found.was
+    let none : limit_refusal c.args.envelope c.args.message.now c.args.when.moment ≡ None = sym c.limit_refusal.ensures ∙ c.in_default.is in
+    delivery_undone c.args.user.now c.args.envelope c.args.message.now (terms_of c.args.when c.args.default) none (state g.S.Store c.args.store.now) (state g.S.Store c.look_up-looked.new.store) c.look_up-looked.result c.in_ok-found.found c.in_ok-found.was
     (subst (λ sender. LooksUp c.args.user.now (IsLookup sender) (state g.S.Store c.args.store.now) (state g.S.Store c.look_up-looked.new.store) c.look_up-looked.result) c.as_slice.ensures c.look_up-looked.ensures) c.in_ok-plan.plan
-    (planned_at c.in_ok-found.found.view c.in_ok-found.found.text _ c.in_ok-mail.mail c.args.envelope c.args.message.now c.args.moment c.in_ok-plan.plan c.in_ok-mail.ensures c.slice_of.ensures c.in_ok-plan.ensures)
+    (planned_at c.in_ok-found.found.view (text_or c.in_ok-found.found.text (contents c.args.default)) _ c.in_ok-mail.mail c.args.envelope c.args.message.now (terms_of c.args.when c.args.default) c.in_ok-plan.plan c.in_ok-mail.ensures c.deciding.ensures c.in_ok-plan.ensures)
     (state g.S.Store c.commit.new.store) c.commit.result c.commit.ensures.writes c.in_err-commit.field-0.0 c.from_residual-in_err-commit.result c.in_err-commit.was is c.in_err-commit.ensures.named
 
 pub returns-in_err-commit-clause-spaced : goal.returns-in_err-commit-clause-spaced
-returns-in_err-commit-clause-spaced g c = delivery_spaced c.args.user.now c.args.envelope c.args.message.now c.args.moment (state g.S.Store c.args.store.now) (state g.S.Store c.commit.new.store) c.from_residual-in_err-commit.result (returns-in_err-commit-clause-acts g c)
+returns-in_err-commit-clause-spaced g c = delivery_spaced c.args.user.now c.args.envelope c.args.message.now (terms_of c.args.when c.args.default) (state g.S.Store c.args.store.now) (state g.S.Store c.commit.new.store) c.from_residual-in_err-commit.result (returns-in_err-commit-clause-acts g c)
 
 pub returns-in_err-commit-clause-named : goal.returns-in_err-commit-clause-named
 returns-in_err-commit-clause-named g c =
     let is : c.from_residual-in_err-commit.result ≡ Err c.in_err-commit.field-0.0 = search (rules, c.from_residual-in_err-commit.ensures) in
     let transient : IfErr c.from_residual-in_err-commit.result IsTransient = subst (λ q. IfErr q IsTransient) (sym is) c.in_err-commit.ensures.named in
-    transient_refuses c.args.envelope c.args.message.now c.args.moment c.from_residual-in_err-commit.result (sym c.limit_refusal.ensures ∙ c.in_default.is) transient
+    transient_refuses c.args.envelope c.args.message.now c.args.when.moment c.from_residual-in_err-commit.result (sym c.limit_refusal.ensures ∙ c.in_default.is) transient
 
 pub returns-clause-acts : goal.returns-clause-acts
 returns-clause-acts g c =
-    let none : limit_refusal c.args.envelope c.args.message.now c.args.moment ≡ None = sym c.limit_refusal.ensures ∙ c.in_default.is in
-    subst (λ r. ActsDelivery c.args.user.now c.args.envelope c.args.message.now c.args.moment (state g.S.Store c.args.store.now) (state g.S.Store c.commit.new.store) (Ok r)) (sym c.report_of.ensures)
-    (delivery_made c.args.user.now c.args.envelope c.args.message.now c.args.moment none (state g.S.Store c.args.store.now) (state g.S.Store c.look_up-looked.new.store) c.look_up-looked.result c.in_ok-found.found c.in_ok-found.was
+    let none : limit_refusal c.args.envelope c.args.message.now c.args.when.moment ≡ None = sym c.limit_refusal.ensures ∙ c.in_default.is in
+    subst (λ r. ActsDelivery c.args.user.now c.args.envelope c.args.message.now (terms_of c.args.when c.args.default) (state g.S.Store c.args.store.now) (state g.S.Store c.commit.new.store) (Ok r)) (sym c.report_of.ensures)
+    (delivery_made c.args.user.now c.args.envelope c.args.message.now (terms_of c.args.when c.args.default) none (state g.S.Store c.args.store.now) (state g.S.Store c.look_up-looked.new.store) c.look_up-looked.result c.in_ok-found.found c.in_ok-found.was
     (subst (λ sender. LooksUp c.args.user.now (IsLookup sender) (state g.S.Store c.args.store.now) (state g.S.Store c.look_up-looked.new.store) c.look_up-looked.result) c.as_slice.ensures c.look_up-looked.ensures) c.in_ok-plan.plan
-    (planned_at c.in_ok-found.found.view c.in_ok-found.found.text _ c.in_ok-mail.mail c.args.envelope c.args.message.now c.args.moment c.in_ok-plan.plan c.in_ok-mail.ensures c.slice_of.ensures c.in_ok-plan.ensures)
+    (planned_at c.in_ok-found.found.view (text_or c.in_ok-found.found.text (contents c.args.default)) _ c.in_ok-mail.mail c.args.envelope c.args.message.now (terms_of c.args.when c.args.default) c.in_ok-plan.plan c.in_ok-mail.ensures c.deciding.ensures c.in_ok-plan.ensures)
     (state g.S.Store c.commit.new.store) c.commit.result c.commit.ensures.writes c.in_ok-commit.field-0 c.in_ok-commit.was)
 
 pub returns-clause-spaced : goal.returns-clause-spaced
-returns-clause-spaced g c = delivery_spaced c.args.user.now c.args.envelope c.args.message.now c.args.moment (state g.S.Store c.args.store.now) (state g.S.Store c.commit.new.store) (Ok c.report_of.result) (returns-clause-acts g c)
+returns-clause-spaced g c = delivery_spaced c.args.user.now c.args.envelope c.args.message.now (terms_of c.args.when c.args.default) (state g.S.Store c.args.store.now) (state g.S.Store c.commit.new.store) (Ok c.report_of.result) (returns-clause-acts g c)

@@ -1,7 +1,7 @@
 use Rattle.std.proofs.Common.{refl}
 use Rattle.std.proofs.lemmas.Result.{err_from_is_err_and}
 use Rattle.sievesyntax.specs.declared.tree.checks.Check.TheVariants as C
-use Rattle.sievesyntax.specs.Table.{IsSize, IsList, IsHeader, IsAddress, IsEnvelope}
+use Rattle.sievesyntax.specs.Table.{IsSize, IsList, IsHeader, IsAddress, IsEnvelope, IsDate, IsCurrentDate}
 use Rattle.sievesyntax.specs.Tree.{yes, no, looks}
 use Rattle.sievesyntax.specs.Valid.{MayCheck, MayTest}
 use Rattle.sievesyntax.proofs.TableLemmas.{row_only, row_fault, fit_fault, bare_fault}
@@ -103,3 +103,27 @@ returns-in_ok-names-in-MailboxExists-clause-found c = rw (view-Check, c.in-Mailb
 
 pub returns-in_ok-names-in-MailboxExists-clause-only : goal.returns-in_ok-names-in-MailboxExists-clause-only
 returns-in_ok-names-in-MailboxExists-clause-only c = rw (view-Check, c.in-MailboxExists.is) (row_only IsList (λ x. looks (C.MailboxExists x)) _ (MayTest c.args.granted) _ c.in_ok-names-in-MailboxExists.ensures.2)
+
+pub returns-in_err-date-in-Date-clause-fault : goal.returns-in_err-date-in-Date-clause-fault
+returns-in_err-date-in-Date-clause-fault c =
+    let h = c.in_err-date-in-Date.ensures in
+    let p = err_from_is_err_and c.from_residual-in_err-date-in-Date.result c.from_residual-in_err-date-in-Date.ensures.1 in
+    rw (p.1, p.2, c.in-Date.is) (fit_fault IsDate (λ x. looks (C.Date x)) _ (MayTest c.args.granted) (λ x. MayCheck c.args.granted (C.Date x)) (λ x may. may) _ h)
+
+pub returns-in_ok-date-in-Date-clause-found : goal.returns-in_ok-date-in-Date-clause-found
+returns-in_ok-date-in-Date-clause-found c = rw (view-Check, c.in-Date.is) (record { value = _; is = c.in_ok-date-in-Date.ensures.0; tree_is = refl }, c.in_ok-date-in-Date.ensures.1)
+
+pub returns-in_ok-date-in-Date-clause-only : goal.returns-in_ok-date-in-Date-clause-only
+returns-in_ok-date-in-Date-clause-only c = rw (view-Check, c.in-Date.is) (row_only IsDate (λ x. looks (C.Date x)) _ (MayTest c.args.granted) _ c.in_ok-date-in-Date.ensures.2)
+
+pub returns-in_err-current-in-CurrentDate-clause-fault : goal.returns-in_err-current-in-CurrentDate-clause-fault
+returns-in_err-current-in-CurrentDate-clause-fault c =
+    let h = c.in_err-current-in-CurrentDate.ensures in
+    let p = err_from_is_err_and c.from_residual-in_err-current-in-CurrentDate.result c.from_residual-in_err-current-in-CurrentDate.ensures.1 in
+    rw (p.1, p.2, c.in-CurrentDate.is) (fit_fault IsCurrentDate (λ x. looks (C.CurrentDate x)) _ (MayTest c.args.granted) (λ x. MayCheck c.args.granted (C.CurrentDate x)) (λ x may. may) _ h)
+
+pub returns-in_ok-current-in-CurrentDate-clause-found : goal.returns-in_ok-current-in-CurrentDate-clause-found
+returns-in_ok-current-in-CurrentDate-clause-found c = rw (view-Check, c.in-CurrentDate.is) (record { value = _; is = c.in_ok-current-in-CurrentDate.ensures.0; tree_is = refl }, c.in_ok-current-in-CurrentDate.ensures.1)
+
+pub returns-in_ok-current-in-CurrentDate-clause-only : goal.returns-in_ok-current-in-CurrentDate-clause-only
+returns-in_ok-current-in-CurrentDate-clause-only c = rw (view-Check, c.in-CurrentDate.is) (row_only IsCurrentDate (λ x. looks (C.CurrentDate x)) _ (MayTest c.args.granted) _ c.in_ok-current-in-CurrentDate.ensures.2)

@@ -1,0 +1,9 @@
+use Rattle.std.proofs.Common.{◌≡◌, ℤ, None, Some, sym, ◌∙◌}
+use Rattle.hostzones.specs.declared.zone.HostZone.TheVariants.{Always, ByRule}
+use Rattle.hostzones.proofs.RuleLemmas.{daylight_read}
+use Rattle.jiff_tz.specs.PosixText.{tz_view}
+use Rattle.hostzones.proofs.zone.HostZone.read.Goals as goal
+
+pub returns-in-None-clause-none : goal.returns-in-None-clause-none
+returns-in-None-clause-none c (Always offset) is = ?
+returns-in-None-clause-none c (ByRule zone) is = c.in-None.ensures.none (tz_view zone.rule) is.1 (zone.standard, daylight_read zone.rule.dst zone.daylight)

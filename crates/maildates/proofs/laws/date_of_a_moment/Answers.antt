@@ -1,0 +1,8 @@
+use Rattle.maildates.proofs.MomentLaws.{one_moment, one_same}
+use Rattle.maildates.proofs.laws.date_of_a_moment.Goals as goal
+
+pub returns-clause-moment : goal.returns-clause-moment
+returns-clause-moment c = one_moment
+
+pub returns-clause-same : goal.returns-clause-same
+returns-clause-same c = one_same

@@ -1,0 +1,17 @@
+-- On what terms a message is delivered: when, and by which script where the account has no active one.
+use Rattle.std.specs.Prelude.{List, ℕ, Option}
+use Rattle.std.specs.Borrow.{Bor}
+use Rattle.mailtables.specs.Cells.{contents}
+use Rattle.sieveexec.specs.declared.when.When.{When}
+
+pub record Terms : Type 0 where
+  pub when : When
+  -- the text of the host's default script, if there is one
+  pub default : Option (List ℕ)
+
+abbrev pub terms : When → Option (List ℕ) → Terms
+terms when default = record { when = when; default = default }
+
+-- of the values that the code has
+abbrev pub terms_of : When → Option (Bor (List ℕ)) → Terms
+terms_of when default = terms when (contents default)
