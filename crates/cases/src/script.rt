@@ -48,7 +48,10 @@ fn try_section(
         "wanted" => try_script(alloc, tally, trial, section),
         "holds" => try_tests(alloc, tally, trial, section, b"discard"),
         "fails" => try_tests(alloc, tally, trial, section, b"file INBOX"),
-        _ => tally.skip(section, &["from", "to", "at", "zone", "script", "message", "mail"]),
+        _ => tally.skip(
+            section,
+            &["from", "to", "at", "zone", "script", "message", "mail"],
+        ),
     }
 }
 

@@ -99,7 +99,7 @@ module _ (zone : ℤ) (passes : DateTime → Bool) (P : DateTime → Type 0) (ea
       let day : date.day < 32 = omega (arith, is.civil.2, most) in
       let second : date.second < 61 = omega (arith, is.second) in
       let here : P (made date.year date.month date.day date.hour date.minute date.second zone) =
-          subst (λ (z : ℤ). P (made date.year date.month date.day date.hour date.minute date.second z)) same holds in
+      subst (λ (z : ℤ). P (made date.year date.month date.day date.hour date.minute date.second z)) same holds in
       (subst (λ (z : ℤ). IsZone z) same is.zone, (date.year, year, (date.month, month, (date.day, day, (is.civil, (date.hour, is.hour, (date.minute, is.minute, (date.second, second, here))))))))
 
   time_decides : (year month day : ℕ) → Decides (some_below 24 (λ hour. some_below 60 (λ minute. some_below 61 (λ second. passes (made year month day hour minute second zone))))) (SomeTime year month day)

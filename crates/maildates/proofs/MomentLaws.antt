@@ -40,7 +40,7 @@ unfolding local_minutes
 one_clock a b ia ib minutes zone second =
     let same = same_day a b ia ib minutes in
     let time = same_time (days_from_civil (pos b.year) b.month b.day) a.hour a.minute b.hour b.minute
-        (ap (λ (d : ℤ). (d *ℤ pos 1440) +ℤ pos (a.hour * 60 + a.minute)) (sym same.3) ∙ minutes) ia.minute ib.minute in
+    (ap (λ (d : ℤ). (d *ℤ pos 1440) +ℤ pos (a.hour * 60 + a.minute)) (sym same.3) ∙ minutes) ia.minute ib.minute in
     λ i. record { year = same.0 i; month = same.1 i; day = same.2 i; hour = time.0 i; minute = time.1 i; second = second i; zone = zone i }
 
 -- the same moment in a zone

@@ -1,7 +1,7 @@
 //! Scripts, each with a message and its envelope, as files have them.
 use casefiles::{Message, Section, decode};
-use octets::Octets;
 use maildates::read_zone;
+use octets::Octets;
 use sieveexec::{Envelope, Mail, When};
 use std::alloc::{AllocError, Global};
 

@@ -81,10 +81,7 @@ pub(crate) fn lists(alloc: Global, args: &[Argument]) -> Result<(Texts, Texts), 
 }
 
 /// One string without brackets, and a list of strings.
-pub(crate) fn text_and_list(
-    alloc: Global,
-    args: &[Argument],
-) -> Result<(Octets, Texts), ReadError>
+pub(crate) fn text_and_list(alloc: Global, args: &[Argument]) -> Result<(Octets, Texts), ReadError>
     ensures found { IfOk result (λ both. text_and_list args.now ≡ Some (both.0, both.1)) }
     ensures fault { IfFault result (text_and_list args.now ≡ None) }
 {

@@ -12,7 +12,9 @@ use crate::parser::argument::Argument;
 use crate::table::keyword::is_name;
 use crate::table::positional::{lists, number, text_and_list, two_texts_and_list};
 use crate::table::tag_group::{TagGroup, TagValue, split_tags};
-use crate::table::tag_values::{given_bound, given_comparator, given_matching, given_part, given_zone};
+use crate::table::tag_values::{
+    given_bound, given_comparator, given_matching, given_part, given_zone,
+};
 use crate::tree::checks::{
     Address, CurrentDate, DateTest, DateZone, EnvelopeParts, EnvelopeTest, Header, Size,
 };
