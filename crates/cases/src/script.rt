@@ -125,7 +125,7 @@ fn answer_on(
     message: &[u8],
 ) -> Result<Octets, AllocError> {
     let envelope = trial.envelope(alloc)?;
-    match attempt(alloc, script, envelope, message) {
+    match attempt(alloc, script, envelope, message, trial.when()) {
         Ok(outcome) => of_outcome(alloc, &outcome),
         Err(ScriptError::Fault(fault)) => of_fault(alloc, fault),
         Err(ScriptError::Memory) => Err(AllocError),
