@@ -64,10 +64,11 @@ def octets_of(message):
             f"{id_line}{message['more']}\r\n{message['text']}\r\n")
 
 
-def deliver(acc, sender, message, moment):
-    """The lines of the report (RFC 5228, 2.10; RFC 5230, 4)."""
+def deliver(acc, sender, message, moment, default):
+    """The lines of the report (RFC 5228, 2.10; RFC 5230, 4); the host's default script decides where none is active."""
     octets = octets_of(message)
-    meaning = SCRIPTS[acc["scripts"][acc["active"]]][1](message) if acc["active"] else (["INBOX"], [], None)
+    script = acc["scripts"][acc["active"]] if acc["active"] else default
+    meaning = SCRIPTS[script][1](message) if script else (["INBOX"], [], None)
     if message["more"].count("Received:") > 100:
         meaning = "more than 100 Received fields"
     if isinstance(meaning, str):
@@ -393,7 +394,7 @@ def chosen_event(rng, streams, clock):
     if dice < 0.90:
         clock[0] += rng.choice([1, 1, 3600, DAY, 2 * DAY, -3600])
         sender = rng.choice(["bob@example.net"] * 6 + ["BOB@example.net", "dana@example.net", "", "owner-x@example.net", user + "@example.org"])
-        return ("deliver", user, sender, chosen_message(rng, user), clock[0])
+        return ("deliver", user, sender, chosen_message(rng, user), clock[0], rng.choice([None, None, "lists", "two", "away", "none", "twice"]))
     if dice < 0.96:
         return chosen_keeping(rng, user, clock[0])
     return ("adduser", user) if dice < 0.985 else ("takeout", user, rng.randrange(1, 6))
@@ -444,7 +445,8 @@ def section(event, state):
     if kind == "deliver":
         lines = f"== from\n{event[2]}\n" if state.get("from") != event[2] else ""
         lines += f"== moment\n{event[4]}\n" if state.get("moment") != event[4] else ""
-        state.update({"from": event[2], "moment": event[4]})
+        lines += ("== default\n" + SCRIPTS[event[5]][0] + "\n" if event[5] else "== default none\n") if state.get("default", "") != event[5] else ""
+        state.update({"from": event[2], "moment": event[4], "default": event[5]})
         return lines + f"== deliver {who}\n{octets_of(event[3]).replace(RECEIVED, '%{Received: x%0A*101}').replace(chr(13), '')}\n"
     if kind in ("password", "address"):
         return f"== {kind} {who}\n{event[2]}\n"

@@ -33,7 +33,7 @@ def encode(octets):
 
 
 class Store:
-    """The store `F` and the Maildir `F.d` in a folder, and the program."""
+    """The store `F`, the Maildir `F.d` and the script `F.s` in a folder, and the program."""
 
     def __init__(self, program, folder):
         self.program, self.path = program, f"{folder}/mail.db"
@@ -41,9 +41,9 @@ class Store:
     def call(self, words, given):
         """Runs a word: its status, and what it wrote on both streams."""
         path = os.fsencode(self.path)
-        words = [re.sub(rb"^F(?=$|\.d$)", lambda _: path, word) for word in words.split(b" ")]
+        words = [re.sub(rb"^F(?=$|\.[ds]$)", lambda _: path, word) for word in words.split(b" ")]
         done = subprocess.run([self.program, *words], input=given, capture_output=True, timeout=60)
-        return done.returncode, done.stdout, done.stderr
+        return done.returncode, done.stdout.replace(path, b"F"), done.stderr.replace(path, b"F")
 
     def run(self, words, given):
         status, said, told = self.call(words, given)
@@ -80,6 +80,11 @@ class Store:
             store.write(octets)
         return b"done"
 
+    def script(self, octets):
+        with open(f"{self.path}.s", "wb") as script:
+            script.write(octets)
+        return b"done"
+
     def laid(self, name):
         if os.path.exists(f"{self.path}-wal"):
             os.remove(f"{self.path}-wal")
@@ -98,7 +103,7 @@ class Store:
             return b"no such file"
 
 
-CALLS = {3: ["run", "locked", "talk", "send"], 2: ["sql", "put", "laid", "made", "file"]}
+CALLS = {3: ["run", "locked", "talk", "send"], 2: ["sql", "put", "script", "laid", "made", "file"]}
 
 
 def answer(store, call, given):

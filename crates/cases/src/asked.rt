@@ -44,7 +44,9 @@ fn add(out: &mut Octets, asked: Subcommand<'_>) -> Result<(), AllocError> {
     match asked {
         Subcommand::Try(asked) => {
             add_text(out, b"try")?;
-            add_envelope(out, asked.from, asked.to)
+            add_envelope(out, asked.from, asked.to)?;
+            add_given(out, "at", asked.at)?;
+            add_given(out, "zone", asked.zone)
         }
         Subcommand::Init(asked) => add_at(out, "init", asked.location, &[]),
         Subcommand::AddUser(asked) => add_at(
@@ -89,7 +91,10 @@ fn add(out: &mut Octets, asked: Subcommand<'_>) -> Result<(), AllocError> {
         Subcommand::Deliver(asked) => {
             add_location(out, "deliver", asked.location)?;
             add_envelope(out, asked.from, asked.to)?;
-            add_texts(out, &[asked.at.unwrap_or("no moment"), asked.user])
+            add_texts(out, &[asked.at.unwrap_or("no moment")])?;
+            add_given(out, "zone", asked.zone)?;
+            add_given(out, "default", asked.default)?;
+            add_texts(out, &[asked.user])
         }
         Subcommand::Folders(asked) => add_folders(out, asked),
         Subcommand::Show(asked) => add_at(
@@ -148,7 +153,9 @@ fn add(out: &mut Octets, asked: Subcommand<'_>) -> Result<(), AllocError> {
                     memory,
                     quiet,
                 ],
-            )
+            )?;
+            add_given(out, "zone", asked.zone)?;
+            add_given(out, "default", asked.default)
         }
         Subcommand::Check(asked) => add_texts(out, &["check", asked.file.unwrap_or("no file")]),
     }
@@ -217,6 +224,14 @@ fn add_texts(out: &mut Octets, texts: &[&str]) -> Result<(), AllocError> {
         add_text(out, text.as_bytes())?;
     }
     Ok(())
+}
+
+/// Appends a value behind its name, where it was given.
+fn add_given(out: &mut Octets, name: &str, value: Option<&str>) -> Result<(), AllocError> {
+    match value {
+        Some(value) => add_texts(out, &[name, value]),
+        None => Ok(()),
+    }
 }
 
 fn add_text(out: &mut Octets, text: &[u8]) -> Result<(), AllocError> {

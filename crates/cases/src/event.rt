@@ -2,7 +2,8 @@
 use base64::engine::general_purpose::STANDARD;
 use casefiles::Part::Text;
 use casefiles::{Section, add_parts, decode, split_at_first, with_ends};
-use mailengine::{Envelope, Event, Upkeep};
+use maildates::read_zone;
+use mailengine::{Envelope, Event, Upkeep, When};
 use octets::{Octets, parse_decimal};
 use std::alloc::{AllocError, Global};
 
@@ -16,17 +17,40 @@ pub struct Post<'a> {
     pub from: &'a str,
     /// When they come, in seconds since 1970-01-01 UTC.
     pub moment: u64,
+    /// The host's zone then, as `+hhmm`.
+    pub zone: &'a str,
+    /// The host's default script, if it has one.
+    pub default: Option<&'a str>,
 }
 
 impl<'a> Post<'a> {
-    /// What holds after a section `from` or `moment`.
+    /// What holds after a section `from`, `moment`, `zone` or `default`; one `default` whose note is `none` says that there is none.
     pub fn after(self, section: &Section<'a>) -> Post<'a> {
         let text = section.text.trim_ascii_end();
-        let (from, moment) = match section.name {
-            "from" => (text, self.moment),
-            _ => (self.from, number(text)),
-        };
-        Post { from, moment }
+        let mut next = self;
+        match section.name {
+            "from" => next.from = text,
+            "zone" => next.zone = text,
+            "default" => next.default = if section.note == "none" { None } else { Some(section.text) },
+            _ => next.moment = number(text),
+        }
+        next
+    }
+}
+
+impl Post<'_> {
+    /// When a message comes, and where; UTC where the file says no zone.
+    fn when(&self) -> When {
+        let zone = read_zone(self.zone.as_bytes()).unwrap_or(0);
+        When::in_zone(self.moment, zone).unwrap_or(When::in_utc(self.moment))
+    }
+
+    /// The text of the host's default script.
+    fn default_text(&self, alloc: Global) -> Result<Option<Octets>, AllocError> {
+        match self.default {
+            Some(text) => Ok(Some(decode(alloc, text)?)),
+            None => Ok(None),
+        }
     }
 }
 
@@ -151,7 +175,8 @@ fn delivery(
         user,
         envelope,
         message,
-        moment: post.moment,
+        when: post.when(),
+        default: post.default_text(alloc)?,
     }))
 }
 

@@ -125,6 +125,7 @@ impl MemoryRuns {
             writes: NEVER,
             clock: CLOCK,
             random: RANDOM,
+            default: None,
             shows_words: false,
         };
         let mut out = Octets::new(alloc);
@@ -155,7 +156,8 @@ fn add_messages(out: &mut Octets, messages: &[KeptMail]) -> Result<(), AllocErro
     Ok(())
 }
 
-/// Appends what comes of a row that any keeper can have: `run`, `full`, `write N`, `timeless` and `said` are runs of the program, `send` is a
+/// Appends what comes of a row that any keeper can have: `run`, `full`, `write N`, `default TEXT`, `timeless` and `said` are runs of the
+/// program, `send` is a
 /// command, and `greet`, `talk`, `gone` and `deaf` are sessions.
 pub fn answer<K: Keeper, T: MailSink>(
     alloc: Global,
@@ -178,6 +180,7 @@ pub fn answer<K: Keeper, T: MailSink>(
                 writes: if call == "full" { 0 } else { NEVER },
                 clock: if call == "timeless" { None } else { CLOCK },
                 random: if call == "timeless" { None } else { RANDOM },
+                default: None,
                 shows_words: call == "said",
             };
             add_run(alloc, out, keeper, sink, run)
@@ -190,6 +193,20 @@ pub fn answer<K: Keeper, T: MailSink>(
                 writes: writes_in(call),
                 clock: CLOCK,
                 random: RANDOM,
+                default: None,
+                shows_words: false,
+            };
+            add_run(alloc, out, keeper, sink, run)
+        }
+        call if call.starts_with("default ") => {
+            let run = Run {
+                path,
+                words,
+                input,
+                writes: NEVER,
+                clock: CLOCK,
+                random: RANDOM,
+                default: call.strip_prefix("default ").map(str::as_bytes),
                 shows_words: false,
             };
             add_run(alloc, out, keeper, sink, run)
@@ -221,6 +238,8 @@ pub struct Run<'a> {
     pub clock: Option<u64>,
     /// What the system gives at random; none where it gives nothing.
     pub random: Option<[u8; 16]>,
+    /// The text of the script for accounts without an active one.
+    pub default: Option<&'a [u8]>,
     /// Whether all is shown of what is told of wrong words.
     pub shows_words: bool,
 }
@@ -246,6 +265,7 @@ pub fn add_run<K: Keeper, T: MailSink>(
         keeper,
         run.clock,
         run.random,
+        run.default,
         sink,
     );
     let told = errors.as_slice();

@@ -58,7 +58,7 @@ impl<'a> Sections<'a> for Talk<'a> {
             "world" => self.renew(alloc),
             "cut" => self.add_cut(alloc, section),
             "scan" => add_scan(alloc, &mut self.told, section),
-            "from" | "moment" => {
+            "from" | "moment" | "zone" | "default" => {
                 self.post = self.post.after(section);
                 Ok(())
             }
@@ -92,6 +92,8 @@ impl<'a> Talk<'a> {
             post: Post {
                 from: "",
                 moment: 0,
+                zone: "+0000",
+                default: None,
             },
         })
     }

@@ -1,7 +1,7 @@
 //! Readers and writers that fail at a call.
 use crate::run::add_left;
 use casefiles::text_in;
-use mailengine::Envelope;
+use mailengine::{Envelope, When};
 use octets::{Octets, parse_decimal};
 use sievedrun::try_script::try_run;
 use std::alloc::{AllocError, Global};
@@ -49,6 +49,7 @@ fn add_tried(
     let status = try_run(
         alloc,
         empty_envelope(alloc),
+        When::in_utc(0),
         &mut input,
         &mut output,
         &mut errors,

@@ -26,7 +26,7 @@ lets_none holds s kept = λ tried are w is. (w, record { strangers = tt; told = 
 
 -- an event of accounts names no session, and leaves all that there are
 stranger : (sessions : Clients) (event : Event) → is_of_accounts event ≡ true → IsOthers sessions event
-stranger sessions (Deliver user envelope message moment) is = tt
+stranger sessions (Deliver user envelope message when default) is = tt
 stranger sessions (AddUser name address salt password) is = tt
 stranger sessions (TakeOut user id) is = tt
 stranger sessions (TakeMail user folder) is = tt
@@ -35,7 +35,7 @@ stranger sessions _ is = let never : ⊥ = cc in absurd never
 
 apart_at : (w next : World) (event : Event) (answer : Answer) → is_of_accounts event ≡ true → Next w event answer next → next.sessions ≡ w.sessions
 apart_at w next event answer is (inr refused) = ap (λ (v : World). v.sessions) refused.stays
-apart_at w next (Deliver user envelope message moment) answer is (inl made) = ap (λ (v : World). v.sessions) made.2
+apart_at w next (Deliver user envelope message when default) answer is (inl made) = ap (λ (v : World). v.sessions) made.2
 apart_at w next (AddUser name address salt password) answer is (inl made) = ap (λ (v : World). v.sessions) made.2
 apart_at w next (TakeOut user id) answer is (inl made) = ap (λ (v : World). v.sessions) made.2
 apart_at w next (TakeMail user folder) answer is (inl made) = ap (λ (v : World). v.sessions) made.2

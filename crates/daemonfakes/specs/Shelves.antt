@@ -49,7 +49,7 @@ LetsMore {S} holds others t after more u later = (s : S) (before : Kept) → Let
 
 -- an event of accounts names no session
 abbrev pub is_of_accounts : Event → Bool
-is_of_accounts (Deliver user envelope message moment) = true
+is_of_accounts (Deliver user envelope message when default) = true
 is_of_accounts (AddUser name address salt password) = true
 is_of_accounts (TakeOut user id) = true
 is_of_accounts (TakeMail user folder) = true

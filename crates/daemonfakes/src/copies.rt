@@ -1,11 +1,13 @@
 //! Copies of events and answers, for a note.
 ghost use Rattle.std.specs.Prelude.{◌≡◌, IfOk, IfSome};
 ghost use Rattle.daemonfakes.specs.Shelves as shelves;
+ghost use Rattle.mailengine.specs.Terms.{terms};
 ghost use Rattle.sieveddaemon.specs.Desk.{delivery_of};
 
 use mailengine::{Answer, Envelope, Event, Report};
 use mailposts::Parcel;
 use octets::Octets;
+use sieveexec::When;
 use std::alloc::{AllocError, Global};
 
 /// The same event, where it is one that the daemon brings; none else.
@@ -21,9 +23,14 @@ pub fn copy_event(event: &Event) -> Option<Event>
     }
 }
 
-/// The event of a message for one recipient, at a moment in seconds since 1970.
-pub fn copy_delivery(alloc: Global, parcel: &Parcel, moment: u64) -> Result<Event, AllocError>
-    ensures { IfOk result (λ event. event ≡ delivery_of parcel.now moment) }
+/// The event of a message for one recipient, by a host with this default script.
+pub fn copy_delivery(
+    alloc: Global,
+    parcel: &Parcel,
+    when: When,
+    default: &Option<Octets>,
+) -> Result<Event, AllocError>
+    ensures { IfOk result (λ event. event ≡ delivery_of parcel.now (terms when default.now)) }
 {
     Ok(Event::Deliver {
         user: parcel.user.try_clone(alloc)?,
@@ -32,7 +39,8 @@ pub fn copy_delivery(alloc: Global, parcel: &Parcel, moment: u64) -> Result<Even
             to: parcel.recipient.try_clone(alloc)?,
         },
         message: parcel.message.try_clone(alloc)?,
-        moment,
+        when,
+        default: copy_text(alloc, default)?,
     })
 }
 

@@ -14,6 +14,7 @@ use mailengine::{Answer, Clients, Event};
 use mailmoves::span_behind;
 use mailposts::Parcel;
 use octets::{List, Octets};
+use sieveexec::When;
 use sieveddaemon::desk::Desk;
 use sieveddaemon::note::Note;
 use std::alloc::Global;
@@ -277,6 +278,8 @@ impl<S: Shelf + Drop> Desk for DeskFake<S> {
 
     ghost clean = { λ _. Unit {0} };
 
+    ghost default = { λ _. None };
+
     fn carry(&mut self, id: u32, clients: &mut Clients, event: &Event) -> Option<Answer> {
         if self.is_away() {
             self.stage.keep(Act::Noted(id, Note::Away));
@@ -305,8 +308,8 @@ impl<S: Shelf + Drop> Desk for DeskFake<S> {
 
     // Where memory is lacking for the event the store is as good as away.
     fn deliver(&mut self, id: u32, clients: &mut Clients, parcel: &Parcel) -> Option<Answer> {
-        let moment = self.stage.fake.moment / 1000;
-        match copy_delivery(self.stage.fake.alloc, parcel, moment) {
+        let when = When::in_utc(self.stage.fake.moment / 1000);
+        match copy_delivery(self.stage.fake.alloc, parcel, when, &None) {
             Ok(event) => self.bring(id, clients, event),
             Err(_) => {
                 self.stage.keep(Act::Noted(id, Note::Away));

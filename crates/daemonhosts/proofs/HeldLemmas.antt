@@ -29,6 +29,7 @@ use Rattle.sieveddaemon.specs.Moves.{HasKept, IsMoved}
 use Rattle.sieveddaemon.proofs.MoveLemmas.{let_none, moved_then}
 use Rattle.sieveddaemon.specs.Desk.{StillShows, IsDone, IsAsked, IsFoundIn, NothingDone, delivery_of}
 use Rattle.daemonhosts.specs.Held.{HasMail, ShowsBy}
+use Rattle.mailengine.specs.Terms.{Terms}
 use Rattle.daemonhosts.specs.declared.held.HeldStore.{HeldStore}
 
 -- tables of ours are tables that `open` takes
@@ -78,30 +79,30 @@ asked_alone shows r q user lookup kept finds = λ tried are w at.
     (w, record { strangers = tt; told = []; theirs = refl; apart = refl; found = seen.0 }, record { shown = seen.1; sessions = at.sessions })
 
 -- a delivery is an event, whatever sessions there are
-delivery_acts : (parcel : Parcel) (moment : ℕ) (user message : List ℕ) (envelope : Envelope) (old new : State) (r : Result Report Refusal)
-    → user ≡ parcel.user → envelope ≡ record { from = parcel.sender; to = parcel.recipient } → message ≡ parcel.message → ActsDelivery user envelope message moment old new r
-    → ActsDelivery parcel.user (record { from = parcel.sender; to = parcel.recipient }) parcel.message moment old new r
-delivery_acts parcel moment user message envelope old new r is_user is_envelope is_message acts =
+delivery_acts : (parcel : Parcel) (terms : Terms) (user message : List ℕ) (envelope : Envelope) (old new : State) (r : Result Report Refusal)
+    → user ≡ parcel.user → envelope ≡ record { from = parcel.sender; to = parcel.recipient } → message ≡ parcel.message → ActsDelivery user envelope message terms old new r
+    → ActsDelivery parcel.user (record { from = parcel.sender; to = parcel.recipient }) parcel.message terms old new r
+delivery_acts parcel terms user message envelope old new r is_user is_envelope is_message acts =
     let own : Envelope = record { from = parcel.sender; to = parcel.recipient } in
-    subst (λ u. ActsDelivery u own parcel.message moment old new r) is_user
-    (subst (λ e. ActsDelivery user e parcel.message moment old new r) is_envelope (subst (λ m. ActsDelivery user envelope m moment old new r) is_message acts))
+    subst (λ u. ActsDelivery u own parcel.message terms old new r) is_user
+    (subst (λ e. ActsDelivery user e parcel.message terms old new r) is_envelope (subst (λ m. ActsDelivery user envelope m terms old new r) is_message acts))
 
-pub delivered_as : (parcel : Parcel) (moment : ℕ) (user message : List ℕ) (envelope : Envelope) (old new : State) (kept : Kept) (r : Result Report Refusal)
-    → user ≡ parcel.user → envelope ≡ record { from = parcel.sender; to = parcel.recipient } → message ≡ parcel.message → ActsDelivery user envelope message moment old new r
-    → IsEvent (delivery_of parcel moment) (answer_by Delivered r) (host old kept) (host new kept)
-delivered_as parcel moment user message envelope old new kept r is_user is_envelope is_message acts =
+pub delivered_as : (parcel : Parcel) (terms : Terms) (user message : List ℕ) (envelope : Envelope) (old new : State) (kept : Kept) (r : Result Report Refusal)
+    → user ≡ parcel.user → envelope ≡ record { from = parcel.sender; to = parcel.recipient } → message ≡ parcel.message → ActsDelivery user envelope message terms old new r
+    → IsEvent (delivery_of parcel terms) (answer_by Delivered r) (host old kept) (host new kept)
+delivered_as parcel terms user message envelope old new kept r is_user is_envelope is_message acts =
     let own : Envelope = record { from = parcel.sender; to = parcel.recipient } in
-    account_event (delivery_of parcel moment) (λ accounts. Delivery accounts parcel.user own parcel.message moment) (MayRefuseDelivery own parcel.message moment) (λ w answer next done. done)
-    (delivery_may parcel.user parcel.message own moment) old new kept Delivered r (delivery_acts parcel moment user message envelope old new r is_user is_envelope is_message acts)
+    account_event (delivery_of parcel terms) (λ accounts. Delivery accounts parcel.user own parcel.message terms) (MayRefuseDelivery own parcel.message terms.when.moment) (λ w answer next done. done)
+    (delivery_may parcel.user parcel.message own terms.when terms.default) old new kept Delivered r (delivery_acts parcel terms user message envelope old new r is_user is_envelope is_message acts)
 
 -- and what a crash leaves of it
-pub delivered_crash : (parcel : Parcel) (moment : ℕ) (user message : List ℕ) (envelope : Envelope) (old new : State) (kept : Kept) (r : Result Report Refusal)
-    → user ≡ parcel.user → envelope ≡ record { from = parcel.sender; to = parcel.recipient } → message ≡ parcel.message → ActsDelivery user envelope message moment old new r
-    → SurvivesEvent (delivery_of parcel moment) (host old kept) (host new kept)
-delivered_crash parcel moment user message envelope old new kept r is_user is_envelope is_message acts =
+pub delivered_crash : (parcel : Parcel) (terms : Terms) (user message : List ℕ) (envelope : Envelope) (old new : State) (kept : Kept) (r : Result Report Refusal)
+    → user ≡ parcel.user → envelope ≡ record { from = parcel.sender; to = parcel.recipient } → message ≡ parcel.message → ActsDelivery user envelope message terms old new r
+    → SurvivesEvent (delivery_of parcel terms) (host old kept) (host new kept)
+delivered_crash parcel terms user message envelope old new kept r is_user is_envelope is_message acts =
     let own : Envelope = record { from = parcel.sender; to = parcel.recipient } in
-    account_crash (delivery_of parcel moment) (λ accounts. Delivery accounts parcel.user own parcel.message moment) (MayRefuseDelivery own parcel.message moment) (λ w answer next done. done)
-    (delivery_may parcel.user parcel.message own moment) old new kept r (answer_by Delivered r) (delivery_acts parcel moment user message envelope old new r is_user is_envelope is_message acts)
+    account_crash (delivery_of parcel terms) (λ accounts. Delivery accounts parcel.user own parcel.message terms) (MayRefuseDelivery own parcel.message terms.when.moment) (λ w answer next done. done)
+    (delivery_may parcel.user parcel.message own terms.when terms.default) old new kept r (answer_by Delivered r) (delivery_acts parcel terms user message envelope old new r is_user is_envelope is_message acts)
 
 -- what a sink keeps, as the daemon sees it
 pub has_kept : {K S T : Type 0} (tells : Bool) (kept : T → List KeptMail) (r q : HeldStore K T S) (m : Moving) → KeepsIt tells (kept r.sink) (kept q.sink) m → HasKept (HasMail tells kept) m r q

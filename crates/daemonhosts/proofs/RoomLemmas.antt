@@ -16,6 +16,8 @@ use Rattle.mailengine.specs.declared.event.Event.TheVariants.{Deliver}
 use Rattle.mailmoves.specs.Enduring.{AreTried, refused_of}
 use Rattle.mailposts.specs.declared.demand.Parcel.{Parcel}
 use Rattle.sieveddaemon.specs.Desk.{IsDone, delivery_of}
+use Rattle.sieveexec.specs.declared.when.When.{When}
+use Rattle.mailengine.specs.Terms.{Terms, terms}
 use Rattle.daemonhosts.specs.Held.{IsToldAs}
 
 -- no cause that is seen is the store's
@@ -42,8 +44,8 @@ absence_seen (Some a) = by_removed (is_removed a)
     by_removed true = refl
     by_removed false = refl
 
-module _ (accounts later : Accounts) (user : List ℕ) (moment : ℕ) (envelope : Envelope) (message : List ℕ) {C : Type 0} where
-  never_in : (o : Option Account) → DeliversIn accounts user moment envelope message o (Refused Store) later → C
+module _ (accounts later : Accounts) (user : List ℕ) (terms : Terms) (envelope : Envelope) (message : List ℕ) {C : Type 0} where
+  never_in : (o : Option Account) → DeliversIn accounts user terms envelope message o (Refused Store) later → C
   never_in None it = of_store (absence (get accounts user)) (absence_seen (get accounts user)) it.refused
   never_in (Some a) it = let is = it.reported in let no : ⊥ = cc in absurd no
 
@@ -51,20 +53,20 @@ module _ (accounts later : Accounts) (user : List ℕ) (moment : ℕ) (envelope 
   never_under None seen it = never_in (open_of accounts user) it
   never_under (Some e) seen it = of_store e (seen e refl) it.refused
 
-lacks_next : (w next : World) (user : List ℕ) (moment : ℕ) (envelope : Envelope) (message : List ℕ) → Next w (Deliver user envelope message moment) (Refused Store) next → Next w (Deliver user envelope message moment) (Refused Memory) next
-lacks_next w next user moment envelope message (inl made) = never_under w.accounts made.0 user moment envelope message (limit_refusal envelope message moment) (limit_seen envelope message moment) made.1
-lacks_next w next user moment envelope message (inr refused) =
+lacks_next : (w next : World) (user : List ℕ) (when : When) (default : Option (List ℕ)) (envelope : Envelope) (message : List ℕ) → Next w (Deliver user envelope message when default) (Refused Store) next → Next w (Deliver user envelope message when default) (Refused Memory) next
+lacks_next w next user when default envelope message (inl made) = never_under w.accounts made.0 user (terms when default) envelope message (limit_refusal envelope message when.moment) (limit_seen envelope message when.moment) made.1
+lacks_next w next user when default envelope message (inr refused) =
     let same : refused.refusal ≡ Store = let is = refused.refused in cc in
-    inr (record { refusal = Memory; may = subst (λ r. MayRefuse w (Deliver user envelope message moment) r) same refused.may; refused = refl; stays = refused.stays })
+    inr (record { refusal = Memory; may = subst (λ r. MayRefuse w (Deliver user envelope message when default) r) same refused.may; refused = refl; stays = refused.stays })
 
 -- so what is told of it is an answer to the same event
-pub told_done : {R : Type 0} (shows : List Event → R → Accounts → Type 0) (parcel : Parcel) (moment : ℕ) (answer told : Answer) (r q : R) (kept : Kept) → IsToldAs answer told
-    → IsDone shows [] (delivery_of parcel moment) answer r kept q kept → IsDone shows [] (delivery_of parcel moment) told r kept q kept
-told_done shows parcel moment answer told r q kept (inl same) done = subst (λ a. IsDone shows [] (delivery_of parcel moment) a r kept q kept) (sym same) done
-told_done shows parcel moment answer told r q kept (inr (was, is)) done =
-    subst (λ a. IsDone shows [] (delivery_of parcel moment) a r kept q kept) (sym is) (λ tried are w at.
-    let it = done tried (subst (λ a. AreTried tried (refused_of (delivery_of parcel moment) a)) (sym was) are) w at in
-    let ours = subst (λ a. Next it.1.between (delivery_of parcel moment) a it.0) was it.1.ours in
+pub told_done : {R : Type 0} (shows : List Event → R → Accounts → Type 0) (parcel : Parcel) (terms : Terms) (answer told : Answer) (r q : R) (kept : Kept) → IsToldAs answer told
+    → IsDone shows [] (delivery_of parcel terms) answer r kept q kept → IsDone shows [] (delivery_of parcel terms) told r kept q kept
+told_done shows parcel terms answer told r q kept (inl same) done = subst (λ a. IsDone shows [] (delivery_of parcel terms) a r kept q kept) (sym same) done
+told_done shows parcel terms answer told r q kept (inr (was, is)) done =
+    subst (λ a. IsDone shows [] (delivery_of parcel terms) a r kept q kept) (sym is) (λ tried are w at.
+    let it = done tried (subst (λ a. AreTried tried (refused_of (delivery_of parcel terms) a)) (sym was) are) w at in
+    let ours = subst (λ a. Next it.1.between (delivery_of parcel terms) a it.0) was it.1.ours in
     let own : Envelope = record { from = parcel.sender; to = parcel.recipient } in (
       it.0,
       record {
@@ -73,7 +75,7 @@ told_done shows parcel moment answer told r q kept (inr (was, is)) done =
         between = it.1.between;
         theirs = it.1.theirs;
         apart = it.1.apart;
-        ours = lacks_next it.1.between it.0 parcel.user moment own parcel.message ours;
+        ours = lacks_next it.1.between it.0 parcel.user terms.when terms.default own parcel.message ours;
       },
       it.2,
     ))

@@ -2,6 +2,7 @@
 ghost use Rattle.std.specs.Prelude.{◌≡◌, None, IsTrue, IfErr, IfOk, IfSome, OnOk, is_some};
 ghost use Rattle.mailposts.specs.Posts.{IsFound};
 ghost use Rattle.mailengine.specs.Hosts.{IsGivenUp, Kept};
+ghost use Rattle.mailengine.specs.Terms.{terms_of};
 ghost use Rattle.sieveddaemon.specs.Desk.{delivery_of};
 ghost use Rattle.daemonhosts.specs.Held.{IsClean, StillShown, Brings, DeniesAtOnce, GivesAtOnce, Goes, HasMail, Seeks};
 ghost use Rattle.sieveddaemon.specs.Moves.{HasKept};
@@ -14,6 +15,7 @@ use mailposts::Parcel;
 use mailsinks::MailSink;
 use mailstore::Store;
 use sieveddaemon::account::find_account;
+use sieveexec::When;
 use sqlite::ErrorCode;
 use std::alloc::{AllocError, Global};
 use std::io::ErrorKind;
@@ -125,10 +127,16 @@ impl<K: Keeper + Drop, T: MailSink + Drop> HeldStore<K, T> {
         Some(find_account(store, user))
     }
 
-    /// Delivers a message for one recipient, at a moment in seconds since 1970, and answers that as an event; no copy is made of
+    /// Delivers a message for one recipient, by a host with this default script, and answers that as an event; no copy is made of
     /// the message. None where the store isn't had, or memory is lacking for the envelope.
-    pub fn deliver(&mut self, alloc: Global, parcel: &Parcel, moment: u64) -> Option<Answer>
-        ensures { (kept : Kept) → Brings K.S.Store K.tells K.holds (delivery_of parcel.now moment) result self.old kept self.new kept }
+    pub fn deliver(
+        &mut self,
+        alloc: Global,
+        parcel: &Parcel,
+        when: When,
+        default: Option<&[u8]>,
+    ) -> Option<Answer>
+        ensures { (kept : Kept) → Brings K.S.Store K.tells K.holds (delivery_of parcel.now (terms_of when default.entry)) result self.old kept self.new kept }
     {
         let Ok(envelope) = envelope_of(alloc, parcel) else {
             return None;
@@ -137,7 +145,7 @@ impl<K: Keeper + Drop, T: MailSink + Drop> HeldStore<K, T> {
             return None;
         };
         let (user, message) = (parcel.user.as_slice(), parcel.message.as_slice());
-        match deliver(alloc, store, user, envelope, message, moment) {
+        match deliver(alloc, store, user, envelope, message, when, default) {
             Ok(report) => Some(Answer::Delivered(report)),
             Err(refusal) => Some(Answer::Refused(refusal)),
         }

@@ -2,6 +2,9 @@
 ghost use Rattle.std.specs.Prelude.{◌≡◌, ℕ, [], ◌∷◌, ◌++◌, false, IsTrue, IfSome};
 ghost use Rattle.mailposts.specs.Posts.{IsFound};
 ghost use Rattle.mailengine.specs.Hosts.{IsGivenUp, Kept};
+ghost use Rattle.mailengine.specs.Terms.{terms};
+ghost use Rattle.mailstore.specs.Cells.{contents};
+ghost use Rattle.sieveexec.specs.declared.when.When.{When};
 ghost use Rattle.sieveddaemon.specs.Desk.{delivery_of};
 ghost use Rattle.wires.specs.Told.{IsOwn};
 ghost use Rattle.daemonhosts.specs.Held.{Shows, IsClean, StillShown, Brings, Goes, HasMail, IsToldAs, Seeks};
@@ -10,14 +13,17 @@ ghost use Rattle.sieveddaemon.specs.Moves.{HasKept};
 use crate::held::HeldStore;
 use crate::news::News;
 use crate::queue::Queue;
+use hostzones::HostZone;
 use keepers::{Keeper, Unavailable};
 use lmtp::Lookup;
 use mailengine::{Answer, Clients, Event, Refusal};
 use mailmoves::{Moving, Route, span_behind};
 use mailposts::Parcel;
 use mailsinks::MailSink;
+use octets::Octets;
 use sieveddaemon::desk::Desk;
 use sieveddaemon::note::Note;
+use sieveexec::When;
 use sievedrun::trouble::Trouble;
 use sqlite::ErrorCode;
 use std::alloc::Global;
@@ -46,6 +52,10 @@ pub struct Host<'a, N: Net + time::Clock, E: Write + Drop, K: Keeper + Drop, T: 
     /// Where mail moves on to, where it does.
     route: Option<Route>,
     path: &'a str,
+    /// The zone in which mail is delivered.
+    zone: HostZone,
+    /// The text of the script for accounts without an active one.
+    default: Option<Octets>,
     /// Which connections wait for the store.
     queue: Queue,
     /// The moment at which nobody waited for it, where it was last looked.
@@ -60,8 +70,9 @@ impl<'a, N: Net + time::Clock, E: Write + Drop, K: Keeper + Drop, T: MailSink + 
     K,
     T,
 > {
-    /// The store isn't had yet. What goes wrong with it is told on the errors, and what becomes of messages; unless it is `quiet`
-    /// of those that were delivered too.
+    /// The store isn't had yet. Mail is delivered in the zone, and by the script `default` to an account without an active one. What
+    /// goes wrong with the store is told on the errors, and what becomes of messages; unless it is `quiet` of those that were
+    /// delivered too.
     pub fn new(
         alloc: Global,
         system: &'a N,
@@ -70,6 +81,8 @@ impl<'a, N: Net + time::Clock, E: Write + Drop, K: Keeper + Drop, T: MailSink + 
         sink: T,
         route: Option<Route>,
         path: &'a str,
+        zone: HostZone,
+        default: Option<Octets>,
         quiet: bool,
         errors: E,
     ) -> Host<'a, N, E, K, T> {
@@ -81,6 +94,8 @@ impl<'a, N: Net + time::Clock, E: Write + Drop, K: Keeper + Drop, T: MailSink + 
             held: HeldStore::new(keeper, sink),
             route,
             path,
+            zone,
+            default,
             queue: Queue::new(alloc),
             looked: None,
             news: News::new(alloc, errors, quiet),
@@ -100,6 +115,7 @@ impl<'a, N: Net + time::Clock, E: Write + Drop, K: Keeper + Drop, T: MailSink + 
     /// Whether the store may be asked now for a connection: it is its turn, the store didn't fail, and nobody waits for it.
     fn may_ask(&mut self, id: u32) -> bool
         ensures shown { StillShown K.S.Store K.tells K.holds self.old.held self.new.held }
+        ensures default { self.new.default ≡ self.old.default }
     {
         self.queue.comes_next(id) && !self.news.has_failed() && !self.is_awaited()
     }
@@ -108,6 +124,7 @@ impl<'a, N: Net + time::Clock, E: Write + Drop, K: Keeper + Drop, T: MailSink + 
     fn is_awaited(&mut self) -> bool
         ensures shown { StillShown K.S.Store K.tells K.holds self.old.held self.new.held }
         ensures sink { self.new.held.sink ≡ self.old.held.sink }
+        ensures default { self.new.default ≡ self.old.default }
     {
         let now = self.sockets.now();
         if self.held.is_had() && self.looked == Some(now) {
@@ -150,15 +167,19 @@ impl<'a, N: Net + time::Clock, E: Write + Drop, K: Keeper + Drop, T: MailSink + 
 
     /// Delivers a message at the moment that the clock shows, where the store may be asked and is to be had.
     fn file(&mut self, id: u32, parcel: &Parcel) -> Option<Answer>
-        ensures { (moment : ℕ) × ((kept : Kept) → Brings K.S.Store K.tells K.holds (delivery_of parcel.now moment) result self.old.held kept self.new.held kept) }
+        ensures { (when : When) × ((kept : Kept) → Brings K.S.Store K.tells K.holds (delivery_of parcel.now (terms when self.old.default)) result
+            self.old.held kept self.new.held kept) }
     {
         if !self.may_ask(id) {
             return None;
         }
         let begun = start(self.system);
         self.reach();
-        let moment = seconds(self.system);
-        match self.held.deliver(self.alloc, parcel, moment) {
+        let when = when_in(self.system, &self.zone);
+        match self
+            .held
+            .deliver(self.alloc, parcel, when, slice_of(&self.default))
+        {
             Some(answer) => {
                 let code = self.held.code();
                 self.news.note_delivery(parcel, &answer, code);
@@ -208,6 +229,7 @@ impl<'a, N: Net + time::Clock, E: Write + Drop, K: Keeper + Drop, T: MailSink + 
     fn reach(&mut self)
         ensures shown { StillShown K.S.Store K.tells K.holds self.old.held self.new.held }
         ensures sink { self.new.held.sink ≡ self.old.held.sink }
+        ensures default { self.new.default ≡ self.old.default }
     {
         if self.held.is_had() || self.news.lasts(self.sockets.now()) {
             return;
@@ -268,6 +290,25 @@ fn note_time<C: time::Clock, E: Write + Drop>(
 fn micros_since<C: time::Clock>(clock: &C, begun: Option<Instant>) -> Option<u64> {
     let passed = begun?.elapsed(clock).ok()?;
     Some(passed.as_secs().min(3600) * 1000000 + passed.subsec_micros() as u64)
+}
+
+/// When it is now, by the clock of a zone.
+fn when_in<C: time::Clock>(clock: &C, zone: &HostZone) -> When {
+    let moment = seconds(clock);
+    When {
+        moment,
+        zone: zone.at(moment),
+    }
+}
+
+/// The text's octets, if there is one.
+fn slice_of(text: &Option<Octets>) -> Option<&[u8]>
+    ensures { contents result ≡ text.now }
+{
+    match text {
+        Some(text) => Some(text.as_slice()),
+        None => None,
+    }
 }
 
 /// The seconds since 1970; where the clock can't be read, a moment at which nothing is delivered.
@@ -372,6 +413,8 @@ impl<N: Net + time::Clock, E: Write + Drop, K: Keeper + Drop, T: MailSink + Drop
     ghost leaves = { Leaves K.S.Store };
 
     ghost clean = { IsClean K.S.Store K.tells };
+
+    ghost default = { λ host. host.default };
 
     fn carry(&mut self, id: u32, clients: &mut Clients, event: &Event) -> Option<Answer> {
         match self.ask(id, clients, event) {

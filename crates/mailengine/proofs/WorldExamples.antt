@@ -22,6 +22,7 @@ use Rattle.sessions.specs.declared.progress.Progress.TheVariants as p
 use Rattle.mailengine.specs.declared.event.Event.TheVariants.{Open, Give, Step, GiveUp, Close, Deliver, AddUser, TakeOut}
 use Rattle.mailengine.specs.declared.answer.Answer.{Answer}
 use Rattle.mailengine.specs.declared.answer.Answer.TheVariants.{Out, Ignored, Taken, Refused}
+use Rattle.mailengine.specs.Limits.{limit_refusal}
 use Rattle.mailengine.specs.AccountEvents.{TakesIn}
 use Rattle.mailengine.specs.World.{World, Clients, with_session, without_session, Becomes, Opens, InSession, Steps, Happens, if_open, MayRefuse, IsRefused, Next, Runs}
 use Rattle.mailengine.specs.Hosts.{HasClients, MayRefuseDelivery, RefusesTaking, answer_by}

@@ -26,7 +26,7 @@ pub use machine::{World, apply, apply_free};
 pub use mailstore::{Kind, Outgoing, Plan, Refusal, Report, VacationReport};
 pub use replay::{Ran, run};
 pub use sessions::Progress;
-pub use sieveexec::{Envelope, Failure, Outcome};
+pub use sieveexec::{Envelope, Failure, Outcome, When};
 pub use taking::{take_mail, take_out};
 pub use upkeep::{Upkeep, keep};
 pub use user::add_user;

@@ -18,6 +18,7 @@ use Rattle.mailengine.specs.declared.answer.Answer.TheVariants.{Delivered, Added
 use Rattle.mailengine.specs.declared.event.Event.{Event}
 use Rattle.mailengine.specs.declared.event.Event.TheVariants.{Open, Give, Step, GiveUp, Close, Deliver, AddUser, TakeOut, TakeMail, Keep}
 use Rattle.mailengine.specs.declared.upkeep.Upkeep.{Upkeep}
+use Rattle.mailengine.specs.Terms.{Terms, terms}
 use Rattle.mailengine.specs.declared.upkeep.Upkeep.TheVariants.{SetPassword, SetAddress, StoreScript, CloseAccount, OpenAccount, RemoveAccount, TakeNotices}
 
 either : {P A B C : Type 0} → (A → C) → (B → C) → Where P A B → C
@@ -59,13 +60,13 @@ module _ (refusal : Refusal) (answer : Answer) (is : answer ≡ Refused refusal)
   -- ---- other events of accounts
 
   module _ (accounts later : Accounts) where
-    delivers_in : (user : List ℕ) (moment : ℕ) (envelope : Envelope) (message : List ℕ) (o : Option Account) → DeliversIn accounts user moment envelope message o answer later → later ≡ accounts
-    delivers_in user moment envelope message None it = it.stays
-    delivers_in user moment envelope message (Some a) it = never (Delivered it.report) tt it.reported
+    delivers_in : (user : List ℕ) (terms : Terms) (envelope : Envelope) (message : List ℕ) (o : Option Account) → DeliversIn accounts user terms envelope message o answer later → later ≡ accounts
+    delivers_in user terms envelope message None it = it.stays
+    delivers_in user terms envelope message (Some a) it = never (Delivered it.report) tt it.reported
 
-    delivers : (user : List ℕ) (moment : ℕ) (envelope : Envelope) (message : List ℕ) (limit : Option Refusal) → DeliversUnder limit accounts user moment envelope message answer later → later ≡ accounts
-    delivers user moment envelope message (Some refusal) it = it.stays
-    delivers user moment envelope message None it = delivers_in user moment envelope message (open_of accounts user) it
+    delivers : (user : List ℕ) (terms : Terms) (envelope : Envelope) (message : List ℕ) (limit : Option Refusal) → DeliversUnder limit accounts user terms envelope message answer later → later ≡ accounts
+    delivers user terms envelope message (Some refusal) it = it.stays
+    delivers user terms envelope message None it = delivers_in user terms envelope message (open_of accounts user) it
 
     adds_over : (name address salt password : List ℕ) (a : Account) → AddsOver accounts name address salt password a answer later → later ≡ accounts
     adds_over name address salt password a = by_bool (is_closed a) (by_bool (has_mail a) (λ it. it.stays) (λ it. never Added tt it.added)) (λ it. it.stays)
@@ -119,7 +120,7 @@ module _ (refusal : Refusal) (answer : Answer) (is : answer ≡ Refused refusal)
     happens (Step s) it = in_session (get w.sessions s) (Steps w s) (λ c. steps s c) it
     happens (GiveUp s) it = in_session (get w.sessions s) _ (λ c. becomes _ _ refl) it
     happens (Close s) it = in_session (get w.sessions s) _ (λ c. becomes _ _ refl) it
-    happens (Deliver user envelope message moment) it = with_later it.0 (delivers w.accounts it.0 user moment envelope message (limit_refusal envelope message moment) it.1) it.2
+    happens (Deliver user envelope message when default) it = with_later it.0 (delivers w.accounts it.0 user (terms when default) envelope message (limit_refusal envelope message when.moment) it.1) it.2
     happens (AddUser name address salt password) it = with_later it.0 (either (adds_under w.accounts it.0 name address salt password (get w.accounts name)) (λ refused. refused.stays) it.1) it.2
     happens (TakeOut user id) it = with_later it.0 (takes_in w.accounts it.0 user id (open_of w.accounts user) it.1) it.2
     happens (TakeMail user folder) it = with_later it.0 (takes_mail w.accounts it.0 user folder (open_of w.accounts user) it.1) it.2

@@ -1,6 +1,6 @@
 //! What changes the accounts, as events over a store.
 use crate::base::{COPIES_FOURTH, COPIES_LAST, CURRENT};
-use mailengine::{Envelope, Event};
+use mailengine::{Envelope, Event, When};
 use octets::Octets;
 use std::alloc::{AllocError, Global};
 
@@ -170,7 +170,8 @@ fn delivery(alloc: Global, message: &[u8]) -> Result<Event, AllocError> {
         user,
         envelope,
         message,
-        moment: MOMENT,
+        when: When::in_utc(MOMENT),
+        default: None,
     })
 }
 

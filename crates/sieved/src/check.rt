@@ -10,7 +10,7 @@ use std::io;
 use std::io::{ErrorKind, Read, Write};
 
 /// So many octets of a file are read at most: with that many it is longer than a script may be.
-const MOST: usize = MAX_SCRIPT + 1;
+pub const MOST: usize = MAX_SCRIPT + 1;
 
 /// The status where a file can't be read (`EX_TEMPFAIL` of sysexits.h).
 const UNREAD: u8 = 75;
@@ -68,7 +68,7 @@ fn check_file<F: Files, W: Write, E: Write>(
 }
 
 /// Reads a file, as far as there is room for it: how many octets came.
-fn read_front<F: Files>(system: &F, path: &str, room: &mut [u8]) -> io::Result<usize> {
+pub fn read_front<F: Files>(system: &F, path: &str, room: &mut [u8]) -> io::Result<usize> {
     let mut file = File::open(system, path)?;
     let mut filled = 0;
     for _ in 0..u32::MAX {
@@ -86,7 +86,7 @@ fn read_front<F: Files>(system: &F, path: &str, room: &mut [u8]) -> io::Result<u
 }
 
 /// Tells why a file can't be read, and answers the exit status.
-fn tell_unread<E: Write>(errors: &mut E, path: &str, kind: ErrorKind) -> u8 {
+pub fn tell_unread<E: Write>(errors: &mut E, path: &str, kind: ErrorKind) -> u8 {
     let _ = errors.write_all(path.as_bytes());
     let _ = errors.write_all(b": ");
     let _ = errors.write_all(cause_of(kind).as_bytes());

@@ -1,4 +1,5 @@
 //! Many clients at once.
+use crate::default_script::read_default;
 use crate::listening::{Asked, Listening, Mail, listen, read_asked, trouble_of_socket};
 use daemonhosts::host::Host;
 use keepers::Keeper;
@@ -44,6 +45,10 @@ pub fn serve_many<
         Ok(asked) => asked,
         Err(fault) => return refuse(&mut errors, trouble_of(fault)),
     };
+    let default = match read_default(system, alloc, words.default, output, &mut errors) {
+        Ok(default) => default,
+        Err(status) => return status,
+    };
     let listening = match begin(
         system,
         alloc,
@@ -71,6 +76,8 @@ pub fn serve_many<
                 sink,
                 route,
                 words.path,
+                asked.zone,
+                default,
                 words.quiet,
                 errors,
             );

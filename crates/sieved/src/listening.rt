@@ -1,4 +1,5 @@
 //! Where the daemon's clients come in.
+use hostzones::HostZone;
 use keepers::cause::of_socket;
 use lmtp::Names;
 use maildirs::Separator;
@@ -6,7 +7,7 @@ use mio::net::TcpListener;
 use octets::{Octets, is_printable};
 use sievedrun::fault::Fault;
 use sievedrun::trouble::Trouble;
-use sievedrun::values::{mebibytes_of, port_of, separator_of};
+use sievedrun::values::{mebibytes_of, port_of, separator_of, zone_of};
 use sievedwords::Daemon;
 use std::alloc::{AllocError, Global};
 use std::fs::Files;
@@ -50,6 +51,8 @@ pub struct Asked<'a> {
     pub lmtp: Option<Door<'a>>,
     pub names: Names,
     pub mail: Option<Mail<'a>>,
+    /// The zone in which mail is delivered.
+    pub zone: HostZone,
     /// The name with which clients of LMTP are greeted.
     pub host: &'a str,
     /// How much all connections may hold, in KiB.
@@ -74,6 +77,7 @@ pub fn read_asked(words: Daemon<'_>) -> Result<Asked<'_>, Fault> {
         lmtp: words.lmtp.map(door_of),
         names: names_of(words.names)?,
         mail: mail_of(words)?,
+        zone: zone_of(words.zone)?,
         host: host_of(words.host)?,
         memory: memory_of(words.memory)?,
     })

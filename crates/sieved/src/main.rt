@@ -4,6 +4,7 @@
 
 mod check;
 mod daemon;
+mod default_script;
 mod listener;
 mod listening;
 mod run_file;
@@ -13,6 +14,7 @@ mod wall_clock;
 use check::check;
 use clap::error::ErrorKind;
 use daemon::serve_many;
+use default_script::read_default;
 use keepers::{FileKeeper, Keeper};
 use listener::serve;
 use mailsinks::{MailSink, Maildir};
@@ -108,17 +110,28 @@ where
             net, alloc, asked, moment.pid, &*input, output, errors, keeper, sink,
         ),
         Ok(Some(Subcommand::Check(_))) => { check(net, alloc, words, input, output, &mut errors) }
-        _ => drive(
-            alloc,
-            words,
-            input,
-            output,
-            &mut errors,
-            &mut keeper,
-            moment.clock,
-            moment.random,
-            &mut sink,
-        ),
+        asked => {
+            let path = match &asked {
+                Ok(Some(Subcommand::Deliver(asked))) => asked.default,
+                _ => None,
+            };
+            let default = match read_default(net, alloc, path, output, &mut errors) {
+                Ok(default) => default,
+                Err(status) => return status,
+            };
+            drive(
+                alloc,
+                words,
+                input,
+                output,
+                &mut errors,
+                &mut keeper,
+                moment.clock,
+                moment.random,
+                default.as_ref().map(Octets::as_slice),
+                &mut sink,
+            )
+        }
     }
 }
 
@@ -134,14 +147,14 @@ fn sending<'a>(alloc: Global, words: &'a CommandLine) -> Result<Option<Send<'a>>
     }
 }
 
-/// What the words ask for, where the first is `serve`, `session`, `daemon` or `check` and the others are right.
+/// What the words ask for, where the first is `serve`, `session`, `daemon`, `check` or `deliver` and the others are right.
 fn server_subcommand<'a>(
     alloc: Global,
     words: &'a CommandLine,
 ) -> Result<Option<Subcommand<'a>>, AllocError> {
     if !matches!(
         words.first(),
-        Some("serve" | "session" | "daemon" | "check")
+        Some("serve" | "session" | "daemon" | "check" | "deliver")
     ) {
         return Ok(None);
     }

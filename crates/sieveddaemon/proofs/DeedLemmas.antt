@@ -1,5 +1,5 @@
 -- One step of a client of LMTP, put together from what is told and known.
-use Rattle.std.proofs.Common.{◌≡◌, ◌≤◌, ℕ, Bool, true, false, List, Some, None, IsTrue, inl, inr, refl, sym, ◌∙◌, ap, subst, arith}
+use Rattle.std.proofs.Common.{◌≡◌, ◌≤◌, ℕ, Bool, true, false, List, Option, Some, None, IsTrue, inl, inr, refl, sym, ◌∙◌, ap, subst, arith}
 use Rattle.lmtp.specs.Receivers.{held_by}
 use Rattle.lmtp.specs.declared.receiver.Lookup.{Lookup}
 use Rattle.mailstore.specs.Account.{Accounts}
@@ -22,6 +22,7 @@ use Rattle.sieveddaemon.specs.Desk.{LooksUp, Delivers, StillShowsIf, delivery_of
 use Rattle.sieveddaemon.specs.declared.daemon.Daemon.{Daemon}
 use Rattle.sieveddaemon.specs.declared.daemon.Holding.{Holding}
 use Rattle.sieveddaemon.specs.declared.note.Note.{Note}
+use Rattle.mailengine.specs.Terms.{terms}
 use Rattle.sieveddaemon.specs.declared.note.Note.TheVariants as note
 
 -- a deed behind what keeps the connection as it is
@@ -98,16 +99,16 @@ module _ {O R : Type 0} (tells : O → Bool) (seen : O → List (Act Note)) (res
     record { deed = Away; is = refl; does = does; spare = λ size. other_deed room size Away refl; held = less; stores = looks.0 (sure p tell); places = refl; holding = refl },
   )
 
-  pub brought : (parcel : Parcel) (answer : Answer) (became : Became) → Delivers tells seen rest shows clean id parcel o d.clients.sessions (Some answer) p c.sessions → IsBecame parcel.sender answer became
+  pub brought : (default : O → Option (List ℕ)) (parcel : Parcel) (answer : Answer) (became : Became) → Delivers tells seen rest shows clean default id parcel o d.clients.sessions (Some answer) p c.sessions → IsBecame parcel.sender answer became
       → Does now (Brought parcel became) said before after → (h : Holding) → h ≡ asked_at now d.holding → One (record d { clients = c; holding = h })
-  brought parcel answer became delivers is does h had = λ tell. (
-    note.Did delivers.1.0 (delivery_of parcel delivers.0) answer,
+  brought default parcel answer became delivers is does h had = λ tell. (
+    note.Did delivers.1.0 (delivery_of parcel (terms delivers.0 (default o))) answer,
     delivers.1.2 tell,
-    record { deed = Brought parcel became; is = (parcel, delivers.0, became, refl, is, refl); does = does; spare = λ size. other_deed room size (Brought parcel became) refl; held = less; stores = delivers.1.1 (sure p tell); places = refl; holding = had },
+    record { deed = Brought parcel became; is = (parcel, terms delivers.0 (default o), became, refl, is, refl); does = does; spare = λ size. other_deed room size (Brought parcel became) refl; held = less; stores = delivers.1.1 (sure p tell); places = refl; holding = had },
   )
 
-  pub unbrought : (parcel : Parcel) → Delivers tells seen rest shows clean id parcel o d.clients.sessions None p c.sessions → Does now Away said before after → One (record d { clients = c })
-  unbrought parcel delivers does = λ tell. (
+  pub unbrought : (default : O → Option (List ℕ)) (parcel : Parcel) → Delivers tells seen rest shows clean default id parcel o d.clients.sessions None p c.sessions → Does now Away said before after → One (record d { clients = c })
+  unbrought default parcel delivers does = λ tell. (
     note.Away,
     delivers.1.1 tell,
     record { deed = Away; is = refl; does = does; spare = λ size. other_deed room size Away refl; held = less; stores = delivers.1.0 (sure p tell); places = refl; holding = refl },

@@ -55,7 +55,7 @@ away_is = refl
 
 -- near misses: the step of a session is no deed for a client of LMTP, nor is an event that asks no store
 not_a_step : (told : Answer) (deed : Deed) → IsDeed (note.Did [] (Step 1) told) deed → ⊥
-not_a_step told deed is = let never : Step 1 ≡ Deliver is.0.user (record { from = is.0.sender; to = is.0.recipient }) is.0.message is.1 = is.3 in cc
+not_a_step told deed is = let never : Step 1 ≡ Deliver is.0.user (record { from = is.0.sender; to = is.0.recipient }) is.0.message is.1.when is.1.default = is.3 in cc
 
 not_freed : (told : Answer) (deed : Deed) → IsDeed (note.Freed (Step 1) told) deed → ⊥
 not_freed told deed is = is

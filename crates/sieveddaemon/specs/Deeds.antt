@@ -24,6 +24,7 @@ use Rattle.sieveddaemon.specs.Holds.{holding_behind}
 use Rattle.sieveddaemon.specs.Desk.{IsDone, IsAsked, NothingDone, delivery_of}
 use Rattle.sieveddaemon.specs.declared.daemon.Daemon.{Daemon}
 use Rattle.sieveddaemon.specs.declared.note.Note.{Note}
+use Rattle.mailengine.specs.Terms.{Terms}
 use Rattle.sieveddaemon.specs.declared.note.Note.TheVariants as note
 
 -- the lines of a report as one line: a comma and a space for each line end but the last one
@@ -59,7 +60,7 @@ IsDeed note.Answered deed = (deed ≡ Answered) ⊎ ((size : ℕ) × (deed ≡ D
 IsDeed (note.Asked others user lookup) deed = deed ≡ Asked user lookup
 IsDeed note.Away deed = deed ≡ Away
 IsDeed (note.Did others event told) deed =
-    (parcel : Parcel) × (moment : ℕ) × (became : Became) × (event ≡ delivery_of parcel moment) × IsBecame parcel.sender told became × (deed ≡ Brought parcel became)
+    (parcel : Parcel) × (terms : Terms) × (became : Became) × (event ≡ delivery_of parcel terms) × IsBecame parcel.sender told became × (deed ≡ Brought parcel became)
 IsDeed other deed = ⊥
 
 -- and what it makes of the store

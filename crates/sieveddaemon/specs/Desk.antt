@@ -4,8 +4,10 @@ use Rattle.lmtp.specs.declared.receiver.Lookup.{Lookup}
 use Rattle.lmtp.specs.declared.receiver.Lookup.TheVariants.{Known, Unknown, Away as Absent}
 use Rattle.std.specs.FinMap.{get}
 use Rattle.mailstore.specs.Account.{Accounts, known_one}
+use Rattle.sieveexec.specs.declared.when.When.{When}
 use Rattle.sqlite.specs.State.{State, HasCleanDisk}
 use Rattle.mailengine.specs.Hosts.{Kept, HasClients, KeepsClients}
+use Rattle.mailengine.specs.Terms.{Terms, terms}
 use Rattle.mailengine.specs.World.{World, Clients, Next, Runs}
 use Rattle.mailengine.specs.declared.answer.Answer.{Answer}
 use Rattle.mailengine.specs.declared.event.Event.{Event}
@@ -110,11 +112,11 @@ LooksUp tells seen rest shows clean id user old before (Some lookup) new after =
 LooksUp tells seen rest shows clean id user old before None new after =
     (clean (rest new) → NothingDone shows (rest old) before (rest new) after) × TellsIf tells seen old (Noted id Away) new
 
--- the event of a message for one recipient, at a moment in seconds since 1970
-abbrev pub delivery_of : Parcel → ℕ → Event
-delivery_of parcel moment = Deliver parcel.user (record { from = parcel.sender; to = parcel.recipient }) parcel.message moment
+-- the event of a message for one recipient, on these terms
+abbrev pub delivery_of : Parcel → Terms → Event
+delivery_of parcel terms = Deliver parcel.user (record { from = parcel.sender; to = parcel.recipient }) parcel.message terms.when terms.default
 
--- the same as `Carries`, at a moment that the call has read
-abbrev pub Delivers : {O R : Type 0} → (O → Bool) → (O → List (Act Note)) → (O → R) → (List Event → R → Accounts → Type 0) → (R → Type 0) → ℕ → Parcel → O → Kept → Option Answer → O → Kept → Type 0
-Delivers tells seen rest shows clean id parcel old before answer new after =
-    (moment : ℕ) × Carries tells seen rest shows clean id (delivery_of parcel moment) old before answer new after
+-- the same as `Carries`, at a moment and in a zone that the call has read, with the default script that the store's host has
+abbrev pub Delivers : {O R : Type 0} → (O → Bool) → (O → List (Act Note)) → (O → R) → (List Event → R → Accounts → Type 0) → (R → Type 0) → (O → Option (List ℕ)) → ℕ → Parcel → O → Kept → Option Answer → O → Kept → Type 0
+Delivers tells seen rest shows clean default id parcel old before answer new after =
+    (when : When) × Carries tells seen rest shows clean id (delivery_of parcel (terms when (default old))) old before answer new after

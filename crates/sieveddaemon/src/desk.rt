@@ -31,6 +31,9 @@ pub trait Desk: Outside<Note = Note> {
     /// The disk returned what was written.
     ghost clean: { Self.Rest → Type 0 };
 
+    /// The text of the script by which the host has mail delivered to an account without an active one, if it has one.
+    ghost default: { Self → Option (List ℕ) };
+
     /// Brings an event to the store and its sessions, and answers it once its change is there for good. None where the
     /// store isn't to be had now.
     fn carry(&mut self, id: u32, clients: &mut Clients, event: &Event) -> Option<Answer>
@@ -51,11 +54,11 @@ pub trait Desk: Outside<Note = Note> {
         ensures found { IfSome result IsFound }
         ensures asks { LooksUp Self.tells Self.seen Self.rest shows clean id user.now self.old clients.old.sessions result self.new clients.new.sessions };
 
-    /// Brings a message to the store, at the moment that the clock shows now, and answers it once its change is there for
-    /// good. None where the store isn't to be had now.
+    /// Brings a message to the store, at the moment that the clock shows now, with the host's default script, and answers it once
+    /// its change is there for good. None where the store isn't to be had now.
     fn deliver(&mut self, id: u32, clients: &mut Clients, parcel: &Parcel) -> Option<Answer>
         ensures kept { IsTrue (Self.tells self.new) → IsTrue (Self.tells self.old) }
-        ensures delivers { Delivers Self.tells Self.seen Self.rest shows clean id parcel.now self.old clients.old.sessions result self.new clients.new.sessions };
+        ensures delivers { Delivers Self.tells Self.seen Self.rest shows clean default id parcel.now self.old clients.old.sessions result self.new clients.new.sessions };
 
     /// Tells that a client of LMTP was answered without the store, or one of ManageSieve that there is no room. Nothing is done.
     fn tell_answered(&mut self, id: u32)

@@ -15,9 +15,9 @@ use Rattle.sievedrun.specs.Streams.{IsWritten}
 use Rattle.sievedrun.specs.Words.{Does, Reaches, Works, RunsAs}
 
 -- a word that works on a store did
-module _ (Denied : StoreLocation → Fault → Type 0) (Sunk : SinkError → Type 0) (Given : StoreLocation → Type 0) (At : List ℕ → Type 0) (cause : Fault → Option (List ℕ)) (clock : Option ℕ) (random : Option (List ℕ)) (given left : Option (List ℕ)) (tells : Bool) (had has : List KeptMail) (out_old out_new err_old err_new : Option (List ℕ)) (status : ℕ) (old new : Database) where
-  pub ran : (asked : Subcommand) → ((a : _) → asked ≡ word.Try a → ⊥) → Works (λ ending. Does Denied Sunk clock random given left tells had has out_old out_new asked ending old new) (Reaches Given At asked) cause err_old err_new status
-      → RunsAs Denied Sunk Given At cause clock random given left tells had has out_old out_new err_old err_new status old new (Ok asked)
+module _ (Denied : StoreLocation → Fault → Type 0) (Sunk : SinkError → Type 0) (Given : StoreLocation → Type 0) (At : List ℕ → Type 0) (cause : Fault → Option (List ℕ)) (clock : Option ℕ) (random default : Option (List ℕ)) (given left : Option (List ℕ)) (tells : Bool) (had has : List KeptMail) (out_old out_new err_old err_new : Option (List ℕ)) (status : ℕ) (old new : Database) where
+  pub ran : (asked : Subcommand) → ((a : _) → asked ≡ word.Try a → ⊥) → Works (λ ending. Does Denied Sunk clock random default given left tells had has out_old out_new asked ending old new) (Reaches Given At asked) cause err_old err_new status
+      → RunsAs Denied Sunk Given At cause clock random default given left tells had has out_old out_new err_old err_new status old new (Ok asked)
   ran (word.Try a) other works = absurd (other a refl)
   ran asked other works = works
 

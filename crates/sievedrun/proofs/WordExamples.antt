@@ -21,7 +21,8 @@ use Rattle.sievedrun.specs.Draining.{IsUnkept, StopsDraining}
 use Rattle.sievedrun.specs.Faults.{memory, no_user, store_failed, cause_of, told_of, troubles, IsHindered}
 use Rattle.sievedrun.specs.Streams.{IsWritten, WriteFailed}
 use Rattle.sievedrun.specs.declared.fault.Fault.{Fault}
-use Rattle.sievedrun.specs.Values.{WritesSalt, IsSalt, IsMoment, IsSeparator, envelope_with}
+use Rattle.sievedrun.specs.Values.{WritesSalt, IsSalt, IsMoment, IsWhen, IsSeparator, envelope_with}
+use Rattle.sieveexec.specs.declared.when.When.{When}
 use Rattle.sievedrun.specs.Words.{Adds, Guards, IsDoneBy, IsStoredBy, Offered, said_of, DeniedAtEnd, Posts, Dequeues, Tells, TellsInvalid, HasMessage, ShowsOutgoing, notices_until, user_line}
 
 -- ---- values
@@ -146,18 +147,22 @@ notices-before h = cc
 added-swapped : (password : List ℕ) → Adds (Some digits) None alice home (Some (codes "secret\nmore")) (AddUser home alice salt password) → ⊥
 added-swapped password h = let e = h.same in cc
 
-posted : (clock : Option ℕ) → Posts [] home (Some (codes "5")) alice clock (Some (codes "M")) (Deliver alice (envelope_with [] home) (codes "M") 5)
-posted clock = record { message = codes "M"; read = refl; moment = 5; dated = five; same = refl }
+posted : (clock : Option ℕ) (default : Option (List ℕ)) (when : When) → IsWhen (Some (codes "5")) None clock when
+    → Posts [] home (Some (codes "5")) None alice clock default (Some (codes "M")) (Deliver alice (envelope_with [] home) (codes "M") when default)
+posted clock default when is = record { message = codes "M"; read = refl; when = when; dated = is; same = refl }
 
--- near misses: for the recipient's name in place of the user's; at the clock's moment; with another message
-posted-elsewhere : (clock : Option ℕ) (moment : ℕ) → Posts [] home (Some (codes "5")) alice clock (Some (codes "M")) (Deliver home (envelope_with [] home) (codes "M") moment) → ⊥
-posted-elsewhere clock moment h = let e = h.same in cc
+-- near misses: for the recipient's name in place of the user's; at the clock's moment; with another message; without the host's default script
+posted-elsewhere : (clock : Option ℕ) (default : Option (List ℕ)) (when : When) → Posts [] home (Some (codes "5")) None alice clock default (Some (codes "M")) (Deliver home (envelope_with [] home) (codes "M") when default) → ⊥
+posted-elsewhere clock default when h = let e = h.same in cc
 
-posted-late : Posts [] home (Some (codes "5")) alice (Some 7) (Some (codes "M")) (Deliver alice (envelope_with [] home) (codes "M") 7) → ⊥
-posted-late h = let same : 7 ≡ h.moment = let e = h.same in cc in moment-ignored (subst (Writes (codes "5")) (sym same) h.dated)
+posted-late : (default : Option (List ℕ)) (when : When) → when.moment ≡ 7 → Posts [] home (Some (codes "5")) None alice (Some 7) default (Some (codes "M")) (Deliver alice (envelope_with [] home) (codes "M") when default) → ⊥
+posted-late default when late h = let same : when ≡ h.when = let e = h.same in cc in moment-ignored (subst (Writes (codes "5")) (sym (ap (λ (w : When). w.moment) same) ∙ late) h.dated.0)
 
-posted-other : (clock : Option ℕ) → Posts [] home (Some (codes "5")) alice clock (Some (codes "M")) (Deliver alice (envelope_with [] home) (codes "MM") 5) → ⊥
-posted-other clock h = let same : codes "MM" ≡ h.message = let e = h.same in cc in let no : codes "MM" ≡ codes "M" = same ∙ h.read in cc
+posted-other : (clock : Option ℕ) (default : Option (List ℕ)) (when : When) → Posts [] home (Some (codes "5")) None alice clock default (Some (codes "M")) (Deliver alice (envelope_with [] home) (codes "MM") when default) → ⊥
+posted-other clock default when h = let same : codes "MM" ≡ h.message = let e = h.same in cc in let no : codes "MM" ≡ codes "M" = same ∙ h.read in cc
+
+posted-bare : (clock : Option ℕ) (default : List ℕ) (when : When) → Posts [] home (Some (codes "5")) None alice clock (Some default) (Some (codes "M")) (Deliver alice (envelope_with [] home) (codes "M") when None) → ⊥
+posted-bare clock default when h = let same : None ≡ Some default = let e = h.same in cc in cc
 
 dequeued : Dequeues alice (codes "5") (TakeOut alice 5)
 dequeued = record { id = 5; written = five; same = refl }

@@ -34,6 +34,8 @@ use Rattle.sievedrun.specs.declared.fault.Fault.TheVariants.{Refused, Stream, Ba
 use Rattle.sievedrun.specs.Draining.{TurnsTables}
 use Rattle.sievedrun.specs.Faults.{memory, status_of, IsFailure, IsSudden, IsHindered, IsPrinted}
 use Rattle.sievedrun.specs.Promise.{world_of}
+use Rattle.sieveexec.specs.declared.when.When.{When}
+use Rattle.mailengine.specs.Terms.{terms}
 use Rattle.sievedrun.specs.Words.{Finishes, DeniedAtEnd, Tells, Makes, RefusesEvent, Puts, DoesEvent, Shows, FindsIn, HasNone, DoesRead, HasMessage, DoesInit, LacksNothing}
 
 -- ---- the output
@@ -165,14 +167,14 @@ module _ (held new : Database) (taken given : State) (opened : OpensAs held take
 -- ---- an event of the machine
 
 -- where the machine refuses an event of accounts, none changes
-delivers_kept : (user message : List ℕ) (envelope : Envelope) (moment : ℕ) (accounts later : Accounts) (refusal : Refusal) → Delivery accounts user envelope message moment (answer.Refused refusal) later → later ≡ accounts
-delivers_kept user message envelope moment accounts later refusal = under (limit_refusal envelope message moment)
+delivers_kept : (user message : List ℕ) (envelope : Envelope) (when : When) (default : Option (List ℕ)) (accounts later : Accounts) (refusal : Refusal) → Delivery accounts user envelope message (terms when default) (answer.Refused refusal) later → later ≡ accounts
+delivers_kept user message envelope when default accounts later refusal = under (limit_refusal envelope message when.moment)
   where
-    by : (o : Option Account) → DeliversIn accounts user moment envelope message o (answer.Refused refusal) later → later ≡ accounts
+    by : (o : Option Account) → DeliversIn accounts user (terms when default) envelope message o (answer.Refused refusal) later → later ≡ accounts
     by None h = h.stays
     by (Some a) h = absurd (let no = h.reported in cc)
 
-    under : (limit : Option Refusal) → DeliversUnder limit accounts user moment envelope message (answer.Refused refusal) later → later ≡ accounts
+    under : (limit : Option Refusal) → DeliversUnder limit accounts user (terms when default) envelope message (answer.Refused refusal) later → later ≡ accounts
     under (Some e) h = h.stays
     under None h = by (open_of accounts user) h
 
@@ -232,20 +234,20 @@ module _ (event : Event) (Row : Accounts → Answer → Accounts → Type 0) (Ma
       )
 
 -- a delivery
-module _ (Denied : Fault → Type 0) (user : List ℕ) (envelope : Envelope) (message : List ℕ) (moment : ℕ) where
+module _ (Denied : Fault → Type 0) (user : List ℕ) (envelope : Envelope) (message : List ℕ) (when : When) (default : Option (List ℕ)) where
   abbrev Row : Accounts → Answer → Accounts → Type 0
-  Row accounts = Delivery accounts user envelope message moment
+  Row accounts = Delivery accounts user envelope message (terms when default)
 
   abbrev May : Refusal → Type 0
-  May = MayRefuseDelivery envelope message moment
+  May = MayRefuseDelivery envelope message when.moment
 
-  pub delivery_made : (report : Report) (accounts later : Accounts) → TurnsBy Row May (answer.Delivered report) accounts later → Puts Denied (Deliver user envelope message moment) answer.Delivered (Ok report) accounts later
-  delivery_made = put_by (Deliver user envelope message moment) Row May (λ accounts later said row. (later, row, refl)) (λ accounts. delivery_may user message envelope moment (world_of accounts))
-      (delivers_kept user message envelope moment) Denied answer.Delivered
+  pub delivery_made : (report : Report) (accounts later : Accounts) → TurnsBy Row May (answer.Delivered report) accounts later → Puts Denied (Deliver user envelope message when default) answer.Delivered (Ok report) accounts later
+  delivery_made = put_by (Deliver user envelope message when default) Row May (λ accounts later said row. (later, row, refl)) (λ accounts. delivery_may user message envelope when default (world_of accounts))
+      (delivers_kept user message envelope when default) Denied answer.Delivered
 
-  pub delivery_refused : (refusal : Refusal) (accounts later : Accounts) → TurnsBy Row May (answer.Refused refusal) accounts later → Puts {X = Report} Denied (Deliver user envelope message moment) answer.Delivered (Err (Refused refusal)) accounts later
-  delivery_refused = refused_by (Deliver user envelope message moment) Row May (λ accounts later said row. (later, row, refl)) (λ accounts. delivery_may user message envelope moment (world_of accounts))
-      (delivers_kept user message envelope moment) Denied answer.Delivered
+  pub delivery_refused : (refusal : Refusal) (accounts later : Accounts) → TurnsBy Row May (answer.Refused refusal) accounts later → Puts {X = Report} Denied (Deliver user envelope message when default) answer.Delivered (Err (Refused refusal)) accounts later
+  delivery_refused = refused_by (Deliver user envelope message when default) Row May (λ accounts later said row. (later, row, refl)) (λ accounts. delivery_may user message envelope when default (world_of accounts))
+      (delivers_kept user message envelope when default) Denied answer.Delivered
 
 -- a new user
 module _ (Denied : Fault → Type 0) (name address salt password : List ℕ) where

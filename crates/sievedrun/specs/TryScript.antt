@@ -7,26 +7,28 @@ use Rattle.sievelex.specs.Text.{line_ends}
 use Rattle.mailengine.specs.Tree.{Commands}
 use Rattle.mailengine.specs.Means.{Means}
 use Rattle.sieveexec.specs.declared.envelope.Envelope.{Envelope}
+use Rattle.sieveexec.specs.declared.when.When.{When}
 use Rattle.sieveexec.specs.Mails.{mail_of}
 use Rattle.sieveexec.specs.Outcomes.{outcome_at}
 use Rattle.sievedrun.specs.declared.fault.Fault.{Fault}
 use Rattle.mailstore.specs.declared.refusal.Refusal.TheVariants as refusal
-use Rattle.sievedrun.specs.declared.fault.Fault.TheVariants.{Refused, Stream, BadInput}
+use Rattle.sievedrun.specs.declared.fault.Fault.TheVariants.{Refused, Stream, BadInput, BadArgument}
 use Rattle.sievedrun.specs.declared.answer.Answer.{Answer}
 use Rattle.sievedrun.specs.declared.answer.Answer.TheVariants.{Report, Refusal}
 use Rattle.sievedrun.specs.Faults.{status_of, line_of, IsPrinted}
 use Rattle.sievedrun.specs.Framing.{IsFramed}
+use Rattle.sievedrun.specs.Values.{IsWhen, HasNoWhen}
 use Rattle.sievedrun.specs.Streams.{InputFailed, IsCut, IsWritten}
 use Rattle.reportlines.specs.Reports.{with_end, report_of}
 
 -- the input has a valid script, and the text is the report on what it comes to on the message with the envelope
-pub record Reports (envelope : Envelope) (input text : List ℕ) : Type 0 where
+pub record Reports (envelope : Envelope) (when : When) (input text : List ℕ) : Type 0 where
   pub script : List ℕ
   pub message : List ℕ
   pub framed : IsFramed input script message
   pub tree : Commands
   pub means : Means script tree
-  pub told : text ≡ report_of (outcome_at (mail_of message envelope) tree)
+  pub told : text ≡ report_of (outcome_at (mail_of message envelope when) tree)
 
 -- the input has a script that is not valid, and the text is the line on a fault within it
 pub record Refuses (input text : List ℕ) : Type 0 where
@@ -50,9 +52,9 @@ OfInput None P = (input : List ℕ) × P input
 OfInput (Some input) P = P input
 
 -- what an answer says is so of this input
-abbrev pub Answers : Envelope → List ℕ → Answer → Type 0
-Answers envelope input (Report text) = Reports envelope input text
-Answers envelope input (Refusal text) = Refuses input text
+abbrev pub Answers : Envelope → When → List ℕ → Answer → Type 0
+Answers envelope when input (Report text) = Reports envelope when input text
+Answers envelope when input (Refusal text) = Refuses input text
 
 -- the text of an answer
 abbrev pub text_in : Answer → List ℕ
@@ -66,13 +68,13 @@ status_at (Ok (Refusal _)) = 65
 status_at (Err fault) = status_of fault
 
 -- what is on the output in the end: the answer, or nothing, or where a write of it failed a front of the answer
-abbrev pub LeavesOutput : Envelope → Option (List ℕ) → Option (List ℕ) → Option (List ℕ) → Result Answer Fault → Type 0
-LeavesOutput envelope given old new (Ok answer) = OfInput given (λ input. Answers envelope input answer) × IsPrinted (Ok tt) old new (text_in answer)
-LeavesOutput envelope given old new (Err BadInput) = OfInput given IsNoInput × Keeps old new
-LeavesOutput envelope given old new (Err (Refused refusal.Memory)) = Keeps old new
-LeavesOutput envelope given old new (Err Stream) =
-    (Keeps old new × InputFailed) ⊎ ((answer : Answer) × OfInput given (λ input. Answers envelope input answer) × IsCut old new (text_in answer))
-LeavesOutput envelope given old new (Err _) = ⊥
+abbrev pub LeavesOutput : Envelope → When → Option (List ℕ) → Option (List ℕ) → Option (List ℕ) → Result Answer Fault → Type 0
+LeavesOutput envelope when given old new (Ok answer) = OfInput given (λ input. Answers envelope when input answer) × IsPrinted (Ok tt) old new (text_in answer)
+LeavesOutput envelope when given old new (Err BadInput) = OfInput given IsNoInput × Keeps old new
+LeavesOutput envelope when given old new (Err (Refused refusal.Memory)) = Keeps old new
+LeavesOutput envelope when given old new (Err Stream) =
+    (Keeps old new × InputFailed) ⊎ ((answer : Answer) × OfInput given (λ input. Answers envelope when input answer) × IsCut old new (text_in answer))
+LeavesOutput envelope when given old new (Err _) = ⊥
 
 -- what is told of a fault, or a front of it where a write of it failed
 abbrev pub LeavesErrors : Option (List ℕ) → Option (List ℕ) → Result Answer Fault → Type 0
@@ -80,8 +82,15 @@ LeavesErrors old new (Ok _) = Keeps old new
 LeavesErrors old new (Err fault) = IsWritten old new (line_of fault)
 
 -- a whole run: how it ended, what status tells of it, and what it left on the output and on the errors
-pub record Runs (envelope : Envelope) (given : Option (List ℕ)) (output_old output_new errors_old errors_new : Option (List ℕ)) (status : ℕ) : Type 0 where
+pub record Runs (envelope : Envelope) (when : When) (given : Option (List ℕ)) (output_old output_new errors_old errors_new : Option (List ℕ)) (status : ℕ) : Type 0 where
   pub ending : Result Answer Fault
   pub told : status ≡ status_at ending
-  pub output : LeavesOutput envelope given output_old output_new ending
+  pub output : LeavesOutput envelope when given output_old output_new ending
   pub errors : LeavesErrors errors_old errors_new ending
+
+-- `try` with these words: a whole run at the moment and in the zone that they have, or at moment 0 and in UTC; or one of them is wrong, which is told, and
+-- nothing is printed
+abbrev pub Tries : Option (List ℕ) → Option (List ℕ) → Envelope → Option (List ℕ) → Option (List ℕ) → Option (List ℕ) → Option (List ℕ) → Option (List ℕ) → ℕ → Type 0
+Tries at zone envelope given output_old output_new errors_old errors_new status =
+    ((when : When) × IsWhen at zone (Some 0) when × Runs envelope when given output_old output_new errors_old errors_new status)
+    ⊎ (HasNoWhen at zone × (status ≡ 64) × (output_new ≡ output_old) × IsWritten errors_old errors_new (line_of BadArgument))

@@ -1,11 +1,14 @@
 -- The values that stand in words.
-use Rattle.std.specs.Prelude.{◌≡◌, ℕ, ◌<◌, ◌≤◌, ◌^◌, List, [], ◌∷◌, Option, Some, None, Ok}
+use Rattle.std.specs.Prelude.{◌≡◌, ◌⊎◌, ℕ, pos, ◌<◌, ◌≤◌, ◌^◌, List, [], ◌∷◌, Option, Some, None, Ok}
 use Rattle.hex.specs.Hex.{decode_sized}
 use Rattle.maildirs.specs.Spelling.{octet_of}
 use Rattle.maildirs.specs.declared.separator.Separator.{Separator}
 use Rattle.maildirs.specs.declared.separator.Separator.TheVariants.{Dot}
 use Rattle.octets.specs.Decimal.{Writes}
+use Rattle.hostzones.specs.HostZones.{IsZoneText, IsOffsetAt}
+use Rattle.hostzones.specs.declared.zone.HostZone.{HostZone}
 use Rattle.sieveexec.specs.declared.envelope.Envelope.{Envelope}
+use Rattle.sieveexec.specs.declared.when.When.{When}
 
 -- no number of 64 bits is written so
 abbrev pub IsNoNumber : List ℕ → Type 0
@@ -50,6 +53,32 @@ HasNoSalt None = ⊥
 abbrev pub IsMoment : Option (List ℕ) → Option ℕ → ℕ → Type 0
 IsMoment (Some digits) clock moment = Writes digits moment
 IsMoment None clock moment = clock ≡ Some moment
+
+-- no zone of a host is written so
+abbrev pub IsNoZone : List ℕ → Type 0
+IsNoZone text = (zone : HostZone) → IsZoneText text zone → ⊥
+
+-- the zone that the words have; UTC where they have none
+abbrev pub IsHostZone : Option (List ℕ) → HostZone → Type 0
+IsHostZone (Some text) zone = IsZoneText text zone
+IsHostZone None zone = (moment : ℕ) → IsOffsetAt zone moment (pos 0)
+
+-- at that moment the host's zone is as the words say
+abbrev pub IsZoned : Option (List ℕ) → When → Type 0
+IsZoned text when = (zone : HostZone) × IsHostZone text zone × IsOffsetAt zone when.moment when.zone
+
+-- the moment that the words have in decimal, or else the clock's, and the host's zone at it
+abbrev pub IsWhen : Option (List ℕ) → Option (List ℕ) → Option ℕ → When → Type 0
+IsWhen at zone clock when = IsMoment at clock when.moment × IsZoned zone when
+
+-- the words have a zone, which is none
+abbrev pub HasNoZone : Option (List ℕ) → Type 0
+HasNoZone (Some text) = IsNoZone text
+HasNoZone None = ⊥
+
+-- the words have digits for a moment, which are no number, or a zone, which is none
+abbrev pub HasNoWhen : Option (List ℕ) → Option (List ℕ) → Type 0
+HasNoWhen at zone = HasNoNumber at ⊎ HasNoZone zone
 
 -- this separates the levels of folders: `.` where the words have nothing
 abbrev pub IsSeparator : Option (List ℕ) → Separator → Type 0

@@ -49,9 +49,10 @@ use Rattle.sievedrun.specs.Draining.{StaysAsItWas, TurnsTables, HasDrained}
 use Rattle.sievedrun.specs.Faults.{memory, no_user, status_of, line_of, troubles, AreTold, IsSudden, IsHindered, IsPrinted}
 use Rattle.sievedrun.specs.Promise.{first_line, world_of, status_after}
 use Rattle.sievedrun.specs.Streams.{ReadsAll, AppendsSome, InputFailed, IsWritten}
-use Rattle.sievedrun.specs.TryScript.{Runs}
-use Rattle.sievedrun.specs.Values.{IsNoNumber, HasNoNumber, IsNoUntil, IsSalt, HasNoSalt, IsMoment, IsSeparator, HasNoSeparator, envelope_with}
+use Rattle.sievedrun.specs.TryScript.{Tries}
+use Rattle.sievedrun.specs.Values.{IsNoNumber, IsNoUntil, IsSalt, HasNoSalt, IsWhen, HasNoWhen, IsSeparator, HasNoSeparator, envelope_with}
 use Rattle.sievedrun.specs.declared.fault.Fault.{Fault}
+use Rattle.sieveexec.specs.declared.when.When.{When}
 use Rattle.sievedrun.specs.declared.fault.Fault.TheVariants.{Refused, NoMessage, NoScript, Invalid, BadArgument}
 
 -- ---- how a word ends, whatever it does
@@ -115,13 +116,14 @@ said_of upkeep.OpenAccount = answer.Opened
 said_of (upkeep.RemoveAccount mail) = answer.Removed
 said_of (upkeep.TakeNotices until) = answer.NoticesTaken
 
--- `deliver`: all that was read is for the user, with these addresses, at the moment of these words or of the clock
-pub record Posts (from to : List ℕ) (at : Option (List ℕ)) (user : List ℕ) (clock : Option ℕ) (given : Option (List ℕ)) (event : Event) : Type 0 where
+-- `deliver`: all that was read is for the user, with these addresses, at the moment of these words or of the clock and in the zone of the words, by a host with this
+-- default script
+pub record Posts (from to : List ℕ) (at zone : Option (List ℕ)) (user : List ℕ) (clock : Option ℕ) (default given : Option (List ℕ)) (event : Event) : Type 0 where
   pub message : List ℕ
   pub read : ReadsAll given message
-  pub moment : ℕ
-  pub dated : IsMoment at clock moment
-  pub same : event ≡ Deliver user (envelope_with from to) message moment
+  pub when : When
+  pub dated : IsWhen at zone clock when
+  pub same : event ≡ Deliver user (envelope_with from to) message when default
 
 -- `put`: all that was read is the text of the user's script with this name
 pub record Offered (user name : List ℕ) (activate : Bool) (given : Option (List ℕ)) (event : Event) : Type 0 where
@@ -149,7 +151,7 @@ pub record Dequeues (user digits : List ℕ) (event : Event) : Type 0 where
 -- what is printed of an event that was made, by its answer
 abbrev pub Tells : Event → Answer → List ℕ → Type 0
 Tells (AddUser name address salt password) answer.Added text = text ≡ with_end (codes "added " ++ name)
-Tells (Deliver user envelope message moment) (answer.Delivered report) text = text ≡ delivery_report report
+Tells (Deliver user envelope message when default) (answer.Delivered report) text = text ≡ delivery_report report
 Tells (TakeOut user id) (answer.Taken row) text = text ≡ with_end (codes "taken " ++ decimal id)
 Tells (Keep user upkeep) answer.Changed text = text ≡ with_end (codes "changed " ++ user)
 Tells (Keep user upkeep) answer.Stored text = text ≡ with_end (codes "stored " ++ script_of upkeep)
@@ -451,7 +453,7 @@ DeniedAtEnd Denied left fault = Denied fault × IsAtEnd left
 
 -- whoever denies the store at a place, why a sink refused, the clock, the system's random octets, what was to be read and what is left of it, whether a sink tells what it keeps and
 -- what that was and is, and the output before and after
-module _ (Denied : StoreLocation → Fault → Type 0) (Sunk : SinkError → Type 0) (clock : Option ℕ) (random : Option (List ℕ)) (given left : Option (List ℕ)) (tells : Bool) (had has : List KeptMail) (out_old out_new : Option (List ℕ)) where
+module _ (Denied : StoreLocation → Fault → Type 0) (Sunk : SinkError → Type 0) (clock : Option ℕ) (random default : Option (List ℕ)) (given left : Option (List ℕ)) (tells : Bool) (had has : List KeptMail) (out_old out_new : Option (List ℕ)) where
   -- no message came to the sink, and nothing of the input was read
   abbrev pub Idle : Type 0
   Idle = StaysAsItWas tells had has × (left ≡ given)
@@ -472,7 +474,8 @@ module _ (Denied : StoreLocation → Fault → Type 0) (Sunk : SinkError → Typ
   Does (word.Remove a) result old new = Idle × DoesEvent ⊥ ⊥ (Denied a.location) (IsKeeping a.user.now (upkeep.RemoveAccount a.mail)) out_old out_new result old new
   Does (word.Deliver a) result old new =
       StaysAsItWas tells had has
-      × DoesEvent (PostFailed (option_copied a.at) clock) (HasNoNumber (option_copied a.at)) (DeniedAtEnd (Denied a.location) left) (Posts a.from.now a.to.now (option_copied a.at) a.user.now clock given) out_old out_new result old new
+      × DoesEvent (PostFailed (option_copied a.at) clock) (HasNoWhen (option_copied a.at) (option_copied a.zone)) (DeniedAtEnd (Denied a.location) left)
+      (Posts a.from.now a.to.now (option_copied a.at) (option_copied a.zone) a.user.now clock default given) out_old out_new result old new
   Does (word.Done a) result old new = Idle × DoesEvent ⊥ (IsNoNumber a.id.now) (Denied a.location) (Dequeues a.user.now a.id.now) out_old out_new result old new
   Does (word.Drain a) result old new = (left ≡ given) × HasDrained Sunk (Denied a.location) a tells had has out_old out_new result old new
   Does (word.Folders a) result old new = Idle × DoesFolders (Denied a.location) out_old out_new a.user.now a.directories (option_copied a.separator) result old new
@@ -567,11 +570,11 @@ pub record Works (Did : Result (Unit {0}) Fault → Type 0) (Reached : Type 0) (
   pub did : Did ending
   pub reached : OnOk ending Reached
 
-module _ (Denied : StoreLocation → Fault → Type 0) (Sunk : SinkError → Type 0) (Given : StoreLocation → Type 0) (At : List ℕ → Type 0) (cause : Fault → Option (List ℕ)) (clock : Option ℕ) (random : Option (List ℕ)) (given left : Option (List ℕ)) (tells : Bool) (had has : List KeptMail) (out_old out_new err_old err_new : Option (List ℕ)) (status : ℕ) (old new : Database) where
+module _ (Denied : StoreLocation → Fault → Type 0) (Sunk : SinkError → Type 0) (Given : StoreLocation → Type 0) (At : List ℕ → Type 0) (cause : Fault → Option (List ℕ)) (clock : Option ℕ) (random default : Option (List ℕ)) (given left : Option (List ℕ)) (tells : Bool) (had has : List KeptMail) (out_old out_new err_old err_new : Option (List ℕ)) (status : ℕ) (old new : Database) where
   -- what comes of words that were read so: a script was tried; a word did its work; or the words ask for nothing, which is told
   abbrev pub RunsAs : Result Subcommand ReadError → Type 0
-  RunsAs (Ok (word.Try a)) = Runs (envelope_with a.from.now a.to.now) given out_old out_new err_old err_new status × Untouched tells had has old new
-  RunsAs (Ok asked) = Works (λ ending. Does Denied Sunk clock random given left tells had has out_old out_new asked ending old new) (Reaches Given At asked) cause err_old err_new status
+  RunsAs (Ok (word.Try a)) = Tries (option_copied a.at) (option_copied a.zone) (envelope_with a.from.now a.to.now) given out_old out_new err_old err_new status × Untouched tells had has old new
+  RunsAs (Ok asked) = Works (λ ending. Does Denied Sunk clock random default given left tells had has out_old out_new asked ending old new) (Reaches Given At asked) cause err_old err_new status
   RunsAs (Err error) = IsUnread error out_old out_new err_old err_new status × Untouched tells had has old new × (left ≡ given)
 
   -- a run of the program with these words

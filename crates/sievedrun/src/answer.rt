@@ -13,6 +13,7 @@ use mailengine::{Envelope, Outcome, attempt};
 use mailstore::Refusal;
 use octets::Octets;
 use reportlines::{of_fault, of_outcome};
+use sieveexec::When;
 use sievelex::ScriptError;
 use std::alloc::Global;
 
@@ -36,28 +37,34 @@ impl Answer {
     }
 }
 
-/// Tries the script of an input on its message, received with the envelope.
-pub fn answer_to(alloc: Global, envelope: Envelope, input: &[u8]) -> Result<Answer, Fault>
-    ensures answer { IfOk result (λ answer. Answers envelope input.now answer) }
+/// Tries the script of an input on its message, received with the envelope and delivered then.
+pub fn answer_to(
+    alloc: Global,
+    envelope: Envelope,
+    when: When,
+    input: &[u8],
+) -> Result<Answer, Fault>
+    ensures answer { IfOk result (λ answer. Answers envelope when input.now answer) }
     ensures none { IfErr result (IsUnanswered (IsNoInput input.now)) }
 {
     match framing::split(input) {
-        Some(framed) => answer_on(alloc, envelope, framed.script, framed.message),
+        Some(framed) => answer_on(alloc, envelope, when, framed.script, framed.message),
         None => Err(Fault::BadInput),
     }
 }
 
-/// Tries a script on a message, received with the envelope.
+/// Tries a script on a message, received with the envelope and delivered then.
 fn answer_on(
     alloc: Global,
     envelope: Envelope,
+    when: When,
     script: &[u8],
     message: &[u8],
 ) -> Result<Answer, Fault>
-    ensures answer { IfOk result (λ answer. (input : List ℕ) → IsFramed input script.now message.now → Answers envelope input answer) }
+    ensures answer { IfOk result (λ answer. (input : List ℕ) → IsFramed input script.now message.now → Answers envelope when input answer) }
     ensures memory { IfErr result (λ fault. fault ≡ memory) }
 {
-    match attempt(alloc, script, envelope, message) {
+    match attempt(alloc, script, envelope, message, when) {
         Ok(outcome) => report(alloc, outcome),
         Err(ScriptError::Fault(fault)) => Ok(Answer::Refusal(of_fault(alloc, fault)?)),
         Err(ScriptError::Memory) => Err(Fault::Refused(Refusal::Memory)),

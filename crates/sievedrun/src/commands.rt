@@ -4,21 +4,23 @@ ghost use Rattle.sqlite.specs.Held.{state};
 ghost use Rattle.keepers.specs.Taken.{IsTaken};
 ghost use Rattle.mailengine.specs.declared.answer.Answer.TheVariants.{Delivered, Added};
 ghost use Rattle.mailengine.specs.declared.event.Event.TheVariants as machine;
+ghost use Rattle.mailstore.specs.Cells.{contents};
 ghost use Rattle.sievedrun.specs.Draining.{TurnsTables};
 ghost use Rattle.sievedrun.specs.Promise.{status_after};
 ghost use Rattle.sievedrun.specs.Serving.{HasDenied, HasGiven};
 ghost use Rattle.sievedrun.specs.Streams.{ReadsToEnd};
-ghost use Rattle.sievedrun.specs.Values.{IsNoNumber, HasNoNumber, HasNoSalt};
+ghost use Rattle.sievedrun.specs.Values.{IsNoNumber, HasNoWhen, HasNoSalt};
 ghost use Rattle.sievedrun.specs.Words.{Adds, Posts, PostFailed, SaltFailed, DeniedAtEnd, Puts, DoesEvent, DoesRead, DoesInit, ShowsMessage, LacksMessage};
 
 use crate::account_read::{MessageOf, read_once};
 use crate::fault::Fault;
 use crate::report::print_report;
 use crate::stream::{read_all, write_all, write_line};
-use crate::values::{decimal, envelope_of, first_line, given_salt, moment_of};
+use crate::values::{decimal, envelope_of, first_line, given_salt, when_of};
 use keepers::Keeper;
 use mailengine::{Envelope, Report, add_user, deliver};
 use mailstore::Store;
+use sieveexec::When;
 use sievedwords::{AddUser, Deliver, Init, Show, StoreLocation};
 use std::alloc::Global;
 use std::io::{Read, Write};
@@ -94,7 +96,8 @@ fn add<K: Keeper>(
     Ok(added?)
 }
 
-/// `deliver`: the input is a message for a user. `clock` is the moment where the words have none.
+/// `deliver`: the input is a message for a user. `clock` is the moment where the words have none, and `default` the text of the script
+/// for accounts without an active one.
 ///
 /// The report is written once the store was handed back, and takes no memory. What was delivered is on the disk by then, whether or
 /// not the store could be closed.
@@ -102,6 +105,7 @@ pub fn run_deliver<R: Read, W: Write, K: Keeper>(
     alloc: Global,
     asked: Deliver<'_>,
     clock: Option<u64>,
+    default: Option<&[u8]>,
     input: &mut R,
     output: &mut W,
     keeper: &mut K,
@@ -109,13 +113,14 @@ pub fn run_deliver<R: Read, W: Write, K: Keeper>(
     ensures unread { status_after result ≡ 64 → input.new ≡ input.old }
     ensures reads { OnOk result (ReadsToEnd R.remaining input.old input.new) }
     ensures back { K.is_out keeper.old ≡ false → K.is_out keeper.new ≡ false }
-    ensures does { IsTrue K.tells → DoesEvent (PostFailed (option_copied asked.entry.at) clock) (HasNoNumber (option_copied asked.entry.at))
+    ensures does { IsTrue K.tells → DoesEvent (PostFailed (option_copied asked.entry.at) clock) (HasNoWhen (option_copied asked.entry.at) (option_copied asked.entry.zone))
         (DeniedAtEnd (HasDenied K.refuses K.will_wait asked.entry.location) (R.remaining input.new))
-        (Posts asked.entry.from.now asked.entry.to.now (option_copied asked.entry.at) asked.entry.user.now clock (R.remaining input.old))
+        (Posts asked.entry.from.now asked.entry.to.now (option_copied asked.entry.at) (option_copied asked.entry.zone) asked.entry.user.now clock (contents default.entry)
+            (R.remaining input.old))
         (W.contents output.old) (W.contents output.new) result (K.holds keeper.old) (K.holds keeper.new) }
     ensures given { OnOk result (HasGiven K.gives K.will_wait asked.entry.location) }
 {
-    let moment = moment_of(asked.at, clock)?;
+    let when = when_of(asked.at, asked.zone, clock)?;
     let envelope = envelope_of(alloc, asked.from, asked.to)?;
     let message = read_all(alloc, input)?;
     let report = post(
@@ -124,7 +129,8 @@ pub fn run_deliver<R: Read, W: Write, K: Keeper>(
         asked.user.as_bytes(),
         envelope,
         message.as_slice(),
-        moment,
+        when,
+        default,
         keeper,
     )?;
     print_report(&report, output)
@@ -137,17 +143,19 @@ fn post<K: Keeper>(
     user: &[u8],
     envelope: Envelope,
     message: &[u8],
-    moment: u64,
+    when: When,
+    default: Option<&[u8]>,
     keeper: &mut K,
 ) -> Result<Report, Fault>
     ensures late { status_after result ≢ 64 }
     ensures back { K.is_out keeper.old ≡ false → K.is_out keeper.new ≡ false }
     ensures puts { IsTrue K.tells → TurnsTables
-        (Puts (HasDenied K.refuses K.will_wait location.entry) (machine.Deliver user.now envelope message.now moment) Delivered result) (K.holds keeper.old) (K.holds keeper.new) }
+        (Puts (HasDenied K.refuses K.will_wait location.entry) (machine.Deliver user.now envelope message.now when (contents default.entry)) Delivered result)
+        (K.holds keeper.old) (K.holds keeper.new) }
     ensures given { OnOk result (HasGiven K.gives K.will_wait location.entry) }
 {
     let mut store = take_store(location, false, keeper)?;
-    let delivered = deliver(alloc, &mut store, user, envelope, message, moment);
+    let delivered = deliver(alloc, &mut store, user, envelope, message, when, default);
     keeper.hand_back(store);
     Ok(delivered?)
 }

@@ -1,11 +1,12 @@
 //! A run of the program: the words, and what comes of them.
 ghost use Rattle.std.specs.Prelude.{◌≡◌, false, None, IsTrue, IfSome, OnOk, option_copied};
+ghost use Rattle.mailstore.specs.Cells.{contents};
 ghost use Rattle.sievedrun.specs.Draining.{HasRefused};
 ghost use Rattle.sievedrun.specs.Faults.{cause_of, status_of, text_said, told_of, troubles, AreTold};
 ghost use Rattle.sievedrun.specs.Promise.{status_after};
 ghost use Rattle.sievedrun.specs.Serving.{HasDenied, HasGiven};
 ghost use Rattle.sievedrun.specs.Streams.{IsWritten, ReadsAllOrNone, ReadsToEnd};
-ghost use Rattle.sievedrun.specs.TryScript.{Runs};
+ghost use Rattle.sievedrun.specs.TryScript.{Tries};
 ghost use Rattle.sievedrun.specs.Values.{envelope_with};
 ghost use Rattle.sievedrun.specs.Words.{Does, IsSaid, IsUnread, Reaches, RunsWords};
 
@@ -21,7 +22,7 @@ use crate::trouble::Trouble;
 use crate::try_script::try_run;
 use crate::upkeep::{run_address, run_open, run_passwd, run_remove};
 use crate::users::run_users;
-use crate::values::envelope_of;
+use crate::values::{envelope_of, when_of};
 use clap::Error;
 use clap::error::ErrorKind;
 use keepers::Keeper;
@@ -40,8 +41,8 @@ const USAGE: u8 = 64;
 /// script is read from the input, the answer is written to the output, and what goes wrong to the errors.
 ///
 /// `clock` is the moment in seconds since 1970, where the clock could be read, and `random` are 16 octets that nobody can guess,
-/// where the system gave some. Where words or values are wrong nothing is
-/// read. The store is taken at most once, and handed back before the answer is written, but for notices, which are taken only once
+/// where the system gave some, and `default` is the text of the script for accounts without an active one, for `deliver`. Where
+/// words or values are wrong nothing is read. The store is taken at most once, and handed back before the answer is written, but for notices, which are taken only once
 /// they are written. Messages that leave it go into the sink.
 pub fn drive<R: Read, W: Write, E: Write, K: Keeper, T: MailSink>(
     alloc: Global,
@@ -52,13 +53,14 @@ pub fn drive<R: Read, W: Write, E: Write, K: Keeper, T: MailSink>(
     keeper: &mut K,
     clock: Option<u64>,
     random: Option<[u8; 16]>,
+    default: Option<&[u8]>,
     sink: &mut T,
 ) -> u8
     ensures unread { result ≡ 64 → input.new ≡ input.old }
     ensures reads { result ≡ 0 → ReadsAllOrNone R.remaining input.old input.new }
     ensures back { K.is_out keeper.old ≡ false → K.is_out keeper.new ≡ false }
     ensures runs { IsTrue K.tells → RunsWords (HasDenied K.refuses K.will_wait) (HasRefused T.refuses) (HasGiven K.gives K.will_wait) (T.is_at sink.new)
-        (cause_of (K.said keeper.new) (text_said (T.said sink.new))) clock random
+        (cause_of (K.said keeper.new) (text_said (T.said sink.new))) clock random (contents default.entry)
         (R.remaining input.old) (R.remaining input.new) T.tells (T.kept sink.old) (T.kept sink.new) (W.contents output.old) (W.contents output.new)
         (E.contents errors.old) (E.contents errors.new) result (K.holds keeper.old) (K.holds keeper.new) words.now }
     ensures asked { K.unclosed keeper.old ≡ None → K.unclosed keeper.new ≡ None }
@@ -70,13 +72,15 @@ pub fn drive<R: Read, W: Write, E: Write, K: Keeper, T: MailSink>(
     match asked {
         Subcommand::Try(asked) => try_script(alloc, asked, input, output, errors),
         _ => {
-            let done = act(alloc, asked, input, output, keeper, clock, random, sink);
+            let done = act(
+                alloc, asked, input, output, keeper, clock, random, default, sink,
+            );
             conclude(done, errors, keeper, sink)
         }
     }
 }
 
-/// Tries a script on a message that comes with this envelope, and answers the exit status.
+/// Tries a script on a message that comes with this envelope at the moment of the words, or else at 0, and answers the exit status.
 fn try_script<R: Read, W: Write, E: Write>(
     alloc: Global,
     asked: Try<'_>,
@@ -86,11 +90,15 @@ fn try_script<R: Read, W: Write, E: Write>(
 ) -> u8
     ensures unread { result ≡ 64 → input.new ≡ input.old }
     ensures reads { result ≡ 0 → ReadsToEnd R.remaining input.old input.new }
-    ensures runs { Runs (envelope_with asked.entry.from.now asked.entry.to.now) (R.remaining input.old) (W.contents output.old) (W.contents output.new)
-        (E.contents errors.old) (E.contents errors.new) result }
+    ensures runs { Tries (option_copied asked.entry.at) (option_copied asked.entry.zone) (envelope_with asked.entry.from.now asked.entry.to.now) (R.remaining input.old)
+        (W.contents output.old) (W.contents output.new) (E.contents errors.old) (E.contents errors.new) result }
 {
+    let when = match when_of(asked.at, asked.zone, Some(0)) {
+        Ok(when) => when,
+        Err(fault) => return refuse(errors, fault),
+    };
     match envelope_of(alloc, asked.from, asked.to) {
-        Ok(envelope) => try_run(alloc, envelope, input, output, errors),
+        Ok(envelope) => try_run(alloc, envelope, when, input, output, errors),
         Err(_) => refuse(errors, Fault::Refused(Refusal::Memory)),
     }
 }
@@ -104,12 +112,14 @@ fn act<R: Read, W: Write, K: Keeper, T: MailSink>(
     keeper: &mut K,
     clock: Option<u64>,
     random: Option<[u8; 16]>,
+    default: Option<&[u8]>,
     sink: &mut T,
 ) -> Result<(), Fault>
     ensures unread { status_after result ≡ 64 → input.new ≡ input.old }
     ensures reads { OnOk result (ReadsAllOrNone R.remaining input.old input.new) }
     ensures back { K.is_out keeper.old ≡ false → K.is_out keeper.new ≡ false }
-    ensures does { IsTrue K.tells → Does (HasDenied K.refuses K.will_wait) (HasRefused T.refuses) clock random (R.remaining input.old) (R.remaining input.new)
+    ensures does { IsTrue K.tells → Does (HasDenied K.refuses K.will_wait) (HasRefused T.refuses) clock random (contents default.entry) (R.remaining input.old)
+        (R.remaining input.new)
         T.tells (T.kept sink.old) (T.kept sink.new) (W.contents output.old) (W.contents output.new) asked.entry result
         (K.holds keeper.old) (K.holds keeper.new) }
     ensures reaches { OnOk result (Reaches (HasGiven K.gives K.will_wait) (T.is_at sink.new) asked.entry) }
@@ -124,7 +134,9 @@ fn act<R: Read, W: Write, K: Keeper, T: MailSink>(
         Subcommand::Put(asked) => run_put(alloc, asked, input, output, keeper),
         Subcommand::Open(asked) => run_open(alloc, asked, output, keeper),
         Subcommand::Remove(asked) => run_remove(alloc, asked, output, keeper),
-        Subcommand::Deliver(asked) => run_deliver(alloc, asked, clock, input, output, keeper),
+        Subcommand::Deliver(asked) => {
+            run_deliver(alloc, asked, clock, default, input, output, keeper)
+        },
         Subcommand::Folders(asked) => run_folders(alloc, asked, output, keeper),
         Subcommand::Show(asked) => run_show(asked, output, keeper),
         Subcommand::Queue(asked) => run_queue(alloc, asked, output, keeper),

@@ -7,25 +7,27 @@ use crate::answer::{Answer, answer_to};
 use crate::fault::{Fault, refuse};
 use crate::stream;
 use mailengine::Envelope;
+use sieveexec::When;
 use std::alloc::Global;
 use std::io::{Read, Write};
 
 /// Reads a script and a message from the input, and prints on the output what the script does with the message under
-/// the envelope. What goes wrong is told on the errors. The answer is the exit status.
+/// the envelope, delivered then. What goes wrong is told on the errors. The answer is the exit status.
 ///
 /// The message's octets aren't copied. Reads at most 40,000,000 times.
 pub fn try_run<R: Read, W: Write, E: Write>(
     alloc: Global,
     envelope: Envelope,
+    when: When,
     input: &mut R,
     output: &mut W,
     errors: &mut E,
 ) -> u8
     ensures reads { result ≡ 0 → ReadsToEnd R.remaining input.old input.new }
-    ensures runs { Runs envelope (R.remaining input.old) (W.contents output.old) (W.contents output.new)
+    ensures runs { Runs envelope when (R.remaining input.old) (W.contents output.old) (W.contents output.new)
         (E.contents errors.old) (E.contents errors.new) result }
 {
-    match print_answer(alloc, envelope, input, output) {
+    match print_answer(alloc, envelope, when, input, output) {
         Ok(Answer::Report(_)) => 0,
         Ok(Answer::Refusal(_)) => 65,
         Err(fault) => refuse(errors, fault),
@@ -35,14 +37,15 @@ pub fn try_run<R: Read, W: Write, E: Write>(
 fn print_answer<R: Read, W: Write>(
     alloc: Global,
     envelope: Envelope,
+    when: When,
     input: &mut R,
     output: &mut W,
 ) -> Result<Answer, Fault>
     ensures reads { OnOk result (ReadsToEnd R.remaining input.old input.new) }
-    ensures leaves { LeavesOutput envelope (R.remaining input.old) (W.contents output.old) (W.contents output.new) result }
+    ensures leaves { LeavesOutput envelope when (R.remaining input.old) (W.contents output.old) (W.contents output.new) result }
 {
     let octets = stream::read_all(alloc, input)?;
-    let answer = answer_to(alloc, envelope, octets.as_slice())?;
+    let answer = answer_to(alloc, envelope, when, octets.as_slice())?;
     stream::write_all(output, answer.text())?;
     Ok(answer)
 }

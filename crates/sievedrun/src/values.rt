@@ -4,13 +4,15 @@ ghost use Rattle.std.specs.List.{prefix_len};
 ghost use Rattle.octets.specs.Decimal.{Writes};
 ghost use Rattle.sievedrun.specs.Promise as promise;
 ghost use Rattle.sievedrun.specs.Promise.{is_in_line};
-ghost use Rattle.sievedrun.specs.Values.{IsNoNumber, HasNoNumber, IsNoPort, IsNoSize, IsNoUntil, WritesSalt, IsNoSalt, IsSalt, HasNoSalt, IsMoment, IsSeparator, HasNoSeparator, envelope_with};
+ghost use Rattle.sievedrun.specs.Values.{IsNoNumber, HasNoNumber, IsNoPort, IsNoSize, IsNoUntil, WritesSalt, IsNoSalt, IsSalt, HasNoSalt, IsMoment, IsHostZone, IsWhen, HasNoZone, HasNoWhen, IsSeparator, HasNoSeparator, envelope_with};
 
 use crate::fault::Fault;
 use hex::FromHex;
+use hostzones::HostZone;
 use maildirs::Separator;
 use mailengine::Envelope;
 use octets::{Octets, parse_decimal};
+use sieveexec::When;
 use std::alloc::{AllocError, Global};
 
 /// The last moment that the database can have.
@@ -110,7 +112,7 @@ pub fn given_salt(digits: Option<&str>, random: Option<[u8; 16]>) -> Result<[u8;
 }
 
 /// The moment that the words have, or else the clock's, in seconds since 1970.
-pub fn moment_of(at: Option<&str>, clock: Option<u64>) -> Result<u64, Fault>
+fn moment_of(at: Option<&str>, clock: Option<u64>) -> Result<u64, Fault>
     ensures ok { IfOk result (IsMoment (option_copied at.entry) clock) }
     ensures right { OnOk result (HasNoNumber (option_copied at.entry) → ⊥) }
     ensures fault { IfErr result (λ fault. ((fault ≡ Fault.BadArgument) × HasNoNumber (option_copied at.entry))
@@ -120,6 +122,34 @@ pub fn moment_of(at: Option<&str>, clock: Option<u64>) -> Result<u64, Fault>
         Some(text) => decimal(text),
         None => clock.ok_or(Fault::Stream),
     }
+}
+
+/// The host's zone that the words have; UTC where they have none.
+pub fn zone_of(text: Option<&str>) -> Result<HostZone, Fault>
+    ensures ok { IfOk result (IsHostZone (option_copied text.entry)) }
+    ensures right { OnOk result (HasNoZone (option_copied text.entry) → ⊥) }
+    ensures fault { IfErr result (λ fault. fault ≡ Fault.BadArgument) }
+    ensures none { IfErr result (λ fault. HasNoZone (option_copied text.entry)) }
+{
+    match text {
+        Some(text) => HostZone::read(text.as_bytes()).ok_or(Fault::BadArgument),
+        None => Ok(HostZone::utc()),
+    }
+}
+
+/// The moment that the words have, or else the clock's, in seconds since 1970, and the host's zone at it.
+pub fn when_of(at: Option<&str>, zone: Option<&str>, clock: Option<u64>) -> Result<When, Fault>
+    ensures ok { IfOk result (IsWhen (option_copied at.entry) (option_copied zone.entry) clock) }
+    ensures right { OnOk result (HasNoWhen (option_copied at.entry) (option_copied zone.entry) → ⊥) }
+    ensures fault { IfErr result (λ fault. ((fault ≡ Fault.BadArgument) × HasNoWhen (option_copied at.entry) (option_copied zone.entry))
+        ⊎ ((fault ≡ Fault.Stream) × (option_copied at.entry ≡ None) × (clock ≡ None))) }
+{
+    let zone = zone_of(zone)?;
+    let moment = moment_of(at, clock)?;
+    Ok(When {
+        moment,
+        zone: zone.at(moment),
+    })
 }
 
 /// The envelope of these addresses.

@@ -1,5 +1,5 @@
 //! What other processes do to the daemon's store, as an entry names it.
-use mailengine::{Envelope, Event, Upkeep};
+use mailengine::{Envelope, Event, Upkeep, When};
 use octets::{Octets, parse_decimal};
 use std::alloc::{AllocError, Global};
 use wirefakes::schedule::{parse_text, split_word};
@@ -54,7 +54,8 @@ fn delivery(alloc: Global, text: &[u8]) -> Result<Option<Event>, AllocError> {
         user,
         envelope,
         message,
-        moment,
+        when: When::in_utc(moment),
+        default: None,
     }))
 }
 

@@ -13,8 +13,8 @@ returns-in-Ok-clause-answer c =
     let means = c.in-Ok.ensures.valid.1 in
     IfOk-weaker c.report.result
     (λ answer. answer ≡ Report (report_of (outcome_view c.in-Ok.outcome)))
-    (λ answer. (input : _) → IsFramed input c.args.script.now c.args.message.now → Answers c.args.envelope input answer)
-    (λ answer is input framed. subst (Answers c.args.envelope input) (sym is) (record {
+    (λ answer. (input : _) → IsFramed input c.args.script.now c.args.message.now → Answers c.args.envelope c.args.when input answer)
+    (λ answer is input framed. subst (Answers c.args.envelope c.args.when input) (sym is) (record {
       script = c.args.script.now;
       message = c.args.message.now;
       framed = framed;

@@ -4,6 +4,7 @@ use Rattle.sievedrun.specs.declared.fault.Fault.{Fault}
 use Rattle.sievedrun.specs.Draining.{HasRefused}
 use Rattle.sievedrun.specs.Serving.{HasDenied, HasGiven}
 use Rattle.sievedrun.specs.Words.{Does, Reaches}
+use Rattle.mailstore.specs.Cells.{contents}
 use Rattle.sievedrun.proofs.drive.act.Goals as goal
 
 both : (P Q : Type 0) (r : Result (Unit {0}) Fault) → OnOk r P → OnOk r Q → OnOk r (P × Q)
@@ -13,7 +14,7 @@ both P Q (Err fault) p q = tt
 pub returns-in-Init-clause-does : goal.returns-in-Init-clause-does
 returns-in-Init-clause-does g c tells =
     let kept = g.T.MailSink.kept c.args.sink.now in
-    subst (λ asked. Does (HasDenied g.K.Keeper.refuses g.K.Keeper.will_wait) (HasRefused g.T.MailSink.refuses) c.args.clock c.args.random (g.R.Read.remaining c.args.input.now) (g.R.Read.remaining c.args.input.now) g.T.MailSink.tells kept kept (g.W.Write.contents c.args.output.now) (g.W.Write.contents c.run_init.new.output) asked c.run_init.result
+    subst (λ asked. Does (HasDenied g.K.Keeper.refuses g.K.Keeper.will_wait) (HasRefused g.T.MailSink.refuses) c.args.clock c.args.random (contents c.args.default) (g.R.Read.remaining c.args.input.now) (g.R.Read.remaining c.args.input.now) g.T.MailSink.tells kept kept (g.W.Write.contents c.args.output.now) (g.W.Write.contents c.run_init.new.output) asked c.run_init.result
     (g.K.Keeper.holds c.args.keeper.now) (g.K.Keeper.holds c.run_init.new.keeper)) (sym c.in-Init.is) (((λ told. refl), refl), c.run_init.ensures.does tells)
 
 pub returns-in-Init-clause-reaches : goal.returns-in-Init-clause-reaches
@@ -23,7 +24,7 @@ returns-in-Init-clause-reaches g c =
 pub returns-in-AddUser-clause-does : goal.returns-in-AddUser-clause-does
 returns-in-AddUser-clause-does g c tells =
     let kept = g.T.MailSink.kept c.args.sink.now in
-    subst (λ asked. Does (HasDenied g.K.Keeper.refuses g.K.Keeper.will_wait) (HasRefused g.T.MailSink.refuses) c.args.clock c.args.random (g.R.Read.remaining c.args.input.now) (g.R.Read.remaining c.run_adduser.new.input) g.T.MailSink.tells kept kept (g.W.Write.contents c.args.output.now) (g.W.Write.contents c.run_adduser.new.output) asked c.run_adduser.result
+    subst (λ asked. Does (HasDenied g.K.Keeper.refuses g.K.Keeper.will_wait) (HasRefused g.T.MailSink.refuses) c.args.clock c.args.random (contents c.args.default) (g.R.Read.remaining c.args.input.now) (g.R.Read.remaining c.run_adduser.new.input) g.T.MailSink.tells kept kept (g.W.Write.contents c.args.output.now) (g.W.Write.contents c.run_adduser.new.output) asked c.run_adduser.result
     (g.K.Keeper.holds c.args.keeper.now) (g.K.Keeper.holds c.run_adduser.new.keeper)) (sym c.in-AddUser.is) ((λ told. refl), c.run_adduser.ensures.does tells)
 
 pub returns-in-AddUser-clause-reaches : goal.returns-in-AddUser-clause-reaches
@@ -33,7 +34,7 @@ returns-in-AddUser-clause-reaches g c =
 pub returns-in-Users-clause-does : goal.returns-in-Users-clause-does
 returns-in-Users-clause-does g c tells =
     let kept = g.T.MailSink.kept c.args.sink.now in
-    subst (λ asked. Does (HasDenied g.K.Keeper.refuses g.K.Keeper.will_wait) (HasRefused g.T.MailSink.refuses) c.args.clock c.args.random (g.R.Read.remaining c.args.input.now) (g.R.Read.remaining c.args.input.now) g.T.MailSink.tells kept kept (g.W.Write.contents c.args.output.now) (g.W.Write.contents c.run_users.new.output) asked c.run_users.result
+    subst (λ asked. Does (HasDenied g.K.Keeper.refuses g.K.Keeper.will_wait) (HasRefused g.T.MailSink.refuses) c.args.clock c.args.random (contents c.args.default) (g.R.Read.remaining c.args.input.now) (g.R.Read.remaining c.args.input.now) g.T.MailSink.tells kept kept (g.W.Write.contents c.args.output.now) (g.W.Write.contents c.run_users.new.output) asked c.run_users.result
     (g.K.Keeper.holds c.args.keeper.now) (g.K.Keeper.holds c.run_users.new.keeper)) (sym c.in-Users.is) (((λ told. refl), refl), c.run_users.ensures.does tells)
 
 pub returns-in-Users-clause-reaches : goal.returns-in-Users-clause-reaches
@@ -43,7 +44,7 @@ returns-in-Users-clause-reaches g c =
 pub returns-in-Passwd-clause-does : goal.returns-in-Passwd-clause-does
 returns-in-Passwd-clause-does g c tells =
     let kept = g.T.MailSink.kept c.args.sink.now in
-    subst (λ asked. Does (HasDenied g.K.Keeper.refuses g.K.Keeper.will_wait) (HasRefused g.T.MailSink.refuses) c.args.clock c.args.random (g.R.Read.remaining c.args.input.now) (g.R.Read.remaining c.run_passwd.new.input) g.T.MailSink.tells kept kept (g.W.Write.contents c.args.output.now) (g.W.Write.contents c.run_passwd.new.output) asked c.run_passwd.result
+    subst (λ asked. Does (HasDenied g.K.Keeper.refuses g.K.Keeper.will_wait) (HasRefused g.T.MailSink.refuses) c.args.clock c.args.random (contents c.args.default) (g.R.Read.remaining c.args.input.now) (g.R.Read.remaining c.run_passwd.new.input) g.T.MailSink.tells kept kept (g.W.Write.contents c.args.output.now) (g.W.Write.contents c.run_passwd.new.output) asked c.run_passwd.result
     (g.K.Keeper.holds c.args.keeper.now) (g.K.Keeper.holds c.run_passwd.new.keeper)) (sym c.in-Passwd.is) ((λ told. refl), c.run_passwd.ensures.does tells)
 
 pub returns-in-Passwd-clause-reaches : goal.returns-in-Passwd-clause-reaches
@@ -53,7 +54,7 @@ returns-in-Passwd-clause-reaches g c =
 pub returns-in-Address-clause-does : goal.returns-in-Address-clause-does
 returns-in-Address-clause-does g c tells =
     let kept = g.T.MailSink.kept c.args.sink.now in
-    subst (λ asked. Does (HasDenied g.K.Keeper.refuses g.K.Keeper.will_wait) (HasRefused g.T.MailSink.refuses) c.args.clock c.args.random (g.R.Read.remaining c.args.input.now) (g.R.Read.remaining c.args.input.now) g.T.MailSink.tells kept kept (g.W.Write.contents c.args.output.now) (g.W.Write.contents c.run_address.new.output) asked c.run_address.result
+    subst (λ asked. Does (HasDenied g.K.Keeper.refuses g.K.Keeper.will_wait) (HasRefused g.T.MailSink.refuses) c.args.clock c.args.random (contents c.args.default) (g.R.Read.remaining c.args.input.now) (g.R.Read.remaining c.args.input.now) g.T.MailSink.tells kept kept (g.W.Write.contents c.args.output.now) (g.W.Write.contents c.run_address.new.output) asked c.run_address.result
     (g.K.Keeper.holds c.args.keeper.now) (g.K.Keeper.holds c.run_address.new.keeper)) (sym c.in-Address.is) (((λ told. refl), refl), c.run_address.ensures.does tells)
 
 pub returns-in-Address-clause-reaches : goal.returns-in-Address-clause-reaches
@@ -63,7 +64,7 @@ returns-in-Address-clause-reaches g c =
 pub returns-in-Scripts-clause-does : goal.returns-in-Scripts-clause-does
 returns-in-Scripts-clause-does g c tells =
     let kept = g.T.MailSink.kept c.args.sink.now in
-    subst (λ asked. Does (HasDenied g.K.Keeper.refuses g.K.Keeper.will_wait) (HasRefused g.T.MailSink.refuses) c.args.clock c.args.random (g.R.Read.remaining c.args.input.now) (g.R.Read.remaining c.args.input.now) g.T.MailSink.tells kept kept (g.W.Write.contents c.args.output.now) (g.W.Write.contents c.run_scripts.new.output) asked c.run_scripts.result
+    subst (λ asked. Does (HasDenied g.K.Keeper.refuses g.K.Keeper.will_wait) (HasRefused g.T.MailSink.refuses) c.args.clock c.args.random (contents c.args.default) (g.R.Read.remaining c.args.input.now) (g.R.Read.remaining c.args.input.now) g.T.MailSink.tells kept kept (g.W.Write.contents c.args.output.now) (g.W.Write.contents c.run_scripts.new.output) asked c.run_scripts.result
     (g.K.Keeper.holds c.args.keeper.now) (g.K.Keeper.holds c.run_scripts.new.keeper)) (sym c.in-Scripts.is) (((λ told. refl), refl), c.run_scripts.ensures.does tells)
 
 pub returns-in-Scripts-clause-reaches : goal.returns-in-Scripts-clause-reaches
@@ -73,7 +74,7 @@ returns-in-Scripts-clause-reaches g c =
 pub returns-in-Put-clause-does : goal.returns-in-Put-clause-does
 returns-in-Put-clause-does g c tells =
     let kept = g.T.MailSink.kept c.args.sink.now in
-    subst (λ asked. Does (HasDenied g.K.Keeper.refuses g.K.Keeper.will_wait) (HasRefused g.T.MailSink.refuses) c.args.clock c.args.random (g.R.Read.remaining c.args.input.now) (g.R.Read.remaining c.run_put.new.input) g.T.MailSink.tells kept kept (g.W.Write.contents c.args.output.now) (g.W.Write.contents c.run_put.new.output) asked c.run_put.result
+    subst (λ asked. Does (HasDenied g.K.Keeper.refuses g.K.Keeper.will_wait) (HasRefused g.T.MailSink.refuses) c.args.clock c.args.random (contents c.args.default) (g.R.Read.remaining c.args.input.now) (g.R.Read.remaining c.run_put.new.input) g.T.MailSink.tells kept kept (g.W.Write.contents c.args.output.now) (g.W.Write.contents c.run_put.new.output) asked c.run_put.result
     (g.K.Keeper.holds c.args.keeper.now) (g.K.Keeper.holds c.run_put.new.keeper)) (sym c.in-Put.is) ((λ told. refl), c.run_put.ensures.does tells)
 
 pub returns-in-Put-clause-reaches : goal.returns-in-Put-clause-reaches
@@ -83,7 +84,7 @@ returns-in-Put-clause-reaches g c =
 pub returns-in-Open-clause-does : goal.returns-in-Open-clause-does
 returns-in-Open-clause-does g c tells =
     let kept = g.T.MailSink.kept c.args.sink.now in
-    subst (λ asked. Does (HasDenied g.K.Keeper.refuses g.K.Keeper.will_wait) (HasRefused g.T.MailSink.refuses) c.args.clock c.args.random (g.R.Read.remaining c.args.input.now) (g.R.Read.remaining c.args.input.now) g.T.MailSink.tells kept kept (g.W.Write.contents c.args.output.now) (g.W.Write.contents c.run_open.new.output) asked c.run_open.result
+    subst (λ asked. Does (HasDenied g.K.Keeper.refuses g.K.Keeper.will_wait) (HasRefused g.T.MailSink.refuses) c.args.clock c.args.random (contents c.args.default) (g.R.Read.remaining c.args.input.now) (g.R.Read.remaining c.args.input.now) g.T.MailSink.tells kept kept (g.W.Write.contents c.args.output.now) (g.W.Write.contents c.run_open.new.output) asked c.run_open.result
     (g.K.Keeper.holds c.args.keeper.now) (g.K.Keeper.holds c.run_open.new.keeper)) (sym c.in-Open.is) (((λ told. refl), refl), c.run_open.ensures.does tells)
 
 pub returns-in-Open-clause-reaches : goal.returns-in-Open-clause-reaches
@@ -93,7 +94,7 @@ returns-in-Open-clause-reaches g c =
 pub returns-in-Remove-clause-does : goal.returns-in-Remove-clause-does
 returns-in-Remove-clause-does g c tells =
     let kept = g.T.MailSink.kept c.args.sink.now in
-    subst (λ asked. Does (HasDenied g.K.Keeper.refuses g.K.Keeper.will_wait) (HasRefused g.T.MailSink.refuses) c.args.clock c.args.random (g.R.Read.remaining c.args.input.now) (g.R.Read.remaining c.args.input.now) g.T.MailSink.tells kept kept (g.W.Write.contents c.args.output.now) (g.W.Write.contents c.run_remove.new.output) asked c.run_remove.result
+    subst (λ asked. Does (HasDenied g.K.Keeper.refuses g.K.Keeper.will_wait) (HasRefused g.T.MailSink.refuses) c.args.clock c.args.random (contents c.args.default) (g.R.Read.remaining c.args.input.now) (g.R.Read.remaining c.args.input.now) g.T.MailSink.tells kept kept (g.W.Write.contents c.args.output.now) (g.W.Write.contents c.run_remove.new.output) asked c.run_remove.result
     (g.K.Keeper.holds c.args.keeper.now) (g.K.Keeper.holds c.run_remove.new.keeper)) (sym c.in-Remove.is) (((λ told. refl), refl), c.run_remove.ensures.does tells)
 
 pub returns-in-Remove-clause-reaches : goal.returns-in-Remove-clause-reaches
@@ -103,7 +104,7 @@ returns-in-Remove-clause-reaches g c =
 pub returns-in-Deliver-clause-does : goal.returns-in-Deliver-clause-does
 returns-in-Deliver-clause-does g c tells =
     let kept = g.T.MailSink.kept c.args.sink.now in
-    subst (λ asked. Does (HasDenied g.K.Keeper.refuses g.K.Keeper.will_wait) (HasRefused g.T.MailSink.refuses) c.args.clock c.args.random (g.R.Read.remaining c.args.input.now) (g.R.Read.remaining c.run_deliver.new.input) g.T.MailSink.tells kept kept (g.W.Write.contents c.args.output.now) (g.W.Write.contents c.run_deliver.new.output) asked c.run_deliver.result
+    subst (λ asked. Does (HasDenied g.K.Keeper.refuses g.K.Keeper.will_wait) (HasRefused g.T.MailSink.refuses) c.args.clock c.args.random (contents c.args.default) (g.R.Read.remaining c.args.input.now) (g.R.Read.remaining c.run_deliver.new.input) g.T.MailSink.tells kept kept (g.W.Write.contents c.args.output.now) (g.W.Write.contents c.run_deliver.new.output) asked c.run_deliver.result
     (g.K.Keeper.holds c.args.keeper.now) (g.K.Keeper.holds c.run_deliver.new.keeper)) (sym c.in-Deliver.is) ((λ told. refl), c.run_deliver.ensures.does tells)
 
 pub returns-in-Deliver-clause-reaches : goal.returns-in-Deliver-clause-reaches
@@ -113,7 +114,7 @@ returns-in-Deliver-clause-reaches g c =
 pub returns-in-Folders-clause-does : goal.returns-in-Folders-clause-does
 returns-in-Folders-clause-does g c tells =
     let kept = g.T.MailSink.kept c.args.sink.now in
-    subst (λ asked. Does (HasDenied g.K.Keeper.refuses g.K.Keeper.will_wait) (HasRefused g.T.MailSink.refuses) c.args.clock c.args.random (g.R.Read.remaining c.args.input.now) (g.R.Read.remaining c.args.input.now) g.T.MailSink.tells kept kept (g.W.Write.contents c.args.output.now) (g.W.Write.contents c.run_folders.new.output) asked c.run_folders.result
+    subst (λ asked. Does (HasDenied g.K.Keeper.refuses g.K.Keeper.will_wait) (HasRefused g.T.MailSink.refuses) c.args.clock c.args.random (contents c.args.default) (g.R.Read.remaining c.args.input.now) (g.R.Read.remaining c.args.input.now) g.T.MailSink.tells kept kept (g.W.Write.contents c.args.output.now) (g.W.Write.contents c.run_folders.new.output) asked c.run_folders.result
     (g.K.Keeper.holds c.args.keeper.now) (g.K.Keeper.holds c.run_folders.new.keeper)) (sym c.in-Folders.is) (((λ told. refl), refl), c.run_folders.ensures.does tells)
 
 pub returns-in-Folders-clause-reaches : goal.returns-in-Folders-clause-reaches
@@ -123,7 +124,7 @@ returns-in-Folders-clause-reaches g c =
 pub returns-in-Show-clause-does : goal.returns-in-Show-clause-does
 returns-in-Show-clause-does g c tells =
     let kept = g.T.MailSink.kept c.args.sink.now in
-    subst (λ asked. Does (HasDenied g.K.Keeper.refuses g.K.Keeper.will_wait) (HasRefused g.T.MailSink.refuses) c.args.clock c.args.random (g.R.Read.remaining c.args.input.now) (g.R.Read.remaining c.args.input.now) g.T.MailSink.tells kept kept (g.W.Write.contents c.args.output.now) (g.W.Write.contents c.run_show.new.output) asked c.run_show.result
+    subst (λ asked. Does (HasDenied g.K.Keeper.refuses g.K.Keeper.will_wait) (HasRefused g.T.MailSink.refuses) c.args.clock c.args.random (contents c.args.default) (g.R.Read.remaining c.args.input.now) (g.R.Read.remaining c.args.input.now) g.T.MailSink.tells kept kept (g.W.Write.contents c.args.output.now) (g.W.Write.contents c.run_show.new.output) asked c.run_show.result
     (g.K.Keeper.holds c.args.keeper.now) (g.K.Keeper.holds c.run_show.new.keeper)) (sym c.in-Show.is) (((λ told. refl), refl), c.run_show.ensures.does tells)
 
 pub returns-in-Show-clause-reaches : goal.returns-in-Show-clause-reaches
@@ -133,7 +134,7 @@ returns-in-Show-clause-reaches g c =
 pub returns-in-Queue-clause-does : goal.returns-in-Queue-clause-does
 returns-in-Queue-clause-does g c tells =
     let kept = g.T.MailSink.kept c.args.sink.now in
-    subst (λ asked. Does (HasDenied g.K.Keeper.refuses g.K.Keeper.will_wait) (HasRefused g.T.MailSink.refuses) c.args.clock c.args.random (g.R.Read.remaining c.args.input.now) (g.R.Read.remaining c.args.input.now) g.T.MailSink.tells kept kept (g.W.Write.contents c.args.output.now) (g.W.Write.contents c.run_queue.new.output) asked c.run_queue.result
+    subst (λ asked. Does (HasDenied g.K.Keeper.refuses g.K.Keeper.will_wait) (HasRefused g.T.MailSink.refuses) c.args.clock c.args.random (contents c.args.default) (g.R.Read.remaining c.args.input.now) (g.R.Read.remaining c.args.input.now) g.T.MailSink.tells kept kept (g.W.Write.contents c.args.output.now) (g.W.Write.contents c.run_queue.new.output) asked c.run_queue.result
     (g.K.Keeper.holds c.args.keeper.now) (g.K.Keeper.holds c.run_queue.new.keeper)) (sym c.in-Queue.is) (((λ told. refl), refl), c.run_queue.ensures.does tells)
 
 pub returns-in-Queue-clause-reaches : goal.returns-in-Queue-clause-reaches
@@ -143,7 +144,7 @@ returns-in-Queue-clause-reaches g c =
 pub returns-in-Done-clause-does : goal.returns-in-Done-clause-does
 returns-in-Done-clause-does g c tells =
     let kept = g.T.MailSink.kept c.args.sink.now in
-    subst (λ asked. Does (HasDenied g.K.Keeper.refuses g.K.Keeper.will_wait) (HasRefused g.T.MailSink.refuses) c.args.clock c.args.random (g.R.Read.remaining c.args.input.now) (g.R.Read.remaining c.args.input.now) g.T.MailSink.tells kept kept (g.W.Write.contents c.args.output.now) (g.W.Write.contents c.run_done.new.output) asked c.run_done.result
+    subst (λ asked. Does (HasDenied g.K.Keeper.refuses g.K.Keeper.will_wait) (HasRefused g.T.MailSink.refuses) c.args.clock c.args.random (contents c.args.default) (g.R.Read.remaining c.args.input.now) (g.R.Read.remaining c.args.input.now) g.T.MailSink.tells kept kept (g.W.Write.contents c.args.output.now) (g.W.Write.contents c.run_done.new.output) asked c.run_done.result
     (g.K.Keeper.holds c.args.keeper.now) (g.K.Keeper.holds c.run_done.new.keeper)) (sym c.in-Done.is) (((λ told. refl), refl), c.run_done.ensures.does tells)
 
 pub returns-in-Done-clause-reaches : goal.returns-in-Done-clause-reaches
@@ -153,7 +154,7 @@ returns-in-Done-clause-reaches g c =
 pub returns-in-Notices-clause-does : goal.returns-in-Notices-clause-does
 returns-in-Notices-clause-does g c tells =
     let kept = g.T.MailSink.kept c.args.sink.now in
-    subst (λ asked. Does (HasDenied g.K.Keeper.refuses g.K.Keeper.will_wait) (HasRefused g.T.MailSink.refuses) c.args.clock c.args.random (g.R.Read.remaining c.args.input.now) (g.R.Read.remaining c.args.input.now) g.T.MailSink.tells kept kept (g.W.Write.contents c.args.output.now) (g.W.Write.contents c.run_notices.new.output) asked c.run_notices.result
+    subst (λ asked. Does (HasDenied g.K.Keeper.refuses g.K.Keeper.will_wait) (HasRefused g.T.MailSink.refuses) c.args.clock c.args.random (contents c.args.default) (g.R.Read.remaining c.args.input.now) (g.R.Read.remaining c.args.input.now) g.T.MailSink.tells kept kept (g.W.Write.contents c.args.output.now) (g.W.Write.contents c.run_notices.new.output) asked c.run_notices.result
     (g.K.Keeper.holds c.args.keeper.now) (g.K.Keeper.holds c.run_notices.new.keeper)) (sym c.in-Notices.is) (((λ told. refl), refl), c.run_notices.ensures.does tells)
 
 pub returns-in-Notices-clause-reaches : goal.returns-in-Notices-clause-reaches
@@ -163,7 +164,7 @@ returns-in-Notices-clause-reaches g c =
 pub returns-in-Drain-clause-does : goal.returns-in-Drain-clause-does
 returns-in-Drain-clause-does g c tells =
     let kept = g.T.MailSink.kept c.args.sink.now in
-    subst (λ asked. Does (HasDenied g.K.Keeper.refuses g.K.Keeper.will_wait) (HasRefused g.T.MailSink.refuses) c.args.clock c.args.random (g.R.Read.remaining c.args.input.now) (g.R.Read.remaining c.args.input.now) g.T.MailSink.tells kept (g.T.MailSink.kept c.run_drain.new.sink) (g.W.Write.contents c.args.output.now) (g.W.Write.contents c.run_drain.new.output) asked c.run_drain.result
+    subst (λ asked. Does (HasDenied g.K.Keeper.refuses g.K.Keeper.will_wait) (HasRefused g.T.MailSink.refuses) c.args.clock c.args.random (contents c.args.default) (g.R.Read.remaining c.args.input.now) (g.R.Read.remaining c.args.input.now) g.T.MailSink.tells kept (g.T.MailSink.kept c.run_drain.new.sink) (g.W.Write.contents c.args.output.now) (g.W.Write.contents c.run_drain.new.output) asked c.run_drain.result
     (g.K.Keeper.holds c.args.keeper.now) (g.K.Keeper.holds c.run_drain.new.keeper)) (sym c.in-Drain.is) (refl, c.run_drain.ensures.drains tells)
 
 pub returns-in-Drain-clause-reaches : goal.returns-in-Drain-clause-reaches

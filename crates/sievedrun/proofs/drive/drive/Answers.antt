@@ -8,6 +8,7 @@ use Rattle.sievedrun.specs.Serving.{HasDenied, HasGiven}
 use Rattle.sievedrun.specs.Words.{Does}
 use Rattle.sievedrun.proofs.RunLemmas.{ran}
 use Rattle.sievedrun.proofs.StatusLemmas.{done_so}
+use Rattle.mailstore.specs.Cells.{contents}
 use Rattle.sievedrun.proofs.drive.drive.Goals as goal
 
 pub returns-in_default : goal.returns-in_default
@@ -28,13 +29,13 @@ returns-in_default g c =
       runs = λ tells. (
         Ok asked,
         subst (WasRead c.args.words.now) c.in-Ok.is c.read.ensures,
-        ran Denied (HasRefused g.T.MailSink.refuses) (HasGiven g.K.Keeper.gives g.K.Keeper.will_wait) (g.T.MailSink.is_at c.act-done.new.sink) (cause_of (g.K.Keeper.said c.conclude.new.keeper) (text_said (g.T.MailSink.said c.act-done.new.sink))) c.args.clock c.args.random given (g.R.Read.remaining c.act-done.new.input) g.T.MailSink.tells had has out_old out_new (g.E.Write.contents c.args.errors.now) (g.E.Write.contents c.conclude.new.errors) c.conclude.result held
+        ran Denied (HasRefused g.T.MailSink.refuses) (HasGiven g.K.Keeper.gives g.K.Keeper.will_wait) (g.T.MailSink.is_at c.act-done.new.sink) (cause_of (g.K.Keeper.said c.conclude.new.keeper) (text_said (g.T.MailSink.said c.act-done.new.sink))) c.args.clock c.args.random (contents c.args.default) given (g.R.Read.remaining c.act-done.new.input) g.T.MailSink.tells had has out_old out_new (g.E.Write.contents c.args.errors.now) (g.E.Write.contents c.conclude.new.errors) c.conclude.result held
             (g.K.Keeper.holds c.conclude.new.keeper) asked c.in_default.not-Try (record {
               ending = c.act-done.result;
               ended = told.status;
               unclosed = g.K.Keeper.unclosed c.act-done.new.keeper;
               told = told.told;
-              did = subst (Does Denied (HasRefused g.T.MailSink.refuses) c.args.clock c.args.random given (g.R.Read.remaining c.act-done.new.input) g.T.MailSink.tells had has out_old out_new asked c.act-done.result held) (sym (told.same tells)) (c.act-done.ensures.does tells);
+              did = subst (Does Denied (HasRefused g.T.MailSink.refuses) c.args.clock c.args.random (contents c.args.default) given (g.R.Read.remaining c.act-done.new.input) g.T.MailSink.tells had has out_old out_new asked c.act-done.result held) (sym (told.same tells)) (c.act-done.ensures.does tells);
               reached = c.act-done.ensures.reaches;
             }),
       );

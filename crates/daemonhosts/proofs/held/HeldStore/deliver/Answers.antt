@@ -5,28 +5,29 @@ use Rattle.mailengine.specs.declared.answer.Answer.TheVariants.{Delivered, Refus
 use Rattle.sieveddaemon.specs.Desk.{delivery_of}
 use Rattle.daemonhosts.specs.Held.{Shows, ShowsBy}
 use Rattle.daemonhosts.proofs.HeldLemmas.{done_alone, delivered_as, delivered_crash}
+use Rattle.mailengine.specs.Terms.{terms_of}
 use Rattle.daemonhosts.proofs.held.HeldStore.deliver.Goals as goal
 
 pub returns-in-Ok-deliver : goal.returns-in-Ok-deliver
 returns-in-Ok-deliver g c = λ kept clean.
-    done_alone g.K.S.Store (Shows g.K.S.Store g.K.Keeper.tells g.K.Keeper.holds) c.args.self.now _ (delivery_of c.args.parcel.now c.args.moment) (Delivered c.in-Ok-deliver.report) c.in-Some.store c.deliver.new.store kept kept
+    done_alone g.K.S.Store (Shows g.K.S.Store g.K.Keeper.tells g.K.Keeper.holds) c.args.self.now _ (delivery_of c.args.parcel.now (terms_of c.args.when c.args.default)) (Delivered c.in-Ok-deliver.report) c.in-Some.store c.deliver.new.store kept kept
     (λ tried accounts shown. subst (λ o. ShowsBy g.K.S.Store g.K.Keeper.tells tried (g.K.Keeper.holds c.args.self.now.keeper) o accounts) c.in-Some.is shown)
     (λ tried accounts shown. shown)
     clean
     (c.in-Ok-deliver.ensures.acts.shut clean)
-    (delivered_crash c.args.parcel.now c.args.moment c.as_slice-user.result.now c.as_slice-message.result.now c.in-Ok.envelope (state g.K.S.Store c.in-Some.store) (state g.K.S.Store c.deliver.new.store) kept (Ok c.in-Ok-deliver.report)
+    (delivered_crash c.args.parcel.now (terms_of c.args.when c.args.default) c.as_slice-user.result.now c.as_slice-message.result.now c.in-Ok.envelope (state g.K.S.Store c.in-Some.store) (state g.K.S.Store c.deliver.new.store) kept (Ok c.in-Ok-deliver.report)
     c.as_slice-user.ensures c.in-Ok.ensures c.as_slice-message.ensures c.in-Ok-deliver.ensures.acts)
-    (delivered_as c.args.parcel.now c.args.moment c.as_slice-user.result.now c.as_slice-message.result.now c.in-Ok.envelope (state g.K.S.Store c.in-Some.store) (state g.K.S.Store c.deliver.new.store) kept (Ok c.in-Ok-deliver.report)
+    (delivered_as c.args.parcel.now (terms_of c.args.when c.args.default) c.as_slice-user.result.now c.as_slice-message.result.now c.in-Ok.envelope (state g.K.S.Store c.in-Some.store) (state g.K.S.Store c.deliver.new.store) kept (Ok c.in-Ok-deliver.report)
     c.as_slice-user.ensures c.in-Ok.ensures c.as_slice-message.ensures c.in-Ok-deliver.ensures.acts)
 
 pub returns-in-Err : goal.returns-in-Err
 returns-in-Err g c = λ kept clean.
-    done_alone g.K.S.Store (Shows g.K.S.Store g.K.Keeper.tells g.K.Keeper.holds) c.args.self.now _ (delivery_of c.args.parcel.now c.args.moment) (Refused c.in-Err.refusal) c.in-Some.store c.deliver.new.store kept kept
+    done_alone g.K.S.Store (Shows g.K.S.Store g.K.Keeper.tells g.K.Keeper.holds) c.args.self.now _ (delivery_of c.args.parcel.now (terms_of c.args.when c.args.default)) (Refused c.in-Err.refusal) c.in-Some.store c.deliver.new.store kept kept
     (λ tried accounts shown. subst (λ o. ShowsBy g.K.S.Store g.K.Keeper.tells tried (g.K.Keeper.holds c.args.self.now.keeper) o accounts) c.in-Some.is shown)
     (λ tried accounts shown. shown)
     clean
     (c.in-Err.ensures.acts.shut clean)
-    (delivered_crash c.args.parcel.now c.args.moment c.as_slice-user.result.now c.as_slice-message.result.now c.in-Ok.envelope (state g.K.S.Store c.in-Some.store) (state g.K.S.Store c.deliver.new.store) kept (Err c.in-Err.refusal)
+    (delivered_crash c.args.parcel.now (terms_of c.args.when c.args.default) c.as_slice-user.result.now c.as_slice-message.result.now c.in-Ok.envelope (state g.K.S.Store c.in-Some.store) (state g.K.S.Store c.deliver.new.store) kept (Err c.in-Err.refusal)
     c.as_slice-user.ensures c.in-Ok.ensures c.as_slice-message.ensures c.in-Err.ensures.acts)
-    (delivered_as c.args.parcel.now c.args.moment c.as_slice-user.result.now c.as_slice-message.result.now c.in-Ok.envelope (state g.K.S.Store c.in-Some.store) (state g.K.S.Store c.deliver.new.store) kept (Err c.in-Err.refusal)
+    (delivered_as c.args.parcel.now (terms_of c.args.when c.args.default) c.as_slice-user.result.now c.as_slice-message.result.now c.in-Ok.envelope (state g.K.S.Store c.in-Some.store) (state g.K.S.Store c.deliver.new.store) kept (Err c.in-Err.refusal)
     c.as_slice-user.ensures c.in-Ok.ensures c.as_slice-message.ensures c.in-Err.ensures.acts)
