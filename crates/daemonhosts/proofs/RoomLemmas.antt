@@ -13,9 +13,9 @@ use Rattle.mailengine.specs.declared.answer.Answer.{Answer}
 use Rattle.mailengine.specs.declared.answer.Answer.TheVariants.{Refused}
 use Rattle.mailengine.specs.declared.event.Event.{Event}
 use Rattle.mailengine.specs.declared.event.Event.TheVariants.{Deliver}
-use Rattle.mailmoves.specs.Enduring.{AreTried, refused_of}
+use Rattle.mailmoves.specs.Enduring.{ShowsMade, ShowsTried}
 use Rattle.mailposts.specs.declared.demand.Parcel.{Parcel}
-use Rattle.sieveddaemon.specs.Desk.{IsDone, delivery_of}
+use Rattle.sieveddaemon.specs.Desk.{View, IsDone, delivery_of}
 use Rattle.daemonhosts.specs.Held.{IsToldAs}
 
 -- no cause that is seen is the store's
@@ -58,13 +58,12 @@ lacks_next w next user moment envelope message (inr refused) =
     inr (record { refusal = Memory; may = subst (λ r. MayRefuse w (Deliver user envelope message moment) r) same refused.may; refused = refl; stays = refused.stays })
 
 -- so what is told of it is an answer to the same event
-pub told_done : {R : Type 0} (shows : List Event → R → Accounts → Type 0) (parcel : Parcel) (moment : ℕ) (answer told : Answer) (r q : R) (kept : Kept) → IsToldAs answer told
-    → IsDone shows [] (delivery_of parcel moment) answer r kept q kept → IsDone shows [] (delivery_of parcel moment) told r kept q kept
-told_done shows parcel moment answer told r q kept (inl same) done = subst (λ a. IsDone shows [] (delivery_of parcel moment) a r kept q kept) (sym same) done
-told_done shows parcel moment answer told r q kept (inr (was, is)) done =
-    subst (λ a. IsDone shows [] (delivery_of parcel moment) a r kept q kept) (sym is) (λ tried are w at.
-    let it = done tried (subst (λ a. AreTried tried (refused_of (delivery_of parcel moment) a)) (sym was) are) w at in
-    let ours = subst (λ a. Next it.1.between (delivery_of parcel moment) a it.0) was it.1.ours in
+pub told_done : {R : Type 0} (view : View R) (parcel : Parcel) (moment : ℕ) (answer told : Answer) (r q : R) (kept : Kept) → IsToldAs answer told
+    → IsDone view [] (delivery_of parcel moment) answer r kept q kept → IsDone view [] (delivery_of parcel moment) told r kept q kept
+told_done view parcel moment answer told r q kept (inl same) done = subst (λ a. IsDone view [] (delivery_of parcel moment) a r kept q kept) (sym same) done
+told_done view parcel moment answer told r q kept (inr (was, is)) done =
+    subst (λ a. IsDone view [] (delivery_of parcel moment) a r kept q kept) (sym is) (λ w at.
+    let it = subst (λ a. IsDone view [] (delivery_of parcel moment) a r kept q kept) was done w at in
     let own : Envelope = record { from = parcel.sender; to = parcel.recipient } in (
       it.0,
       record {
@@ -73,7 +72,7 @@ told_done shows parcel moment answer told r q kept (inr (was, is)) done =
         between = it.1.between;
         theirs = it.1.theirs;
         apart = it.1.apart;
-        ours = lacks_next it.1.between it.0 parcel.user moment own parcel.message ours;
+        ours = lacks_next it.1.between it.0 parcel.user moment own parcel.message it.1.ours;
       },
-      it.2,
+      record { is = it.2.is; left = it.2.left },
     ))

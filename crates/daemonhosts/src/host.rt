@@ -4,7 +4,7 @@ ghost use Rattle.mailposts.specs.Posts.{IsFound};
 ghost use Rattle.mailengine.specs.Hosts.{IsGivenUp, Kept};
 ghost use Rattle.sieveddaemon.specs.Desk.{delivery_of};
 ghost use Rattle.wires.specs.Told.{IsOwn};
-ghost use Rattle.daemonhosts.specs.Held.{Shows, IsClean, StillShown, Brings, Goes, HasMail, IsToldAs, Seeks};
+ghost use Rattle.daemonhosts.specs.Held.{view_of, IsClean, StillShown, Brings, Goes, HasMail, IsToldAs, Seeks};
 ghost use Rattle.sieveddaemon.specs.Moves.{HasKept};
 
 use crate::held::HeldStore;
@@ -364,12 +364,8 @@ impl<N: Net + time::Clock, E: Write + Drop, K: Keeper + Drop, T: MailSink + Drop
 impl<N: Net + time::Clock, E: Write + Drop, K: Keeper + Drop, T: MailSink + Drop> Desk
     for Host<'_, N, E, K, T> {
     ghost use Rattle.keepers.specs.Laws.{never_told};
-    ghost use Rattle.daemonhosts.specs.Held.{Leaves};
-    ghost use Rattle.daemonhosts.specs.Laws.{crash_leaves};
 
-    ghost shows = { Shows K.S.Store K.tells K.holds };
-
-    ghost leaves = { Leaves K.S.Store };
+    ghost view = { view_of K.S.Store K.tells K.holds };
 
     ghost clean = { IsClean K.S.Store K.tells };
 
@@ -443,8 +439,6 @@ impl<N: Net + time::Clock, E: Write + Drop, K: Keeper + Drop, T: MailSink + Drop
         }
         gives
     }
-
-    ghost left = { λ tried held accounts shown trees left. crash_leaves _ _ left shown };
 
     ghost sure = { λ desk told. never_told told };
 }
