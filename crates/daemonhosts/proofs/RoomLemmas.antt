@@ -5,6 +5,7 @@ use Rattle.mailstore.specs.Account.{Account, Accounts, open_of, is_removed}
 use Rattle.mailstore.specs.declared.refusal.Refusal.{Refusal}
 use Rattle.mailstore.specs.declared.refusal.Refusal.TheVariants.{Memory, Store, NoUser, AccountClosed, TooLarge, BadEnvelope, BadMoment}
 use Rattle.sieveexec.specs.declared.envelope.Envelope.{Envelope}
+use Rattle.sqlite.specs.declared.error.ErrorCode.{ErrorCode}
 use Rattle.mailengine.specs.AccountEvents.{absence, DeliversIn, DeliversUnder}
 use Rattle.mailengine.specs.Hosts.{Kept}
 use Rattle.mailengine.specs.Limits.{limit_refusal}
@@ -13,10 +14,10 @@ use Rattle.mailengine.specs.declared.answer.Answer.{Answer}
 use Rattle.mailengine.specs.declared.answer.Answer.TheVariants.{Refused}
 use Rattle.mailengine.specs.declared.event.Event.{Event}
 use Rattle.mailengine.specs.declared.event.Event.TheVariants.{Deliver}
-use Rattle.mailmoves.specs.Enduring.{ShowsMade, ShowsTried}
 use Rattle.mailposts.specs.declared.demand.Parcel.{Parcel}
 use Rattle.sieveddaemon.specs.Desk.{View, IsDone, delivery_of}
-use Rattle.daemonhosts.specs.Held.{IsToldAs}
+use Rattle.daemonhosts.specs.Events.{is_full}
+use Rattle.daemonhosts.specs.Held.{lacking, told_by, IsToldAs}
 
 -- no cause that is seen is the store's
 abbrev is_seen : Refusal → Bool
@@ -58,12 +59,9 @@ lacks_next w next user moment envelope message (inr refused) =
     inr (record { refusal = Memory; may = subst (λ r. MayRefuse w (Deliver user envelope message moment) r) same refused.may; refused = refl; stays = refused.stays })
 
 -- so what is told of it is an answer to the same event
-pub told_done : {R : Type 0} (view : View R) (parcel : Parcel) (moment : ℕ) (answer told : Answer) (r q : R) (kept : Kept) → IsToldAs answer told
-    → IsDone view [] (delivery_of parcel moment) answer r kept q kept → IsDone view [] (delivery_of parcel moment) told r kept q kept
-told_done view parcel moment answer told r q kept (inl same) done = subst (λ a. IsDone view [] (delivery_of parcel moment) a r kept q kept) (sym same) done
-told_done view parcel moment answer told r q kept (inr (was, is)) done =
-    subst (λ a. IsDone view [] (delivery_of parcel moment) a r kept q kept) (sym is) (λ w at.
-    let it = subst (λ a. IsDone view [] (delivery_of parcel moment) a r kept q kept) was done w at in
+lacking_done : {R : Type 0} (view : View R) (parcel : Parcel) (moment : ℕ) (r q : R) (kept : Kept) → IsDone view [] (delivery_of parcel moment) (Refused Store) r kept q kept → IsDone view [] (delivery_of parcel moment) (Refused Memory) r kept q kept
+lacking_done view parcel moment r q kept done = λ w at.
+    let it = done w at in
     let own : Envelope = record { from = parcel.sender; to = parcel.recipient } in (
       it.0,
       record {
@@ -75,4 +73,23 @@ told_done view parcel moment answer told r q kept (inr (was, is)) done =
         ours = lacks_next it.1.between it.0 parcel.user moment own parcel.message it.1.ours;
       },
       record { is = it.2.is; left = it.2.left },
-    ))
+    )
+
+refused_done : {R : Type 0} (view : View R) (parcel : Parcel) (moment : ℕ) (refusal : Refusal) (r q : R) (kept : Kept) → IsDone view [] (delivery_of parcel moment) (Refused refusal) r kept q kept
+    → IsDone view [] (delivery_of parcel moment) (lacking (Refused refusal)) r kept q kept
+refused_done view parcel moment Store r q kept done = lacking_done view parcel moment r q kept done
+refused_done view parcel moment _ r q kept done = done
+
+lacking_by : {R : Type 0} (view : View R) (parcel : Parcel) (moment : ℕ) (answer : Answer) (r q : R) (kept : Kept) → IsDone view [] (delivery_of parcel moment) answer r kept q kept → IsDone view [] (delivery_of parcel moment) (lacking answer) r kept q kept
+lacking_by view parcel moment (Refused refusal) r q kept done = refused_done view parcel moment refusal r q kept done
+lacking_by view parcel moment _ r q kept done = done
+
+told_so : {R : Type 0} (view : View R) (parcel : Parcel) (moment : ℕ) (full : Bool) (answer : Answer) (r q : R) (kept : Kept) → IsDone view [] (delivery_of parcel moment) answer r kept q kept
+    → IsDone view [] (delivery_of parcel moment) (told_by full answer) r kept q kept
+told_so view parcel moment true answer r q kept done = lacking_by view parcel moment answer r q kept done
+told_so view parcel moment false answer r q kept done = done
+
+pub told_done : {R : Type 0} (view : View R) (parcel : Parcel) (moment : ℕ) (answer told : Answer) (code : Option ErrorCode) (r q : R) (kept : Kept) → IsToldAs answer code told
+    → IsDone view [] (delivery_of parcel moment) answer r kept q kept → IsDone view [] (delivery_of parcel moment) told r kept q kept
+told_done view parcel moment answer told code r q kept is done =
+    subst (λ a. IsDone view [] (delivery_of parcel moment) a r kept q kept) (sym is) (told_so view parcel moment (is_full code) answer r q kept done)

@@ -1,10 +1,11 @@
 -- What a store shows that is had now and then.
-use Rattle.std.specs.Prelude.{◌≡◌, ◌⊎◌, ℕ, Bool, false, List, [], Option, Some, None, IsTrue}
+use Rattle.std.specs.Prelude.{◌≡◌, ℕ, Bool, true, false, List, [], Option, Some, None, IsTrue}
 use Rattle.sqlite_trees.specs.Tree.{Trees}
 use Rattle.sqlite_trees.specs.declared.store.Store.{Ghosts}
 use Rattle.sqlite.specs.Effect.{Database}
 use Rattle.sqlite.specs.Held.{Held, state}
 use Rattle.sqlite.specs.State.{HasCleanDisk}
+use Rattle.sqlite.specs.declared.error.ErrorCode.{ErrorCode}
 use Rattle.lmtp.specs.declared.receiver.Lookup.{Lookup}
 use Rattle.mailstore.specs.Account.{Accounts}
 use Rattle.mailstore.specs.Shows.{Offers}
@@ -21,6 +22,7 @@ use Rattle.mailstore.specs.declared.refusal.Refusal.TheVariants.{Memory, Store}
 use Rattle.mailengine.specs.declared.event.Event.{Event}
 use Rattle.keepers.specs.declared.keeper.Unavailable.{Unavailable}
 use Rattle.sieveddaemon.specs.Desk.{View, StillShows, IsDone, NothingDone, IsFoundIn}
+use Rattle.daemonhosts.specs.Events.{is_full}
 use Rattle.daemonhosts.specs.declared.held.HeldStore.{HeldStore}
 
 -- while it is had the store shows the accounts; else they are those of its keeper's tables, and none can be claimed where it doesn't tell
@@ -58,9 +60,18 @@ Changes view clean event None r before q after = NothingDone view r before q aft
 abbrev pub Brings : {K S T : Type 0} → Ghosts S → Bool → (K → Database) → Event → Option Answer → HeldStore K T S → Kept → HeldStore K T S → Kept → Type 0
 Brings g tells holds event answer held before later after = Changes (view_of g tells holds) (IsClean g tells) event answer held before later after
 
--- a refusal of the store is told as it is, or as lack of memory (where its disk is full, which is read), and every other answer as it is
-abbrev pub IsToldAs : Answer → Answer → Type 0
-IsToldAs answer told = (told ≡ answer) ⊎ ((answer ≡ Refused Store) × (told ≡ Refused Memory))
+-- a store whose disk is full refuses as one that lacks memory
+abbrev pub lacking : Answer → Answer
+lacking (Refused Store) = Refused Memory
+lacking answer = answer
+
+-- how an answer is told: where SQLite said that the disk is full as lack of memory, and every other as it is
+abbrev pub told_by : Bool → Answer → Answer
+told_by true answer = lacking answer
+told_by false answer = answer
+
+abbrev pub IsToldAs : Answer → Option ErrorCode → Answer → Type 0
+IsToldAs answer code told = told ≡ told_by (is_full code) answer
 
 -- a keeper that waits for nobody refused the store at this path so
 abbrev pub DeniesAtOnce : {K : Type 0} → (K → List ℕ → Unavailable → Type 0) → (K → Bool) → List ℕ → Unavailable → Type 0

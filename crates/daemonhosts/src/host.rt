@@ -4,6 +4,8 @@ ghost use Rattle.mailposts.specs.Posts.{IsFound};
 ghost use Rattle.mailengine.specs.Hosts.{IsGivenUp, Kept};
 ghost use Rattle.sieveddaemon.specs.Desk.{delivery_of};
 ghost use Rattle.wires.specs.Told.{IsOwn};
+ghost use Rattle.daemonhosts.specs.Events as events;
+ghost use Rattle.daemonhosts.specs.Held as held;
 ghost use Rattle.daemonhosts.specs.Held.{view_of, IsClean, StillShown, Brings, Goes, HasMail, IsToldAs, Seeks};
 ghost use Rattle.sieveddaemon.specs.Moves.{HasKept};
 
@@ -234,16 +236,31 @@ impl<'a, N: Net + time::Clock, E: Write + Drop, K: Keeper + Drop, T: MailSink + 
 
 /// The answer to a delivery, as it is told: of a store whose disk is full as of one that lacks memory.
 fn told_as(answer: Answer, code: Option<ErrorCode>) -> Answer
-    ensures { IsToldAs answer result }
+    ensures { IsToldAs answer code result }
+{
+    if is_full(code) {
+        lacking(answer)
+    } else {
+        answer
+    }
+}
+
+/// Whether SQLite said that the disk is full.
+fn is_full(code: Option<ErrorCode>) -> bool
+    ensures { result ≡ events.is_full code }
+{
+    match code {
+        Some(ErrorCode::DiskFull) => true,
+        _ => false,
+    }
+}
+
+/// A refusal of the store as one for lack of memory, and any other answer as it is.
+fn lacking(answer: Answer) -> Answer
+    ensures { result ≡ held.lacking answer }
 {
     match answer {
-        Answer::Refused(Refusal::Store) => {
-            if code == Some(ErrorCode::DiskFull) {
-                Answer::Refused(Refusal::Memory)
-            } else {
-                Answer::Refused(Refusal::Store)
-            }
-        }
+        Answer::Refused(Refusal::Store) => Answer::Refused(Refusal::Memory),
         other => other,
     }
 }

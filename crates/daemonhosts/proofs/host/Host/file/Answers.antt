@@ -11,7 +11,7 @@ returns-in-Some g c = (
   c.seconds-moment.result,
   λ kept clean.
       let view = view_of g.K.S.Store g.K.Keeper.tells g.K.Keeper.holds in
-      told_done view c.args.parcel.now c.seconds-moment.result c.in-Some.answer c.told_as.result c.args.self.now.held _ kept c.told_as.ensures
+      told_done view c.args.parcel.now c.seconds-moment.result c.in-Some.answer c.told_as.result _ c.args.self.now.held _ kept c.told_as.ensures
       (done_behind view c.args.self.now.held c.reach.new.self.held c.deliver.new.self (delivery_of c.args.parcel.now c.seconds-moment.result) c.in-Some.answer kept kept
       (still_then view c.args.self.now.held c.may_ask.new.self.held c.reach.new.self.held c.may_ask.ensures.shown c.reach.ensures.shown) (c.in-Some.ensures kept clean)),
 )
