@@ -9,7 +9,7 @@ use Rattle.mailstore.specs.Connection.{IsSettled}
 use Rattle.sqlite_trees.specs.Tree.{Trees}
 use Rattle.sessions.specs.Acts.{HasAccounts}
 use Rattle.keepers.specs.Taken.{IsTaken}
-use Rattle.mailmoves.specs.Enduring.{MayLeave, none_tried, leaves_of}
+use Rattle.mailmoves.specs.Enduring.{MayLeave, ShowsTried, none_tried, leaves_of}
 use Rattle.mailmoves.proofs.EnduringLemmas.{left_alone, left_then, settled_left, event_endures}
 use Rattle.lmtp.specs.declared.receiver.Lookup.{Lookup}
 use Rattle.mailstore.specs.declared.refusal.Refusal.{Refusal}
@@ -79,7 +79,7 @@ pub done_behind : {R : Type 0} (view : View R) (r m q : R) (event : Event) (answ
 done_behind view r m q event answer before after still done = λ w at.
     let here = still w.accounts at.shown in
     let it = done w (record { shown = here.0; sessions = at.sessions }) in
-    (it.0, it.1, record { is = it.2.is; left = left_then (view.leaves r) (view.leaves m) (view.leaves q) w.accounts w.accounts it.0.accounts _ here.1 it.2.left })
+    (it.0, it.1, record { is = it.2.is; left = left_then (view.leaves r) (view.leaves m) (view.leaves q) w.accounts w.accounts it.0.accounts (ShowsTried event answer it.1.between) here.1 it.2.left })
 
 -- nothing was done behind such a call
 pub nothing_behind : {R : Type 0} (view : View R) (r m q : R) (before after : Kept) → StillShows view r m → NothingDone view m before q after → NothingDone view r before q after

@@ -14,7 +14,7 @@ use Rattle.mailengine.specs.declared.answer.Answer.TheVariants.{MailTaken}
 use Rattle.mailengine.specs.declared.event.Event.TheVariants.{TakeMail}
 use Rattle.mailengine.specs.World.{World}
 use Rattle.mailengine.specs.declared.answer.Answer.{Answer}
-use Rattle.mailmoves.specs.Enduring.{Endures, ShowsTried, none_tried}
+use Rattle.mailmoves.specs.Enduring.{Endures, ShowsTried, leaves_of, none_tried}
 use Rattle.mailmoves.specs.Moving.{IsFirst, TakesFirst, MovesFirst, Moves, TriedMoving, MovesOn, WasClean, IsStill}
 use Rattle.mailsinks.specs.declared.kept.KeptMail.{KeptMail}
 use Rattle.mailmoves.specs.declared.moving.Kept.{Kept}
@@ -40,14 +40,14 @@ still_moves (moving.Stays stay) accounts is = refl
 still_moves (moving.Kept mail answer) accounts is = absurd is
 
 pub still_on : (m : Moving) (a : State) → IsStill m → MovesOn m a a
-still_on m a is clean w shown = (w.accounts, still_moves m w.accounts is, record { shown = shown; left = left_alone _ w.accounts (TriedMoving m w) })
+still_on m a is clean w shown = (w.accounts, still_moves m w.accounts is, record { shown = shown; left = left_alone (leaves_of a) w.accounts (TriedMoving m w) })
 
 -- a move behind a read
 pub moves_behind : {X E : Type 0} (m : Moving) (a b c : State) (r : Result X E) → Keeps a b r → WasClean b c → MovesOn m b c → MovesOn m a c
 moves_behind m a b c r k was moves clean w shown =
     let read = read_endures a b r k (was clean) w.accounts shown in
     let it = moves clean w read.shown in
-    (it.0, it.1, record { shown = it.2.shown; left = left_then _ _ _ w.accounts w.accounts it.0 (TriedMoving m w) read.left it.2.left })
+    (it.0, it.1, record { shown = it.2.shown; left = left_then (leaves_of a) (leaves_of b) (leaves_of c) w.accounts w.accounts it.0 (TriedMoving m w) read.left it.2.left })
 
 pub still_then : {X E : Type 0} (m : Moving) (a b : State) (r : Result X E) → Keeps a b r → IsStill m → MovesOn m a b
 still_then m a b r k is = moves_behind m a b b r k (λ clean. clean) (still_on m b is)
@@ -57,7 +57,7 @@ pub failed_is : (user folder : List ℕ) (why : Why) (m : Moving) (a b : State) 
 failed_is user folder why m a b is moves clean w shown =
     let it = moves clean w shown in
     let stays : Endures a w.accounts b w.accounts none_tried = subst (λ later. Endures a w.accounts b later none_tried) it.1 it.2 in
-    (w.accounts, still_moves m w.accounts is, record { shown = stays.shown; left = left_weaker _ _ w.accounts w.accounts none_tried (TriedMoving m w) (λ trees none. absurd none) stays.left })
+    (w.accounts, still_moves m w.accounts is, record { shown = stays.shown; left = left_weaker (leaves_of a) (leaves_of b) w.accounts w.accounts none_tried (TriedMoving m w) (λ trees none. absurd none) stays.left })
 
 -- ---- one message
 module _ (user folder : List ℕ) (a b : State) (r : Result (Option NumberedMessage) Refusal) (first : Option NumberedMessage) (was : r ≡ Ok first)

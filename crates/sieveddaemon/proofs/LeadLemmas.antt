@@ -92,15 +92,15 @@ module _ {R : Type 0} (view : View R) (d e : MailDaemon) (r q : R) where
   Led w act more = (v : World) × Leads w act more v × ComesTo view r w (TriedHere w act v) q e.daemon.clients.sessions v
 
   -- the store is as it was
-  unchanged : {Tried : Trees → Type 0} → (accounts : Accounts) → q ≡ r → MayLeave (view.leaves r) accounts (view.leaves q) accounts Tried
-  unchanged {Tried} accounts left = subst (λ x. MayLeave (view.leaves r) accounts (view.leaves x) accounts Tried) (sym left) (left_alone (view.leaves r) accounts Tried)
+  unchanged : (Tried : Trees → Type 0) (accounts : Accounts) → q ≡ r → MayLeave (view.leaves r) accounts (view.leaves q) accounts Tried
+  unchanged Tried accounts left = subst (λ x. MayLeave (view.leaves r) accounts (view.leaves x) accounts Tried) (sym left) (left_alone (view.leaves r) accounts Tried)
 
-  untried : {Tried : Trees → Type 0} → (accounts later : Accounts) → MayLeave (view.leaves r) accounts (view.leaves q) later none_tried → MayLeave (view.leaves r) accounts (view.leaves q) later Tried
-  untried {Tried} accounts later left = left_weaker (view.leaves r) (view.leaves q) accounts later none_tried Tried (λ trees none. absurd none) left
+  untried : (Tried : Trees → Type 0) (accounts later : Accounts) → MayLeave (view.leaves r) accounts (view.leaves q) later none_tried → MayLeave (view.leaves r) accounts (view.leaves q) later Tried
+  untried Tried accounts later left = left_weaker (view.leaves r) (view.leaves q) accounts later none_tried Tried (λ trees none. absurd none) left
 
   -- nothing changed
   same : {Tried : Trees → Type 0} → (w : World) → IsWorld view r d.daemon.clients.sessions w → KeepsClients d.daemon.clients.sessions e.daemon.clients.sessions → q ≡ r → ComesTo view r w Tried q e.daemon.clients.sessions w
-  same w is keeps left = record { is = record { shown = subst (λ x. view.shows x w.accounts) (sym left) is.shown; sessions = keeps w.sessions is.sessions }; left = unchanged w.accounts left }
+  same w is keeps left = record { is = record { shown = subst (λ x. view.shows x w.accounts) (sym left) is.shown; sessions = keeps w.sessions is.sessions }; left = unchanged _ w.accounts left }
 
   kept_of : e.daemon ≡ d.daemon → KeepsClients d.daemon.clients.sessions e.daemon.clients.sessions
   kept_of is = subst (λ (k : Daemon). KeepsClients d.daemon.clients.sessions k.clients.sessions) (sym is) (λ clients has. has)
@@ -114,7 +114,7 @@ module _ {R : Type 0} (view : View R) (d e : MailDaemon) (r q : R) where
       let made = h.1 w is.sessions in (
         record { accounts = w.accounts; sessions = made.0 },
         (h.0, made.1),
-        record { is = record { shown = subst (λ x. view.shows x w.accounts) (sym left) is.shown; sessions = made.2 }; left = unchanged w.accounts left },
+        record { is = record { shown = subst (λ x. view.shows x w.accounts) (sym left) is.shown; sessions = made.2 }; left = unchanged _ w.accounts left },
       )
 
   made : (Tried : World → Trees → Type 0) (event : Event) (id : ℕ) (more : List (Act Note)) (w : World) → IsWorld view r d.daemon.clients.sessions w → Made event d.daemon e.daemon → q ≡ r
@@ -123,7 +123,7 @@ module _ {R : Type 0} (view : View R) (d e : MailDaemon) (r q : R) where
       let did = h.2 w is.sessions in (
         record { accounts = w.accounts; sessions = did.0 },
         (h.0, inl h.1, did.1),
-        record { is = record { shown = subst (λ x. view.shows x w.accounts) (sym left) is.shown; sessions = did.2 }; left = unchanged w.accounts left },
+        record { is = record { shown = subst (λ x. view.shows x w.accounts) (sym left) is.shown; sessions = did.2 }; left = unchanged _ w.accounts left },
       )
 
   -- what asks no store is the same whatever accounts there are
@@ -136,13 +136,13 @@ module _ {R : Type 0} (view : View R) (d e : MailDaemon) (r q : R) where
       subst (λ (c : Clients). Next (record w { accounts = accounts }) event answer (record { accounts = accounts; sessions = c })) (clients_one e.daemon.clients.sessions other.0 made.0 other.2 made.2) other.1 in (
         record { accounts = w.accounts; sessions = made.0 },
         (refl, any),
-        record { is = record { shown = (still w.accounts is.shown).0; sessions = made.2 }; left = untried w.accounts w.accounts (still w.accounts is.shown).1 },
+        record { is = record { shown = (still w.accounts is.shown).0; sessions = made.2 }; left = untried _ w.accounts w.accounts (still w.accounts is.shown).1 },
       )
 
   nothing : {Tried : Trees → Type 0} → (w : World) → IsWorld view r d.daemon.clients.sessions w → NothingDone view r d.daemon.clients.sessions q e.daemon.clients.sessions → ComesTo view r w Tried q e.daemon.clients.sessions w
   nothing w is none =
       let still = none.shown w.accounts is.shown in
-      record { is = record { shown = still.0; sessions = none.kept w.sessions is.sessions }; left = untried w.accounts w.accounts still.1 }
+      record { is = record { shown = still.0; sessions = none.kept w.sessions is.sessions }; left = untried _ w.accounts w.accounts still.1 }
 
   -- an event was brought
   abbrev LedBy : World → Note → Type 0
@@ -167,7 +167,7 @@ module _ {R : Type 0} (view : View R) (d e : MailDaemon) (r q : R) where
   -- what is done for a client of LMTP
   did : (note : Note) (deed : Deed) (w : World) → IsWorld view r d.daemon.clients.sessions w → IsDeed note deed → Stores view r d.daemon.clients.sessions note q e.daemon.clients.sessions → LedBy w note
   did (Did others event answer) deed w is told stores = done_so others event answer w is stores
-  did (Asked others user lookup) deed w is told stores = let it = stores w is in (it.0, it.1, record { is = it.2.is; left = untried w.accounts it.0.accounts it.2.left })
+  did (Asked others user lookup) deed w is told stores = let it = stores w is in (it.0, it.1, record { is = it.2.is; left = untried _ w.accounts it.0.accounts it.2.left })
   did Away deed w is told stores = (w, refl, nothing w is stores)
   did Answered deed w is told stores = (w, refl, nothing w is stores)
   did (Freed event answer) deed w is told stores = absurd told
@@ -183,7 +183,7 @@ module _ {R : Type 0} (view : View R) (d e : MailDaemon) (r q : R) where
   worked : (now : ℕ) (note : Note) (w : World) → IsWorld view r d.daemon.clients.sessions w → WorksBy view d.daemon r now note e.daemon.clients.sessions e.daemon.holding q → LedBy w note
   worked now (Looked wanted) w is works =
       let still = works.0 w.accounts is.shown in
-      (w, refl, record { is = record { shown = still.0; sessions = subst (λ (k : Kept). HasClients k w.sessions) (sym works.1) is.sessions }; left = untried w.accounts w.accounts still.1 })
+      (w, refl, record { is = record { shown = still.0; sessions = subst (λ (k : Kept). HasClients k w.sessions) (sym works.1) is.sessions }; left = untried _ w.accounts w.accounts still.1 })
   worked now (Moved others moving) w is works =
       let it = works.1 w is in
       (it.0, it.1, record { is = it.2.is; left = left_weaker (view.leaves r) (view.leaves q) w.accounts it.0.accounts (TriedAt others moving w it.0 it.1) (TriedBy w (Moved others moving) it.0) (moved_tried others moving w it.0 it.1) it.2.left })
