@@ -12,7 +12,7 @@ use Rattle.mailengine.specs.declared.answer.Answer.{Answer}
 use Rattle.mailengine.specs.declared.answer.Answer.TheVariants.{Out, Ignored}
 use Rattle.mailengine.specs.declared.event.Event.{Event}
 use Rattle.mailengine.specs.declared.event.Event.TheVariants.{Step, TakeMail}
-use Rattle.sieveddaemon.specs.Desk.{IsWorld}
+use Rattle.sieveddaemon.specs.Desk.{View, IsWorld}
 use Rattle.sieveddaemon.proofs.EventLemmas.{none_open}
 use Rattle.daemonfakes.specs.Shelves.{IsApplied, LetsOthers, is_of_accounts}
 
@@ -23,25 +23,25 @@ mail_taken user folder = refl
 a_step : (s : ℕ) → is_of_accounts (Step s) ≡ false
 a_step s = refl
 
--- accounts as they are
-abbrev are : List Event → Accounts → Accounts → Type 0
-are tried held accounts = held ≡ accounts
+-- accounts as they are, of which a crash leaves nothing
+abbrev are : View Accounts
+are = record { shows = λ held accounts. held ≡ accounts; leaves = λ held trees. ⊥ }
 
 module _ (kept : Kept) (new : kept.entries ≡ []) (a b : Accounts) where
   abbrev start : World
   start = record { accounts = a; sessions = empty }
 
-  stands : IsWorld (are []) a kept start
+  stands : IsWorld are a kept start
   stands = record { shown = refl; sessions = none_open kept new }
 
   -- where there is no session a step is ignored, and is no event that is done
   ignored : IsApplied are (Step 1) Ignored a kept a kept
-  ignored = λ tried among w is.
+  ignored = λ w is.
       let none : get w.sessions 1 ≡ None = sym (is.sessions 1) ∙ ap (λ es. option_map (λ session. session.client) (lookup (tree.is_at (nat_cmp 1)) es)) new in
-      (w, inl (subst (λ o. InSession w o (Steps w 1) Ignored w) (sym none) (record { ignored = refl; stays = refl })), is)
+      (w, inl (subst (λ o. InSession w o (Steps w 1) Ignored w) (sym none) (record { ignored = refl; stays = refl })), record { is = is; left = λ trees left. absurd left })
 
   never_done : IsApplied are (Step 1) (Out Done []) a kept b kept → ⊥
-  never_done applied = go (applied [] tt start stands).1
+  never_done applied = go (applied start stands).1
     where
       go : {next : World} → Next start (Step 1) (Out Done []) next → ⊥
       go {next} (inl is) =
@@ -50,10 +50,10 @@ module _ (kept : Kept) (new : kept.entries ≡ []) (a b : Accounts) where
       go {next} (inr is) = let never : ⊥ = let refused = is.refused in cc in absurd never
 
   -- where no event is told no account changes
-  same : LetsOthers are [] a kept b kept → b ≡ a
+  same : LetsOthers are [] a b → b ≡ a
   same lets =
-      let made = lets [] tt start stands in
-      made.2.shown ∙ ap (λ (w : World). w.accounts) (go made.0 made.1.told made.1.runs)
+      let made = lets start refl in
+      made.2 ∙ ap (λ (w : World). w.accounts) (go made.0 made.1.told made.1.runs)
     where
       go : (between : World) (told : List Answer) → Runs start [] told between → between ≡ start
       go between [] runs = runs

@@ -1,2 +1,3 @@
 mod Examples
+pub mod MemoryLemmas
 pub mod ShelfLemmas

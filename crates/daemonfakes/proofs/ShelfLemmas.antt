@@ -2,29 +2,27 @@
 use Rattle.std.proofs.Common.{◌≡◌, ℕ, inl, inr, true, List, [], ◌∷◌, ◌++◌, ◌∙◌, refl, sym, ap, subst}
 use Rattle.lmtp.specs.declared.receiver.Lookup.{Lookup}
 use Rattle.mailstore.specs.Account.{Accounts}
-use Rattle.mailengine.specs.Hosts.{Kept}
+use Rattle.mailengine.specs.Hosts.{Kept, HasClients}
 use Rattle.mailengine.specs.World.{World, Clients, Next}
 use Rattle.mailengine.specs.declared.answer.Answer.{Answer}
 use Rattle.mailengine.specs.declared.event.Event.{Event}
 use Rattle.mailengine.specs.declared.event.Event.TheVariants.{Deliver, AddUser, TakeOut, TakeMail, Keep}
-use Rattle.sieveddaemon.specs.Desk.{IsOthers, AreOthers, IsDone, IsAsked}
+use Rattle.sieveddaemon.specs.Desk.{View, StillShows, IsOthers, AreOthers, IsDone, IsAsked}
 use Rattle.sieveddaemon.proofs.EventLemmas.{runs_then, runs_one}
-use Rattle.std.specs.List.{Contains}
-use Rattle.mailmoves.specs.Enduring.{refused_of}
-use Rattle.mailmoves.specs.Moving.{refused_in}
-use Rattle.mailmoves.proofs.EnduringLemmas.{among_left, among_right, tried_anyhow}
+use Rattle.mailmoves.specs.Enduring.{MayLeave, ShowsTried, none_tried}
+use Rattle.mailmoves.proofs.EnduringLemmas.{left_alone, left_then}
 use Rattle.mailmoves.specs.declared.moving.Moving.{Moving}
 use Rattle.mailmoves.specs.declared.moving.Moving.TheVariants as moving
 use Rattle.mailsinks.specs.declared.kept.KeptMail.{KeptMail}
 use Rattle.sieveddaemon.specs.Moves.{HasKept, IsMoved}
 use Rattle.sieveddaemon.proofs.MoveLemmas.{moved_then}
-use Rattle.daemonfakes.specs.Shelves.{IsApplied, IsSought, IsMovedOn, LetsOthers, StillHas, is_of_accounts}
+use Rattle.daemonfakes.specs.Shelves.{IsApplied, IsLet, IsSought, IsMovedOn, LetsOthers, StillHas, is_of_accounts}
 
 -- no event
-pub lets_none : {S : Type 0} (holds : List Event → S → Accounts → Type 0) (s : S) (kept : Kept) → LetsOthers holds [] s kept s kept
-lets_none holds s kept = λ tried are w is. (w, record { strangers = tt; told = []; runs = refl; apart = refl }, is)
+pub lets_none : {S : Type 0} (view : View S) (s : S) → LetsOthers view [] s s
+lets_none view s = λ w shown. (w, record { strangers = tt; told = []; runs = refl; apart = refl }, shown, left_alone (view.leaves s) w.accounts none_tried)
 
--- an event of accounts names no session, and leaves all that there are
+-- an event of accounts names no session
 stranger : (sessions : Clients) (event : Event) → is_of_accounts event ≡ true → IsOthers sessions event
 stranger sessions (Deliver user envelope message when default) is = tt
 stranger sessions (AddUser name address salt password) is = tt
@@ -33,61 +31,68 @@ stranger sessions (TakeMail user folder) is = tt
 stranger sessions (Keep user upkeep) is = tt
 stranger sessions _ is = let never : ⊥ = cc in absurd never
 
-apart_at : (w next : World) (event : Event) (answer : Answer) → is_of_accounts event ≡ true → Next w event answer next → next.sessions ≡ w.sessions
-apart_at w next event answer is (inr refused) = ap (λ (v : World). v.sessions) refused.stays
-apart_at w next (Deliver user envelope message when default) answer is (inl made) = ap (λ (v : World). v.sessions) made.2
-apart_at w next (AddUser name address salt password) answer is (inl made) = ap (λ (v : World). v.sessions) made.2
-apart_at w next (TakeOut user id) answer is (inl made) = ap (λ (v : World). v.sessions) made.2
-apart_at w next (TakeMail user folder) answer is (inl made) = ap (λ (v : World). v.sessions) made.2
-apart_at w next (Keep user upkeep) answer is (inl made) = ap (λ (v : World). v.sessions) made.2
-apart_at w next _ answer is (inl made) = let never : ⊥ = cc in absurd never
-
 strangers_then : (sessions : Clients) (others : List Event) (event : Event) → AreOthers sessions others → IsOthers sessions event → AreOthers sessions (others ++ event ∷ [])
 strangers_then sessions [] event strangers is = (is, tt)
 strangers_then sessions (other ∷ others) event strangers is = (strangers.0, strangers_then sessions others event strangers.1 is)
 
 -- one more
-pub lets_then : {S : Type 0} (holds : List Event → S → Accounts → Type 0) (others : List Event) (event : Event) (answer : Answer) (r s t : S) (before mid after : Kept) → is_of_accounts event ≡ true
-    → LetsOthers holds others r before s mid → IsApplied holds event answer s mid t after → LetsOthers holds (others ++ event ∷ []) r before t after
-lets_then holds others event answer r s t before mid after of_accounts lets applied = λ tried are w is.
-    let first = lets tried (among_left tried others (event ∷ []) are) w is in
-    let one : Contains tried event = (among_right tried others (event ∷ []) are).0 in
-    let made = applied tried (tried_anyhow tried event answer one) first.0 first.2 in (
-      made.0,
+pub lets_then : {S : Type 0} (view : View S) (others : List Event) (event : Event) (r s t : S) → is_of_accounts event ≡ true → LetsOthers view others r s → IsLet view event true s t → LetsOthers view (others ++ event ∷ []) r t
+lets_then view others event r s t of_accounts lets let_one = λ w shown.
+    let first = lets w shown in
+    let made = let_one first.0 first.2 in
+    let next : World = record { accounts = made.1; sessions = first.0.sessions } in (
+      next,
       record {
         strangers = strangers_then w.sessions others event first.1.strangers (stranger w.sessions event of_accounts);
-        told = first.1.told ++ answer ∷ [];
-        runs = runs_then others (event ∷ []) first.1.told (answer ∷ []) w first.0 made.0 first.1.runs (runs_one first.0 made.0 event answer made.1);
-        apart = apart_at first.0 made.0 event answer of_accounts made.1 ∙ first.1.apart;
+        told = first.1.told ++ made.0 ∷ [];
+        runs = runs_then others (event ∷ []) first.1.told (made.0 ∷ []) w first.0 next first.1.runs (runs_one first.0 next event made.0 made.2);
+        apart = first.1.apart;
       },
-      made.2,
+      made.3,
+      left_then (view.leaves r) (view.leaves s) (view.leaves t) w.accounts first.0.accounts made.1 none_tried first.3 made.4,
     )
 
+-- none more
+pub lets_still : {S : Type 0} (view : View S) (others : List Event) (r s t : S) → LetsOthers view others r s → StillShows view s t → LetsOthers view others r t
+lets_still view others r s t lets still = λ w shown.
+    let first = lets w shown in
+    let later = still first.0.accounts first.2 in
+    (first.0, first.1, later.0, left_then (view.leaves r) (view.leaves s) (view.leaves t) w.accounts first.0.accounts first.0.accounts none_tried first.3 later.1)
+
+has_behind : (kept : Kept) (w between : World) → between.sessions ≡ w.sessions → HasClients kept w.sessions → HasClients kept between.sessions
+has_behind kept w between apart has = subst (λ c. HasClients kept c) (sym apart) has
+
 -- and then an event of the daemon's
-pub done_behind : {S : Type 0} (holds : List Event → S → Accounts → Type 0) (others : List Event) (event : Event) (answer : Answer) (s mid t : S) (before between after : Kept) → LetsOthers holds others s before mid between
-    → IsApplied holds event answer mid between t after → IsDone holds others event answer s before t after
-done_behind holds others event answer s mid t before between after lets applied = λ tried are w is.
-    let let_them = lets tried (among_left tried others (refused_of event answer) are) w is in
-    let made = applied tried (among_right tried others (refused_of event answer) are) let_them.0 let_them.2 in
-    (made.0, record { strangers = let_them.1.strangers; told = let_them.1.told; between = let_them.0; theirs = let_them.1.runs; apart = let_them.1.apart; ours = made.1 }, made.2)
+pub done_behind : {S : Type 0} (view : View S) (others : List Event) (event : Event) (answer : Answer) (s mid t : S) (before after : Kept) → LetsOthers view others s mid → IsApplied view event answer mid before t after
+    → IsDone view others event answer s before t after
+done_behind view others event answer s mid t before after lets applied = λ w is.
+    let let_them = lets w is.shown in
+    let made = applied let_them.0 (record { shown = let_them.2; sessions = has_behind before w let_them.0 let_them.1.apart is.sessions }) in (
+      made.0,
+      record { strangers = let_them.1.strangers; told = let_them.1.told; between = let_them.0; theirs = let_them.1.runs; apart = let_them.1.apart; ours = made.1 },
+      record { is = made.2.is; left = left_then (view.leaves s) (view.leaves mid) (view.leaves t) w.accounts let_them.0.accounts made.0.accounts (ShowsTried event answer let_them.0) let_them.3 made.2.left },
+    )
 
 -- and then an account is looked for
-pub asked_behind : {S : Type 0} (holds : List Event → S → Accounts → Type 0) (others : List Event) (user : List ℕ) (lookup : Lookup) (s mid t : S) (before between : Kept) → LetsOthers holds others s before mid between
-    → IsSought holds user lookup mid t → IsAsked holds others user lookup s before t between
-asked_behind holds others user lookup s mid t before between lets sought = λ tried are w is.
-    let let_them = lets tried are w is in
-    let seen = sought tried let_them.0.accounts let_them.2.shown in (
+pub asked_behind : {S : Type 0} (view : View S) (others : List Event) (user : List ℕ) (lookup : Lookup) (s mid t : S) (kept : Kept) → LetsOthers view others s mid → IsSought view user lookup mid t → IsAsked view others user lookup s kept t kept
+asked_behind view others user lookup s mid t kept lets sought = λ w is.
+    let let_them = lets w is.shown in
+    let seen = sought let_them.0.accounts let_them.2 in (
       let_them.0,
       record { strangers = let_them.1.strangers; told = let_them.1.told; theirs = let_them.1.runs; apart = let_them.1.apart; found = seen.0 },
-      record { shown = seen.1; sessions = let_them.2.sessions },
+      record {
+        is = record { shown = seen.1; sessions = has_behind kept w let_them.0 let_them.1.apart is.sessions };
+        left = left_then (view.leaves s) (view.leaves mid) (view.leaves t) w.accounts let_them.0.accounts let_them.0.accounts none_tried let_them.3 seen.2;
+      },
     )
 
 -- and then a message moves on
-pub moved_behind : {S : Type 0} (holds : List Event → S → Accounts → Type 0) (others : List Event) (m : Moving) (s mid t : S) (before between : Kept) → LetsOthers holds others s before mid between → IsMovedOn holds m mid t → IsMoved holds others m s before t between
-moved_behind holds others m s mid t before between lets moved = λ tried are w is.
-    let let_them = lets tried (among_left tried others (refused_in m) are) w is in
-    let it = moved tried (among_right tried others (refused_in m) are) let_them.0.accounts let_them.2.shown in
-    moved_then (holds tried) others t between w let_them.0 (record { strangers = let_them.1.strangers; told = let_them.1.told; theirs = let_them.1.runs; apart = let_them.1.apart }) let_them.2.sessions m it.0 it.1 it.2
+pub moved_behind : {S : Type 0} (view : View S) (others : List Event) (m : Moving) (s mid t : S) (kept : Kept) → LetsOthers view others s mid → IsMovedOn view m mid t → IsMoved view others m s kept t kept
+moved_behind view others m s mid t kept lets moved = λ w is.
+    let let_them = lets w is.shown in
+    let it = moved let_them.0 let_them.2 in
+    moved_then view others s t kept w let_them.0 (view.leaves mid) (record { strangers = let_them.1.strangers; told = let_them.1.told; theirs = let_them.1.runs; apart = let_them.1.apart })
+    (has_behind kept w let_them.0 let_them.1.apart is.sessions) let_them.3 m it.0 it.1 it.2 it.3
 
 -- which the sink has, where others' events leave what it has
 pub kept_behind : {S : Type 0} (has : S → List KeptMail → Type 0) (m : Moving) (s mid t u : S) → StillHas has s mid → u ≡ t → HasKept has m mid t → HasKept has m s u

@@ -4,28 +4,39 @@ use Rattle.lmtp.specs.declared.receiver.Lookup.{Lookup}
 use Rattle.mailstore.specs.Account.{Accounts}
 use Rattle.mailengine.specs.Hosts.{Kept}
 use Rattle.mailsinks.specs.declared.kept.KeptMail.{KeptMail}
-use Rattle.mailmoves.specs.Enduring.{AreTried, refused_of}
-use Rattle.mailmoves.specs.Moving.{Moves, refused_in}
+use Rattle.mailmoves.specs.Enduring.{MayLeave, ShowsTried, none_tried}
+use Rattle.mailmoves.specs.Moving.{Moves, TriedMoving}
 use Rattle.mailmoves.specs.declared.moving.Moving.{Moving}
 use Rattle.mailengine.specs.World.{World, Next, Runs}
 use Rattle.mailengine.specs.declared.answer.Answer.{Answer}
 use Rattle.mailengine.specs.declared.event.Event.{Event}
 use Rattle.mailengine.specs.declared.event.Event.TheVariants.{Deliver, AddUser, TakeOut, TakeMail, Keep}
-use Rattle.sieveddaemon.specs.Desk.{IsWorld, AreOthers, IsFoundIn}
+use Rattle.sieveddaemon.specs.Desk.{View, StillShows, IsWorld, ComesTo, AreOthers, IsFoundIn}
 
--- whatever accounts were had, the event with this answer leads from them to those that are had; it was tried, where it was refused
-abbrev pub IsApplied : {S : Type 0} → (List Event → S → Accounts → Type 0) → Event → Answer → S → Kept → S → Kept → Type 0
-IsApplied holds event answer s before t after =
-    (tried : List Event) → AreTried tried (refused_of event answer) → (w : World) → IsWorld (holds tried) s before w → (next : World) × Next w event answer next × IsWorld (holds tried) t after next
+-- whatever accounts were had, the event with this answer leads from them to those that are had; where it was refused it was tried
+abbrev pub IsApplied : {S : Type 0} → View S → Event → Answer → S → Kept → S → Kept → Type 0
+IsApplied view event answer s before t after =
+    (w : World) → IsWorld view s before w → (next : World) × Next w event answer next × ComesTo view s w (ShowsTried event answer w) t after next
+
+-- an event of accounts happened, and nothing of it is left beside the accounts that are had then; or all is as it was
+abbrev pub IsLet : {S : Type 0} → View S → Event → Bool → S → S → Type 0
+IsLet view event true s t =
+    (w : World) → view.shows s w.accounts
+    → (answer : Answer) × (later : Accounts) × Next w event answer (record { accounts = later; sessions = w.sessions })
+    × view.shows t later × MayLeave (view.leaves s) w.accounts (view.leaves t) later none_tried
+IsLet view event false s t = StillShows view s t
 
 -- that was found of an account of that name, and whatever accounts were had are had
-abbrev pub IsSought : {S : Type 0} → (List Event → S → Accounts → Type 0) → List ℕ → Lookup → S → S → Type 0
-IsSought holds user lookup s t = (tried : List Event) (accounts : Accounts) → holds tried s accounts → IsFoundIn accounts user lookup × holds tried t accounts
+abbrev pub IsSought : {S : Type 0} → View S → List ℕ → Lookup → S → S → Type 0
+IsSought view user lookup s t =
+    (accounts : Accounts) → view.shows s accounts
+    → IsFoundIn accounts user lookup × view.shows t accounts × MayLeave (view.leaves s) accounts (view.leaves t) accounts none_tried
 
 -- a message moved on so, whatever accounts were had
-abbrev pub IsMovedOn : {S : Type 0} → (List Event → S → Accounts → Type 0) → Moving → S → S → Type 0
-IsMovedOn holds moving s t =
-    (tried : List Event) → AreTried tried (refused_in moving) → (accounts : Accounts) → holds tried s accounts → (later : Accounts) × Moves moving accounts later × holds tried t later
+abbrev pub IsMovedOn : {S : Type 0} → View S → Moving → S → S → Type 0
+IsMovedOn view moving s t =
+    (w : World) → view.shows s w.accounts
+    → (later : Accounts) × Moves moving w.accounts later × view.shows t later × MayLeave (view.leaves s) w.accounts (view.leaves t) later (TriedMoving moving w)
 
 -- the messages that moved on are those that did
 abbrev pub StillHas : {S : Type 0} → (S → List KeptMail → Type 0) → S → S → Type 0
@@ -38,14 +49,15 @@ pub record LetsAt (others : List Event) (w between : World) : Type 0 where
   pub runs : Runs w others told between
   pub apart : between.sessions ≡ w.sessions
 
--- and all of them were tried
-abbrev pub LetsOthers : {S : Type 0} → (List Event → S → Accounts → Type 0) → List Event → S → Kept → S → Kept → Type 0
-LetsOthers holds others s before t after =
-    (tried : List Event) → AreTried tried others → (w : World) → IsWorld (holds tried) s before w → (between : World) × LetsAt others w between × IsWorld (holds tried) t after between
+-- and nothing is left of what they tried
+abbrev pub LetsOthers : {S : Type 0} → View S → List Event → S → S → Type 0
+LetsOthers view others s t =
+    (w : World) → view.shows s w.accounts
+    → (between : World) × LetsAt others w between × view.shows t between.accounts × MayLeave (view.leaves s) w.accounts (view.leaves t) between.accounts none_tried
 
 -- whatever happened before some events of others were told, those that are told then happened by then
-abbrev pub LetsMore : {S : Type 0} → (List Event → S → Accounts → Type 0) → List Event → S → Kept → List Event → S → Kept → Type 0
-LetsMore {S} holds others t after more u later = (s : S) (before : Kept) → LetsOthers holds others s before t after → LetsOthers holds more s before u later
+abbrev pub LetsMore : {S : Type 0} → View S → List Event → S → List Event → S → Type 0
+LetsMore {S} view others t more u = (s : S) → LetsOthers view others s t → LetsOthers view more s u
 
 -- an event of accounts names no session
 abbrev pub is_of_accounts : Event → Bool

@@ -136,62 +136,65 @@ impl<S: Shelf + Drop> DeskFake<S> {
     fn bring(&mut self, id: u32, clients: &mut Clients, event: Event) -> Option<Answer>
         requires { ¬ IsGivenUp event }
         ensures kept { IsTrue (is_told self.new) → IsTrue (is_told self.old) }
-        ensures brings { Carries is_told told_by shelf_of S.holds (λ _. Unit {0}) id event self.old clients.old.sessions result self.new clients.new.sessions }
+        ensures brings { Carries is_told told_by shelf_of S.view (λ _. Unit {0}) id event self.old clients.old.sessions result self.new clients.new.sessions }
     {
         if self.is_away() {
             self.stage.keep(Act::Noted(id, Note::Away));
             return None;
         }
-        let others = self.let_others(clients);
+        let others = self.let_others();
         let answer = self.stage.fake.rest.change(clients, &event);
         self.note_event(id, others, event, &answer);
         Some(answer)
     }
 
     /// Lets all events of others happen that wait, each where there is room to tell it, and tells which did.
-    fn let_others(&mut self, clients: &mut Clients) -> List<Event>
+    fn let_others(&mut self) -> List<Event>
         ensures still { StillHas S.has self.old.stage.fake.rest self.new.stage.fake.rest }
-        ensures others { LetsOthers S.holds result self.old.stage.fake.rest clients.old.sessions self.new.stage.fake.rest clients.new.sessions }
+        ensures others { LetsOthers S.view result self.old.stage.fake.rest self.new.stage.fake.rest }
         ensures acts { self.new.stage.fake.acts ≡ self.old.stage.fake.acts }
         ensures lost { self.new.stage.fake.lost ≡ self.old.stage.fake.lost }
     {
         let mut others = Vec::new(self.stage.fake.alloc);
         while let Some(event) = self.others.pop_front() {
-            self.let_one(clients, event, &mut others);
+            self.let_one(event, &mut others);
         }
         List::from_vec(others)
     }
 
     /// Lets an event happen, where it is one of accounts and there is room to tell it, and tells it behind those before it.
-    fn let_one(&mut self, clients: &mut Clients, event: Event, others: &mut Vec<Event>)
-        ensures lets { LetsMore S.holds others.old.items (shelf_of self.old) clients.old.sessions others.new.items (shelf_of self.new) clients.new.sessions }
+    fn let_one(&mut self, event: Event, others: &mut Vec<Event>)
+        ensures lets { LetsMore S.view others.old.items (shelf_of self.old) others.new.items (shelf_of self.new) }
         ensures still { StillHas S.has self.old.stage.fake.rest self.new.stage.fake.rest }
         ensures acts { self.new.stage.fake.acts ≡ self.old.stage.fake.acts }
         ensures lost { self.new.stage.fake.lost ≡ self.old.stage.fake.lost }
         ensures left { self.new.others ≡ self.old.others }
     {
         if is_of_accounts(&event) {
-            change_other(&mut self.stage.fake.rest, clients, event, others);
+            let alloc = self.stage.fake.alloc;
+            change_other(alloc, &mut self.stage.fake.rest, event, others);
         }
     }
 }
 
-/// Lets an event of accounts happen, where there is room to tell it, and tells it behind those before it.
+/// Lets an event of accounts happen, where there is room to tell it, and tells it behind those before it; one that is refused isn't
+/// told.
 fn change_other<S: Shelf + Drop>(
+    alloc: Global,
     shelf: &mut S,
-    clients: &mut Clients,
     event: Event,
     others: &mut Vec<Event>,
 )
     requires { is_of_accounts event ≡ true }
     ensures still { StillHas S.has shelf.old shelf.new }
-    ensures lets { LetsMore S.holds others.old.items shelf.old clients.old.sessions others.new.items shelf.new clients.new.sessions }
+    ensures lets { LetsMore S.view others.old.items shelf.old others.new.items shelf.new }
 {
     if others.reserve(1).is_err() {
         return;
     }
-    let _ = shelf.change(clients, &event);
-    others.push_reserved(event);
+    if shelf.let_other(alloc, &event) {
+        others.push_reserved(event);
+    }
 }
 
 impl<S: Shelf + Drop> Outside for DeskFake<S> {
@@ -272,9 +275,7 @@ impl<S: Shelf + Drop> Clock for DeskFake<S> {
 }
 
 impl<S: Shelf + Drop> Desk for DeskFake<S> {
-    ghost shows = { S.holds };
-
-    ghost leaves = { S.leaves };
+    ghost view = { S.view };
 
     ghost clean = { λ _. Unit {0} };
 
@@ -285,7 +286,7 @@ impl<S: Shelf + Drop> Desk for DeskFake<S> {
             self.stage.keep(Act::Noted(id, Note::Away));
             return None;
         }
-        let others = self.let_others(clients);
+        let others = self.let_others();
         let answer = self.stage.fake.rest.change(clients, event);
         self.note_done(id, others, event, &answer);
         Some(answer)
@@ -300,7 +301,7 @@ impl<S: Shelf + Drop> Desk for DeskFake<S> {
             self.stage.keep(Act::Noted(id, Note::Away));
             return None;
         }
-        let others = self.let_others(clients);
+        let others = self.let_others();
         let lookup = self.stage.fake.rest.find(user);
         self.note_asked(id, others, user, lookup);
         Some(lookup)
@@ -325,7 +326,7 @@ impl<S: Shelf + Drop> Desk for DeskFake<S> {
             self.stage.keep(Act::Worked(Note::Away));
             return None;
         }
-        let others = self.let_others(clients);
+        let others = self.let_others();
         let moving = self.stage.fake.rest.move_on(now, fresh);
         let span = span_behind(&moving);
         self.stage.keep(Act::Worked(Note::Moved { others, moving }));
@@ -345,8 +346,6 @@ impl<S: Shelf + Drop> Desk for DeskFake<S> {
         self.stage.keep(Act::Worked(Note::Looked(wanted)));
         rests || wanted
     }
-
-    ghost left = { S.left };
 
     ghost sure = { λ _ _. tt };
 }

@@ -1,15 +1,20 @@
 //! Accounts in a store in memory.
 ghost use Rattle.std.specs.Prelude.{◌≡◌};
+ghost use Rattle.mailengine.specs.declared.event.Event.TheVariants.{Deliver};
+ghost use Rattle.daemonfakes.specs.Shelves.{IsLet};
+ghost use Rattle.daemonfakes.specs.Memory.{memory_view_of};
 
 use crate::shelf::Shelf;
 use lmtp::Lookup;
-use mailengine::{Answer, Clients, Event, Refusal, apply};
+use mailengine::{
+    Answer, Clients, Envelope, Event, Refusal, add_user, apply, deliver, keep, take_mail, take_out,
+};
 use mailmoves::{Moving, Route, move_next};
 use mailsinks::MemorySink;
 use mailstore::Store;
 use sieveddaemon::account::find_account;
 use sqlite::MemStore;
-use std::alloc::AllocError;
+use std::alloc::{AllocError, Global};
 
 /// A store of mailengine, in memory, and where its mail moves on to.
 #[derive(Drop)]
@@ -20,14 +25,9 @@ pub struct MemShelf {
 }
 
 impl Shelf for MemShelf {
-    ghost use Rattle.sqlite.specs.Held.{state};
-    ghost use Rattle.sqlite.specs.Steps.{over_memory};
-    ghost use Rattle.std.specs.Prelude.{IsTrue};
-    ghost use Rattle.mailmoves.specs.Enduring.{Endures};
+    ghost use Rattle.daemonfakes.specs.Memory.{view_of};
 
-    ghost holds = { λ tried shelf accounts. Endures tried (state over_memory shelf.store) accounts };
-
-    ghost leaves = { λ shelf trees. IsTrue (state over_memory shelf.store).is_open × (state over_memory shelf.store).may_leave trees };
+    ghost view = { view_of };
 
     ghost has = { λ shelf mails. shelf.sink.messages ≡ mails };
 
@@ -38,6 +38,39 @@ impl Shelf for MemShelf {
         }
     }
 
+    fn let_other(&mut self, alloc: Global, event: &Event) -> bool {
+        match event {
+            Event::Deliver {
+                user,
+                envelope,
+                message,
+                moment,
+            } => {
+                let (user, message) = (user.as_slice(), message.as_slice());
+                let_delivery(alloc, &mut self.store, user, envelope, message, *moment)
+            }
+            Event::AddUser {
+                name,
+                address,
+                salt,
+                password,
+            } => {
+                let (name, address) = (name.as_slice(), address.as_slice());
+                add_user(alloc, &mut self.store, name, address, *salt, password.as_slice()).is_ok()
+            }
+            Event::TakeOut { user, id } => {
+                take_out(&mut self.store, user.as_slice(), *id).is_ok()
+            }
+            Event::TakeMail { user, folder } => {
+                take_mail(&mut self.store, user.as_slice(), folder.as_slice()).is_ok()
+            }
+            Event::Keep { user, upkeep } => {
+                keep(alloc, &mut self.store, user.as_slice(), upkeep).is_ok()
+            }
+            _ => false,
+        }
+    }
+
     fn find(&mut self, user: &[u8]) -> Lookup {
         find_account(&mut self.store, user)
     }
@@ -45,6 +78,21 @@ impl Shelf for MemShelf {
     fn move_on(&mut self, now: u64, fresh: bool) -> Moving {
         move_next(&mut self.store, &mut self.sink, &mut self.route, now, fresh)
     }
+}
 
-    ghost left = { λ tried shelf accounts shown trees left. shown.left left.0 trees left.1 };
+/// Delivers a message that others bring, for which the envelope is copied. Whether it was.
+fn let_delivery(
+    alloc: Global,
+    store: &mut Store<MemStore>,
+    user: &[u8],
+    envelope: &Envelope,
+    message: &[u8],
+    moment: u64,
+) -> bool
+    ensures { IsLet memory_view_of (Deliver user.now envelope.now message.now moment) result store.old store.new }
+{
+    let Ok(envelope) = envelope.try_clone(alloc) else {
+        return false;
+    };
+    deliver(alloc, store, user, envelope, message, moment).is_ok()
 }

@@ -6,9 +6,11 @@ use Rattle.sqlite.specs.Held.{Held, state}
 use Rattle.mailstore.specs.Account.{Accounts}
 use Rattle.mailstore.specs.Shows.{Presents, Offers}
 use Rattle.mailstore.specs.Connection.{IsSettled}
+use Rattle.sqlite_trees.specs.Tree.{Trees}
+use Rattle.sessions.specs.Acts.{HasAccounts}
 use Rattle.keepers.specs.Taken.{IsTaken}
-use Rattle.mailmoves.specs.Enduring.{Endures, AreTried}
-use Rattle.mailmoves.proofs.EnduringLemmas.{settled_endures, event_endures}
+use Rattle.mailmoves.specs.Enduring.{MayLeave, ShowsTried, none_tried, leaves_of}
+use Rattle.mailmoves.proofs.EnduringLemmas.{left_alone, left_then, settled_left, event_endures}
 use Rattle.lmtp.specs.declared.receiver.Lookup.{Lookup}
 use Rattle.mailstore.specs.declared.refusal.Refusal.{Refusal}
 use Rattle.mailstore.specs.declared.report.Report.{Report}
@@ -16,19 +18,21 @@ use Rattle.sieveexec.specs.declared.envelope.Envelope.{Envelope}
 use Rattle.mailposts.specs.declared.demand.Parcel.{Parcel}
 use Rattle.sqlite.specs.State.{State, HasCleanDisk}
 use Rattle.mailengine.specs.AccountEvents.{Delivery}
+use Rattle.mailengine.specs.World.{World}
 use Rattle.mailengine.specs.Hosts.{Kept, IsEvent, SurvivesEvent, host, ActsDelivery, MayRefuseDelivery, answer_by}
 use Rattle.mailengine.specs.declared.answer.Answer.TheVariants.{Delivered}
 use Rattle.mailengine.proofs.HostLemmas.{account_crash, account_event, delivery_may}
 use Rattle.mailengine.specs.declared.answer.Answer.{Answer}
 use Rattle.mailengine.specs.declared.event.Event.{Event}
 use Rattle.mailsinks.specs.declared.kept.KeptMail.{KeptMail}
-use Rattle.mailmoves.specs.Moving.{KeepsIt, Moves, refused_in}
+use Rattle.mailmoves.specs.Moving.{KeepsIt, Moves, TriedMoving}
 use Rattle.mailmoves.specs.declared.moving.Moving.{Moving}
 use Rattle.mailmoves.specs.declared.moving.Moving.TheVariants as moving
 use Rattle.sieveddaemon.specs.Moves.{HasKept, IsMoved}
 use Rattle.sieveddaemon.proofs.MoveLemmas.{let_none, moved_then}
-use Rattle.sieveddaemon.specs.Desk.{StillShows, IsDone, IsAsked, IsFoundIn, NothingDone, delivery_of}
-use Rattle.daemonhosts.specs.Held.{HasMail, ShowsBy}
+use Rattle.sieveddaemon.proofs.StillLemmas.{still_then}
+use Rattle.sieveddaemon.specs.Desk.{View, StillShows, IsDone, IsAsked, IsFoundIn, NothingDone, delivery_of}
+use Rattle.daemonhosts.specs.Held.{HasMail, ShowsBy, LeavesBy}
 use Rattle.mailengine.specs.Terms.{Terms}
 use Rattle.daemonhosts.specs.declared.held.HeldStore.{HeldStore}
 
@@ -36,47 +40,76 @@ use Rattle.daemonhosts.specs.declared.held.HeldStore.{HeldStore}
 presented : (db : Database) (accounts : Accounts) → Presents db accounts → Offers db accounts
 presented db accounts shown = inl (shown.0, inl shown.1, shown.2)
 
-module _ {S : Type 0} (g : Ghosts S) (tells : Bool) (tried : List Event) where
-  -- a store that was taken shows what its keeper's tables offered
-  pub taken : (was is : Database) (store : Held S) → (IsTrue tells → IsTaken false was (state g store).now) → (IsTrue tells → IsSettled (state g store)) → (accounts : Accounts) → ShowsBy g tells tried was None accounts → ShowsBy g tells tried is (Some store) accounts
-  taken was is store took settled accounts shown = settled_endures tried (state g store) accounts (settled shown.0) ((took shown.0).0.shown accounts shown.1)
+module _ {S : Type 0} (g : Ghosts S) (tells : Bool) where
+  -- a store that was taken shows what its keeper's tables offered, and a crash leaves that alone
+  pub taken : (was is : Database) (store : Held S) → (IsTrue tells → IsTaken false was (state g store).now) → (IsTrue tells → IsSettled (state g store)) → (accounts : Accounts) → ShowsBy g tells was None accounts
+      → ShowsBy g tells is (Some store) accounts × MayLeave (LeavesBy g None) accounts (LeavesBy g (Some store)) accounts none_tried
+  taken was is store took settled accounts shown =
+      let presents = (took shown.0).0.shown accounts shown.1 in
+      (λ is_open. presents, λ trees may. inl (settled_left (state g store) accounts (settled shown.0) presents trees may.1))
 
-  -- a store that was given back is offered by its keeper's tables
-  pub given : (was is : Database) (store : Held S) → (IsTrue tells → IsTrue (state g store).is_open) → (IsTrue tells → is ≡ (state g store).now) → IsTrue tells → (accounts : Accounts) → ShowsBy g tells tried was (Some store) accounts → ShowsBy g tells tried is None accounts
-  given was is store sure held told accounts shown = (told, subst (λ db. Offers db accounts) (sym (held told)) (presented (state g store).now accounts (shown.shown (sure told))))
+  -- a store that was given back is offered by its keeper's tables, and nothing is left while it isn't had
+  pub given : (was is : Database) (store : Held S) → (IsTrue tells → IsTrue (state g store).is_open) → (IsTrue tells → is ≡ (state g store).now) → IsTrue tells → (accounts : Accounts) → ShowsBy g tells was (Some store) accounts
+      → ShowsBy g tells is None accounts × MayLeave (LeavesBy g (Some store)) accounts (LeavesBy g None) accounts none_tried
+  given was is store sure held told accounts shown = ((told, subst (λ db. Offers db accounts) (sym (held told)) (presented (state g store).now accounts (shown (sure told)))), λ trees may. absurd may)
 
   -- what was shown stays so where the tables that are told are as they were
-  pub kept : (was is : Database) (store : Option (Held S)) → (IsTrue tells → is ≡ was) → (accounts : Accounts) → ShowsBy g tells tried was store accounts → ShowsBy g tells tried is store accounts
-  kept was is (Some store) same accounts shown = shown
-  kept was is None same accounts shown = (shown.0, subst (λ db. Offers db accounts) (sym (same shown.0)) shown.1)
+  pub kept : (was is : Database) (store : Option (Held S)) → (IsTrue tells → is ≡ was) → (accounts : Accounts) → ShowsBy g tells was store accounts
+      → ShowsBy g tells is store accounts × MayLeave (LeavesBy g store) accounts (LeavesBy g store) accounts none_tried
+  kept was is (Some store) same accounts shown = (shown, left_alone (LeavesBy g (Some store)) accounts none_tried)
+  kept was is None same accounts shown = ((shown.0, subst (λ db. Offers db accounts) (sym (same shown.0)) shown.1), left_alone (LeavesBy g None) accounts none_tried)
 
 -- an event by one call of `apply`: nobody came between
-pub done_alone : {R S : Type 0} (g : Ghosts S) (shows : List Event → R → Accounts → Type 0) (r q : R) (event : Event) (answer : Answer) (old new : Held S) (before after : Kept)
-    → ((tried : List Event) (accounts : Accounts) → shows tried r accounts → Endures tried (state g old) accounts) → ((tried : List Event) (accounts : Accounts) → Endures tried (state g new) accounts → shows tried q accounts)
+pub done_alone : {R S : Type 0} (g : Ghosts S) (view : View R) (r q : R) (event : Event) (answer : Answer) (old new : Held S) (before after : Kept)
+    → ((accounts : Accounts) → view.shows r accounts → HasAccounts (state g old) accounts) → ((accounts : Accounts) → HasAccounts (state g new) accounts → view.shows q accounts)
+    → ((trees : Trees) → leaves_of (state g old) trees → view.leaves r trees) → ((trees : Trees) → view.leaves q trees → leaves_of (state g new) trees)
     → HasCleanDisk (state g new) → (IsTrue (state g new).is_open → IsTrue (state g old).is_open) → SurvivesEvent event (host (state g old) before) (host (state g new) after)
-    → IsEvent event answer (host (state g old) before) (host (state g new) after) → IsDone shows [] event answer r before q after
-done_alone g shows r q event answer old new before after was is clean shut crash made = λ tried are w at.
-    let it = event_endures tried event (state g old) (state g new) before after clean shut crash w at.sessions (was tried w.accounts at.shown) answer are made in (
+    → IsEvent event answer (host (state g old) before) (host (state g new) after) → IsDone view [] event answer r before q after
+done_alone g view r q event answer old new before after was is left may clean shut crash made = λ w at.
+    let it = event_endures event (state g old) (state g new) before after clean shut crash w at.sessions (was w.accounts at.shown) answer made in (
       it.0,
       record { strangers = tt; told = []; between = w; theirs = refl; apart = refl; ours = it.1 },
-      record { shown = is tried it.0.accounts it.2; sessions = it.3 },
+      record {
+        is = record { shown = is it.0.accounts it.2.shown; sessions = it.3 };
+        left = λ trees leaves. elim (it.2.left trees (may trees leaves)) [ inl shown ↦ inl shown | inr rest ↦ elim rest [ inl old ↦ inr (inl (old.0, left trees old.1)) | inr tried ↦ inr (inr tried) ] ];
+      },
     )
 
 -- an event that was done behind a call that changed no account
-pub done_behind : {R : Type 0} (shows : List Event → R → Accounts → Type 0) (r m q : R) (others : List Event) (event : Event) (answer : Answer) (before after : Kept)
-    → StillShows shows r m → IsDone shows others event answer m before q after → IsDone shows others event answer r before q after
-done_behind shows r m q others event answer before after still done = λ tried are w at. done tried are w (record { shown = still tried w.accounts at.shown; sessions = at.sessions })
+pub done_behind : {R : Type 0} (view : View R) (r m q : R) (event : Event) (answer : Answer) (before after : Kept) → StillShows view r m → IsDone view [] event answer m before q after → IsDone view [] event answer r before q after
+done_behind view r m q event answer before after still done = λ w at.
+    let here = still w.accounts at.shown in
+    let it = done w (record { shown = here.0; sessions = at.sessions }) in
+    (it.0, it.1, record { is = it.2.is; left = left_then (view.leaves r) (view.leaves m) (view.leaves q) w.accounts w.accounts it.0.accounts (ShowsTried event answer it.1.between) here.1 it.2.left })
 
 -- nothing was done behind such a call
-pub nothing_behind : {R : Type 0} (shows : List Event → R → Accounts → Type 0) (r m q : R) (before after : Kept) → StillShows shows r m → NothingDone shows m before q after → NothingDone shows r before q after
-nothing_behind shows r m q before after still none = record { shown = λ tried accounts shown. none.shown tried accounts (still tried accounts shown); kept = none.kept }
+pub nothing_behind : {R : Type 0} (view : View R) (r m q : R) (before after : Kept) → StillShows view r m → NothingDone view m before q after → NothingDone view r before q after
+nothing_behind view r m q before after still none = record { shown = still_then view r m q still none.shown; kept = none.kept }
+
+-- an account was looked for behind such a call
+pub found_behind : {R : Type 0} (view : View R) (r m q : R) (user : List ℕ) (lookup : Lookup) → StillShows view r m
+    → ((accounts : Accounts) → view.shows m accounts → IsFoundIn accounts user lookup × view.shows q accounts × MayLeave (view.leaves m) accounts (view.leaves q) accounts none_tried)
+    → (accounts : Accounts) → view.shows r accounts → IsFoundIn accounts user lookup × view.shows q accounts × MayLeave (view.leaves r) accounts (view.leaves q) accounts none_tried
+found_behind view r m q user lookup still finds accounts shown =
+    let here = still accounts shown in
+    let it = finds accounts here.0 in
+    (it.0, it.1, left_then (view.leaves r) (view.leaves m) (view.leaves q) accounts accounts accounts none_tried here.1 it.2)
+
+-- a message moved on behind such a call
+pub moved_behind : {R : Type 0} (view : View R) (r m q : R) (moving : Moving) → StillShows view r m
+    → ((w : World) → view.shows m w.accounts → (later : Accounts) × Moves moving w.accounts later × view.shows q later × MayLeave (view.leaves m) w.accounts (view.leaves q) later (TriedMoving moving w))
+    → (w : World) → view.shows r w.accounts → (later : Accounts) × Moves moving w.accounts later × view.shows q later × MayLeave (view.leaves r) w.accounts (view.leaves q) later (TriedMoving moving w)
+moved_behind view r m q moving still moves w shown =
+    let here = still w.accounts shown in
+    let it = moves w here.0 in
+    (it.0, it.1, it.2, left_then (view.leaves r) (view.leaves m) (view.leaves q) w.accounts w.accounts it.0 (TriedMoving moving w) here.1 it.3)
 
 -- an account was looked for, and nobody came between
-pub asked_alone : {R : Type 0} (shows : List Event → R → Accounts → Type 0) (r q : R) (user : List ℕ) (lookup : Lookup) (kept : Kept) → ((tried : List Event) (accounts : Accounts) → shows tried r accounts → IsFoundIn accounts user lookup × shows tried q accounts)
-    → IsAsked shows [] user lookup r kept q kept
-asked_alone shows r q user lookup kept finds = λ tried are w at.
-    let seen = finds tried w.accounts at.shown in
-    (w, record { strangers = tt; told = []; theirs = refl; apart = refl; found = seen.0 }, record { shown = seen.1; sessions = at.sessions })
+pub asked_alone : {R : Type 0} (view : View R) (r q : R) (user : List ℕ) (lookup : Lookup) (kept : Kept)
+    → ((accounts : Accounts) → view.shows r accounts → IsFoundIn accounts user lookup × view.shows q accounts × MayLeave (view.leaves r) accounts (view.leaves q) accounts none_tried) → IsAsked view [] user lookup r kept q kept
+asked_alone view r q user lookup kept finds = λ w at.
+    let seen = finds w.accounts at.shown in
+    (w, record { strangers = tt; told = []; theirs = refl; apart = refl; found = seen.0 }, record { is = record { shown = seen.1; sessions = at.sessions }; left = seen.2 })
 
 -- a delivery is an event, whatever sessions there are
 delivery_acts : (parcel : Parcel) (terms : Terms) (user message : List ℕ) (envelope : Envelope) (old new : State) (r : Result Report Refusal)
@@ -122,8 +155,8 @@ kept_behind tells kept r a b q (moving.Failed refusal) same then has = tt
 kept_behind tells kept r a b q (moving.Stays stay) same then has = tt
 
 -- a message moved on, and nobody came between
-pub moved_alone : {R : Type 0} (shows : List Event → R → Accounts → Type 0) (r q : R) (m : Moving) (kept : Kept)
-    → ((tried : List Event) → AreTried tried (refused_in m) → (accounts : Accounts) → shows tried r accounts → (later : Accounts) × Moves m accounts later × shows tried q later) → IsMoved shows [] m r kept q kept
-moved_alone shows r q m kept moves = λ tried are w is.
-    let it = moves tried are w.accounts is.shown in
-    moved_then (shows tried) [] q kept w w (let_none w) is.sessions m it.0 it.1 it.2
+pub moved_alone : {R : Type 0} (view : View R) (r q : R) (m : Moving) (kept : Kept)
+    → ((w : World) → view.shows r w.accounts → (later : Accounts) × Moves m w.accounts later × view.shows q later × MayLeave (view.leaves r) w.accounts (view.leaves q) later (TriedMoving m w)) → IsMoved view [] m r kept q kept
+moved_alone view r q m kept moves = λ w is.
+    let it = moves w is.shown in
+    moved_then view [] r q kept w w (view.leaves r) (let_none w) is.sessions (left_alone (view.leaves r) w.accounts none_tried) m it.0 it.1 it.2 it.3

@@ -5,6 +5,7 @@ use Rattle.mailstore.specs.Account.{Account, Accounts, open_of, is_removed}
 use Rattle.mailstore.specs.declared.refusal.Refusal.{Refusal}
 use Rattle.mailstore.specs.declared.refusal.Refusal.TheVariants.{Memory, Store, NoUser, AccountClosed, TooLarge, BadEnvelope, BadMoment}
 use Rattle.sieveexec.specs.declared.envelope.Envelope.{Envelope}
+use Rattle.sqlite.specs.declared.error.ErrorCode.{ErrorCode}
 use Rattle.mailengine.specs.AccountEvents.{absence, DeliversIn, DeliversUnder}
 use Rattle.mailengine.specs.Hosts.{Kept}
 use Rattle.mailengine.specs.Limits.{limit_refusal}
@@ -13,12 +14,12 @@ use Rattle.mailengine.specs.declared.answer.Answer.{Answer}
 use Rattle.mailengine.specs.declared.answer.Answer.TheVariants.{Refused}
 use Rattle.mailengine.specs.declared.event.Event.{Event}
 use Rattle.mailengine.specs.declared.event.Event.TheVariants.{Deliver}
-use Rattle.mailmoves.specs.Enduring.{AreTried, refused_of}
 use Rattle.mailposts.specs.declared.demand.Parcel.{Parcel}
-use Rattle.sieveddaemon.specs.Desk.{IsDone, delivery_of}
+use Rattle.sieveddaemon.specs.Desk.{View, IsDone, delivery_of}
+use Rattle.daemonhosts.specs.Events.{is_full}
+use Rattle.daemonhosts.specs.Held.{lacking, told_by, IsToldAs}
 use Rattle.sieveexec.specs.declared.when.When.{When}
 use Rattle.mailengine.specs.Terms.{Terms, terms}
-use Rattle.daemonhosts.specs.Held.{IsToldAs}
 
 -- no cause that is seen is the store's
 abbrev is_seen : Refusal → Bool
@@ -60,13 +61,9 @@ lacks_next w next user when default envelope message (inr refused) =
     inr (record { refusal = Memory; may = subst (λ r. MayRefuse w (Deliver user envelope message when default) r) same refused.may; refused = refl; stays = refused.stays })
 
 -- so what is told of it is an answer to the same event
-pub told_done : {R : Type 0} (shows : List Event → R → Accounts → Type 0) (parcel : Parcel) (terms : Terms) (answer told : Answer) (r q : R) (kept : Kept) → IsToldAs answer told
-    → IsDone shows [] (delivery_of parcel terms) answer r kept q kept → IsDone shows [] (delivery_of parcel terms) told r kept q kept
-told_done shows parcel terms answer told r q kept (inl same) done = subst (λ a. IsDone shows [] (delivery_of parcel terms) a r kept q kept) (sym same) done
-told_done shows parcel terms answer told r q kept (inr (was, is)) done =
-    subst (λ a. IsDone shows [] (delivery_of parcel terms) a r kept q kept) (sym is) (λ tried are w at.
-    let it = done tried (subst (λ a. AreTried tried (refused_of (delivery_of parcel terms) a)) (sym was) are) w at in
-    let ours = subst (λ a. Next it.1.between (delivery_of parcel terms) a it.0) was it.1.ours in
+lacking_done : {R : Type 0} (view : View R) (parcel : Parcel) (terms : Terms) (r q : R) (kept : Kept) → IsDone view [] (delivery_of parcel terms) (Refused Store) r kept q kept → IsDone view [] (delivery_of parcel terms) (Refused Memory) r kept q kept
+lacking_done view parcel terms r q kept done = λ w at.
+    let it = done w at in
     let own : Envelope = record { from = parcel.sender; to = parcel.recipient } in (
       it.0,
       record {
@@ -75,7 +72,26 @@ told_done shows parcel terms answer told r q kept (inr (was, is)) done =
         between = it.1.between;
         theirs = it.1.theirs;
         apart = it.1.apart;
-        ours = lacks_next it.1.between it.0 parcel.user terms.when terms.default own parcel.message ours;
+        ours = lacks_next it.1.between it.0 parcel.user terms.when terms.default own parcel.message it.1.ours;
       },
-      it.2,
-    ))
+      record { is = it.2.is; left = it.2.left },
+    )
+
+refused_done : {R : Type 0} (view : View R) (parcel : Parcel) (terms : Terms) (refusal : Refusal) (r q : R) (kept : Kept) → IsDone view [] (delivery_of parcel terms) (Refused refusal) r kept q kept
+    → IsDone view [] (delivery_of parcel terms) (lacking (Refused refusal)) r kept q kept
+refused_done view parcel terms Store r q kept done = lacking_done view parcel terms r q kept done
+refused_done view parcel terms _ r q kept done = done
+
+lacking_by : {R : Type 0} (view : View R) (parcel : Parcel) (terms : Terms) (answer : Answer) (r q : R) (kept : Kept) → IsDone view [] (delivery_of parcel terms) answer r kept q kept → IsDone view [] (delivery_of parcel terms) (lacking answer) r kept q kept
+lacking_by view parcel terms (Refused refusal) r q kept done = refused_done view parcel terms refusal r q kept done
+lacking_by view parcel terms _ r q kept done = done
+
+told_so : {R : Type 0} (view : View R) (parcel : Parcel) (terms : Terms) (full : Bool) (answer : Answer) (r q : R) (kept : Kept) → IsDone view [] (delivery_of parcel terms) answer r kept q kept
+    → IsDone view [] (delivery_of parcel terms) (told_by full answer) r kept q kept
+told_so view parcel terms true answer r q kept done = lacking_by view parcel terms answer r q kept done
+told_so view parcel terms false answer r q kept done = done
+
+pub told_done : {R : Type 0} (view : View R) (parcel : Parcel) (terms : Terms) (answer told : Answer) (code : Option ErrorCode) (r q : R) (kept : Kept) → IsToldAs answer code told
+    → IsDone view [] (delivery_of parcel terms) answer r kept q kept → IsDone view [] (delivery_of parcel terms) told r kept q kept
+told_done view parcel terms answer told code r q kept is done =
+    subst (λ a. IsDone view [] (delivery_of parcel terms) a r kept q kept) (sym is) (told_so view parcel terms (is_full code) answer r q kept done)

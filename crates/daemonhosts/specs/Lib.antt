@@ -1,6 +1,5 @@
 pub mod Events
 pub mod Held
-pub mod Laws
 pub mod Log
 pub mod Pauses
 pub mod Queue

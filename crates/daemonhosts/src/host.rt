@@ -7,7 +7,9 @@ ghost use Rattle.mailstore.specs.Cells.{contents};
 ghost use Rattle.sieveexec.specs.declared.when.When.{When};
 ghost use Rattle.sieveddaemon.specs.Desk.{delivery_of};
 ghost use Rattle.wires.specs.Told.{IsOwn};
-ghost use Rattle.daemonhosts.specs.Held.{Shows, IsClean, StillShown, Brings, Goes, HasMail, IsToldAs, Seeks};
+ghost use Rattle.daemonhosts.specs.Events as events;
+ghost use Rattle.daemonhosts.specs.Held as held;
+ghost use Rattle.daemonhosts.specs.Held.{view_of, IsClean, StillShown, Brings, Goes, HasMail, IsToldAs, Seeks};
 ghost use Rattle.sieveddaemon.specs.Moves.{HasKept};
 
 use crate::held::HeldStore;
@@ -256,16 +258,31 @@ impl<'a, N: Net + time::Clock, E: Write + Drop, K: Keeper + Drop, T: MailSink + 
 
 /// The answer to a delivery, as it is told: of a store whose disk is full as of one that lacks memory.
 fn told_as(answer: Answer, code: Option<ErrorCode>) -> Answer
-    ensures { IsToldAs answer result }
+    ensures { IsToldAs answer code result }
+{
+    if is_full(code) {
+        lacking(answer)
+    } else {
+        answer
+    }
+}
+
+/// Whether SQLite said that the disk is full.
+fn is_full(code: Option<ErrorCode>) -> bool
+    ensures { result ≡ events.is_full code }
+{
+    match code {
+        Some(ErrorCode::DiskFull) => true,
+        _ => false,
+    }
+}
+
+/// A refusal of the store as one for lack of memory, and any other answer as it is.
+fn lacking(answer: Answer) -> Answer
+    ensures { result ≡ held.lacking answer }
 {
     match answer {
-        Answer::Refused(Refusal::Store) => {
-            if code == Some(ErrorCode::DiskFull) {
-                Answer::Refused(Refusal::Memory)
-            } else {
-                Answer::Refused(Refusal::Store)
-            }
-        }
+        Answer::Refused(Refusal::Store) => Answer::Refused(Refusal::Memory),
         other => other,
     }
 }
@@ -405,12 +422,8 @@ impl<N: Net + time::Clock, E: Write + Drop, K: Keeper + Drop, T: MailSink + Drop
 impl<N: Net + time::Clock, E: Write + Drop, K: Keeper + Drop, T: MailSink + Drop> Desk
     for Host<'_, N, E, K, T> {
     ghost use Rattle.keepers.specs.Laws.{never_told};
-    ghost use Rattle.daemonhosts.specs.Held.{Leaves};
-    ghost use Rattle.daemonhosts.specs.Laws.{crash_leaves};
 
-    ghost shows = { Shows K.S.Store K.tells K.holds };
-
-    ghost leaves = { Leaves K.S.Store };
+    ghost view = { view_of K.S.Store K.tells K.holds };
 
     ghost clean = { IsClean K.S.Store K.tells };
 
@@ -486,8 +499,6 @@ impl<N: Net + time::Clock, E: Write + Drop, K: Keeper + Drop, T: MailSink + Drop
         }
         gives
     }
-
-    ghost left = { λ tried held accounts shown trees left. crash_leaves _ _ left shown };
 
     ghost sure = { λ desk told. never_told told };
 }

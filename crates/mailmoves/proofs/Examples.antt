@@ -1,26 +1,36 @@
 -- Right cases of the definitions, and near misses.
-use Rattle.std.proofs.Common.{◌≡◌, ℕ, ◌<◌, List, [], ◌∷◌, refl, inl, inr}
-use native.Mathlib.Omega.{arith}
+use Rattle.std.proofs.Common.{◌≡◌, ◌⊎◌, ℕ, List, refl, inl, inr}
 use Rattle.sqlite_trees.specs.Tree.{Trees}
 use Rattle.mailstore.specs.Account.{Accounts}
 use Rattle.mailstore.specs.Shows.{ShowsIn}
 use Rattle.mailstore.specs.declared.refusal.Refusal.TheVariants.{Store}
+use Rattle.mailengine.specs.World.{World}
 use Rattle.mailengine.specs.declared.answer.Answer.TheVariants.{MailTaken, Refused}
-use Rattle.mailengine.specs.declared.event.Event.{Event}
 use Rattle.mailengine.specs.declared.event.Event.TheVariants.{TakeMail}
-use Rattle.mailmoves.specs.Enduring.{MayLeave, refused_of}
+use Rattle.mailmoves.specs.Enduring.{MayLeave, ShowsMade, ShowsTried, none_tried}
 
--- an event that was refused was tried, and one that was done is among the accounts
-refused : (user folder : List ℕ) → refused_of (TakeMail user folder) (Refused Store) ≡ TakeMail user folder ∷ []
-refused user folder = refl
+-- an event that was refused may be left, and one that was made is among the accounts
+refused : (user folder : List ℕ) (met : World) (trees : Trees) → ShowsTried (TakeMail user folder) (Refused Store) met trees ≡ ShowsMade (TakeMail user folder) met trees
+refused user folder met trees = refl
 
-done : (user folder : List ℕ) → refused_of (TakeMail user folder) MailTaken ≡ []
-done user folder = refl
+made : (user folder : List ℕ) (met : World) (trees : Trees) → ShowsTried (TakeMail user folder) MailTaken met trees → ⊥
+made user folder met trees tried = tried
 
--- where none was tried a crash leaves the accounts alone
-left_alone : (accounts : Accounts) (trees : Trees) → MayLeave [] accounts trees → ShowsIn trees accounts
-left_alone accounts trees (inl shown) = shown
-left_alone accounts trees (inr more) = absurd (none more.is_tried.0 more.is_tried.1)
-  where
-    none : (k : ℕ) → k < 0 → ⊥
-    none k below = omega (arith, below)
+module _ (before after : Trees → Type 0) (accounts later : Accounts) (trees : Trees) (may : after trees) where
+  -- behind a call that changed an account nothing is left of what was tried before it
+  nothing_old : MayLeave before accounts after later none_tried → (later ≡ accounts → ⊥) → ShowsIn trees later
+  nothing_old left changed = by (left trees may)
+    where
+      by : ShowsIn trees later ⊎ ((later ≡ accounts) × before trees) ⊎ none_tried trees → ShowsIn trees later
+      by (inl shown) = shown
+      by (inr (inl old)) = absurd (changed old.0)
+      by (inr (inr none)) = absurd none
+
+  -- where nothing might be left before, and nothing was tried, a crash leaves the accounts alone
+  alone : MayLeave (λ _. ⊥) accounts after later none_tried → ShowsIn trees later
+  alone left = by (left trees may)
+    where
+      by : ShowsIn trees later ⊎ ((later ≡ accounts) × ⊥) ⊎ none_tried trees → ShowsIn trees later
+      by (inl shown) = shown
+      by (inr (inl old)) = absurd old.1
+      by (inr (inr none)) = absurd none

@@ -1,6 +1,5 @@
--- What a store shows, and what a crash leaves of it.
-use Rattle.std.specs.Prelude.{◌≡◌, ◌⊎◌, List, [], ◌∷◌, IsTrue}
-use Rattle.std.specs.List.{AllByRecursion, Contains}
+-- What a store shows behind a call, and what a crash leaves of it then.
+use Rattle.std.specs.Prelude.{◌≡◌, ◌⊎◌, IsTrue}
 use Rattle.sqlite_trees.specs.Tree.{Trees}
 use Rattle.sqlite.specs.State.{State}
 use Rattle.mailstore.specs.Account.{Accounts}
@@ -11,33 +10,32 @@ use Rattle.mailengine.specs.declared.answer.Answer.{Answer}
 use Rattle.mailengine.specs.declared.answer.Answer.TheVariants.{Refused}
 use Rattle.mailengine.specs.declared.event.Event.{Event}
 
--- the event, where it was refused: it may have come to the disk all the same
-abbrev pub refused_of : Event → Answer → List Event
-refused_of event (Refused refusal) = event ∷ []
-refused_of event answer = []
-
--- each of these is among those that were tried
-abbrev pub AreTried : List Event → List Event → Type 0
-AreTried tried events = AllByRecursion (Contains tried) events
-
--- the trees show what one of the events that were tried makes of the accounts, whatever sessions there are: of a `Step`, what some command
--- makes of them
-pub record ShowsOneMore (tried : List Event) (accounts : Accounts) (trees : Trees) : Type 0 where
-  pub event : Event
-  pub is_tried : Contains tried event
+-- the trees show the accounts that the event makes of a world, with some answer: of a `Step`, by the first item of that session in it
+pub record ShowsMade (event : Event) (met : World) (trees : Trees) : Type 0 where
   pub answer : Answer
-  pub before : World
-  pub same : before.accounts ≡ accounts
   pub after : World
-  pub next : Next before event answer after
+  pub next : Next met event answer after
   pub shown : ShowsIn trees after.accounts
 
--- what a crash may leave: the accounts, or what one of the events that were tried makes of them, as a whole
-abbrev pub MayLeave : List Event → Accounts → Trees → Type 0
-MayLeave tried accounts trees = ShowsIn trees accounts ⊎ ShowsOneMore tried accounts trees
+-- an event that was refused may have come to the disk all the same; one that was made is among the accounts, and isn't left beside them
+abbrev pub ShowsTried : Event → Answer → World → Trees → Type 0
+ShowsTried event (Refused refusal) met trees = ShowsMade event met trees
+ShowsTried event answer met trees = ⊥
 
--- the store shows the accounts (`HasAccounts`), and a crash leaves them, or what one of the events that were tried makes of them; of a
--- connection that a fault of the disk has shut nothing is said
-pub record Endures (tried : List Event) (s : State) (accounts : Accounts) : Type 0 where
-  pub shown : HasAccounts s accounts
-  pub left : IsTrue s.is_open → (trees : Trees) → s.may_leave trees → MayLeave tried accounts trees
+-- nothing was tried
+abbrev pub none_tried : Trees → Type 0
+none_tried trees = ⊥
+
+-- what may be left behind a call, by which accounts became others: these; what might be left before it, where no account changed; or what
+-- was tried in it
+abbrev pub MayLeave : (Trees → Type 0) → Accounts → (Trees → Type 0) → Accounts → (Trees → Type 0) → Type 0
+MayLeave before accounts after later Tried = (trees : Trees) → after trees → ShowsIn trees later ⊎ ((later ≡ accounts) × before trees) ⊎ Tried trees
+
+-- what an open after a crash at this moment may find; of a connection that a fault of the disk has shut nothing is said
+abbrev pub leaves_of : State → Trees → Type 0
+leaves_of s trees = IsTrue s.is_open × s.may_leave trees
+
+-- behind a call the store shows the later accounts (`HasAccounts`), and a crash leaves what it may (`MayLeave`)
+pub record Endures (old : State) (accounts : Accounts) (new : State) (later : Accounts) (Tried : Trees → Type 0) : Type 0 where
+  pub shown : HasAccounts new later
+  pub left : MayLeave (leaves_of old) accounts (leaves_of new) later Tried

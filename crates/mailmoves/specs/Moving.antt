@@ -1,15 +1,17 @@
 -- What becomes of a message that moves on.
 use Rattle.std.specs.Prelude.{◌≡◌, ℕ, Bool, List, [], ◌∷◌, ◌++◌, Some, Result, Ok, Err, IsTrue}
+use Rattle.sqlite_trees.specs.Tree.{Trees}
 use Rattle.sqlite.specs.State.{State, HasCleanDisk}
 use Rattle.mailstore.specs.Account.{Account, Accounts, open_of, messages_in}
 use Rattle.mailstore.specs.Refusals.{IsTransient}
+use Rattle.sessions.specs.Acts.{HasAccounts}
 use Rattle.mailsinks.specs.declared.kept.KeptMail.{KeptMail}
 use Rattle.mailengine.specs.AccountEvents.{MailTaking}
 use Rattle.mailengine.specs.Hosts.{TurnsBy}
+use Rattle.mailengine.specs.World.{World}
 use Rattle.mailengine.specs.declared.answer.Answer.{Answer}
-use Rattle.mailengine.specs.declared.event.Event.{Event}
 use Rattle.mailengine.specs.declared.event.Event.TheVariants.{TakeMail}
-use Rattle.mailmoves.specs.Enduring.{Endures, AreTried, refused_of}
+use Rattle.mailmoves.specs.Enduring.{Endures, ShowsTried}
 use Rattle.mailmoves.specs.declared.moving.Kept.{Kept}
 use Rattle.mailmoves.specs.declared.moving.Moving.{Moving}
 use Rattle.mailmoves.specs.declared.moving.Moving.TheVariants as moving
@@ -30,15 +32,15 @@ FirstMoves user folder (Ok kept) accounts later = IsFirst accounts user folder k
 FirstMoves user folder (Err why) accounts later = later ≡ accounts
 
 -- the event that takes it out, where that was refused
-abbrev pub refused_taking : List ℕ → List ℕ → Result Kept Why → List Event
-refused_taking user folder (Ok kept) = refused_of (TakeMail user folder) kept.answer
-refused_taking user folder (Err why) = []
+abbrev pub TriedTaking : List ℕ → List ℕ → Result Kept Why → World → Trees → Type 0
+TriedTaking user folder (Ok kept) w trees = ShowsTried (TakeMail user folder) kept.answer w trees
+TriedTaking user folder (Err why) w trees = ⊥
 
--- over a store, whatever accounts it showed; a crash leaves those that it shows, or as one event that was tried makes them (`Endures`)
+-- over a store, whatever accounts it showed: it shows the later ones, and a crash leaves them, or what it might leave (`Endures`)
 abbrev pub MovesFirst : List ℕ → List ℕ → Result Kept Why → State → State → Type 0
 MovesFirst user folder result old new =
-    HasCleanDisk new → (tried : List Event) → AreTried tried (refused_taking user folder result) → (accounts : Accounts) → Endures tried old accounts
-    → (later : Accounts) × FirstMoves user folder result accounts later × Endures tried new later
+    HasCleanDisk new → (w : World) → HasAccounts old w.accounts
+    → (later : Accounts) × FirstMoves user folder result w.accounts later × Endures old w.accounts new later (TriedTaking user folder result w)
 
 -- ---- whichever folder it is
 
@@ -46,14 +48,14 @@ abbrev pub Moves : Moving → Accounts → Accounts → Type 0
 Moves (moving.Kept mail answer) accounts later = IsFirst accounts mail.user mail.folder mail.message × TakesFirst accounts mail.user mail.folder answer later
 Moves other accounts later = later ≡ accounts
 
-abbrev pub refused_in : Moving → List Event
-refused_in (moving.Kept mail answer) = refused_of (TakeMail mail.user mail.folder) answer
-refused_in other = []
+abbrev pub TriedMoving : Moving → World → Trees → Type 0
+TriedMoving (moving.Kept mail answer) w trees = ShowsTried (TakeMail mail.user mail.folder) answer w trees
+TriedMoving other w trees = ⊥
 
 abbrev pub MovesOn : Moving → State → State → Type 0
 MovesOn result old new =
-    HasCleanDisk new → (tried : List Event) → AreTried tried (refused_in result) → (accounts : Accounts) → Endures tried old accounts
-    → (later : Accounts) × Moves result accounts later × Endures tried new later
+    HasCleanDisk new → (w : World) → HasAccounts old w.accounts
+    → (later : Accounts) × Moves result w.accounts later × Endures old w.accounts new later (TriedMoving result w)
 
 -- no message left its folder
 abbrev pub IsStill : Moving → Type 0

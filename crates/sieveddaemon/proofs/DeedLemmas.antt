@@ -18,7 +18,7 @@ use Rattle.wires.specs.declared.act.Act.TheVariants.{Noted}
 use Rattle.wires.specs.Told.{TellsIf}
 use Rattle.sieveddaemon.specs.Holds.{asked_at}
 use Rattle.sieveddaemon.specs.Deeds.{IsBecame, DoesOneIf}
-use Rattle.sieveddaemon.specs.Desk.{LooksUp, Delivers, StillShowsIf, delivery_of}
+use Rattle.sieveddaemon.specs.Desk.{View, LooksUp, Delivers, StillShowsIf, delivery_of}
 use Rattle.sieveddaemon.specs.declared.daemon.Daemon.{Daemon}
 use Rattle.sieveddaemon.specs.declared.daemon.Holding.{Holding}
 use Rattle.sieveddaemon.specs.declared.note.Note.{Note}
@@ -55,12 +55,12 @@ abbrev size_of : Deed → ℕ
 size_of (Declined size) = size
 size_of deed = 0
 
-module _ {O R : Type 0} (tells : O → Bool) (seen : O → List (Act Note)) (rest : O → R) (shows : List Event → R → Accounts → Type 0) (clean : R → Type 0) (sure : (o : O) → IsTrue (tells o) → clean (rest o))
+module _ {O R : Type 0} (tells : O → Bool) (seen : O → List (Act Note)) (rest : O → R) (view : View R) (clean : R → Type 0) (sure : (o : O) → IsTrue (tells o) → clean (rest o))
     (o p : O) (d : Daemon) (c : Clients) (now id : ℕ) (said : List ℕ) (before after : Post) (room : ℕ) (less : HoldsNoMore before after) where
   abbrev One : Daemon → Type 0
-  One e = DoesOneIf tells seen rest shows room o d before now id said p e after
+  One e = DoesOneIf tells seen rest view room o d before now id said p e after
 
-  pub answered : Does now Answered said before after → TellsIf tells seen o (Noted id note.Answered) p → StillShowsIf tells rest shows o p → One d
+  pub answered : Does now Answered said before after → TellsIf tells seen o (Noted id note.Answered) p → StillShowsIf tells rest view o p → One d
   answered does told still = λ tell. (
     note.Answered,
     told tell,
@@ -68,7 +68,7 @@ module _ {O R : Type 0} (tells : O → Bool) (seen : O → List (Act Note)) (res
   )
 
   -- a MAIL was refused that announces more than there is room for
-  pub declined : Does now (Declined room) said before after → TellsIf tells seen o (Noted id note.Answered) p → StillShowsIf tells rest shows o p → One d
+  pub declined : Does now (Declined room) said before after → TellsIf tells seen o (Noted id note.Answered) p → StillShowsIf tells rest view o p → One d
   declined does told still = λ tell. (
     note.Answered,
     told tell,
@@ -84,7 +84,7 @@ module _ {O R : Type 0} (tells : O → Bool) (seen : O → List (Act Note)) (res
     },
   )
 
-  pub asked : (user : List ℕ) (lookup : Lookup) → LooksUp tells seen rest shows clean id user o d.clients.sessions (Some lookup) p c.sessions → Does now (Asked user lookup) said before after
+  pub asked : (user : List ℕ) (lookup : Lookup) → LooksUp tells seen rest view clean id user o d.clients.sessions (Some lookup) p c.sessions → Does now (Asked user lookup) said before after
       → (h : Holding) → h ≡ asked_at now d.holding → One (record d { clients = c; holding = h })
   asked user lookup looks does h had = λ tell. (
     note.Asked looks.0 user lookup,
@@ -92,14 +92,14 @@ module _ {O R : Type 0} (tells : O → Bool) (seen : O → List (Act Note)) (res
     record { deed = Asked user lookup; is = refl; does = does; spare = λ size. other_deed room size (Asked user lookup) refl; held = less; stores = looks.1 (sure p tell); places = refl; holding = had },
   )
 
-  pub unasked : (user : List ℕ) → LooksUp tells seen rest shows clean id user o d.clients.sessions None p c.sessions → Does now Away said before after → One (record d { clients = c })
+  pub unasked : (user : List ℕ) → LooksUp tells seen rest view clean id user o d.clients.sessions None p c.sessions → Does now Away said before after → One (record d { clients = c })
   unasked user looks does = λ tell. (
     note.Away,
     looks.1 tell,
     record { deed = Away; is = refl; does = does; spare = λ size. other_deed room size Away refl; held = less; stores = looks.0 (sure p tell); places = refl; holding = refl },
   )
 
-  pub brought : (default : O → Option (List ℕ)) (parcel : Parcel) (answer : Answer) (became : Became) → Delivers tells seen rest shows clean default id parcel o d.clients.sessions (Some answer) p c.sessions → IsBecame parcel.sender answer became
+  pub brought : (default : O → Option (List ℕ)) (parcel : Parcel) (answer : Answer) (became : Became) → Delivers tells seen rest view clean default id parcel o d.clients.sessions (Some answer) p c.sessions → IsBecame parcel.sender answer became
       → Does now (Brought parcel became) said before after → (h : Holding) → h ≡ asked_at now d.holding → One (record d { clients = c; holding = h })
   brought default parcel answer became delivers is does h had = λ tell. (
     note.Did delivers.1.0 (delivery_of parcel (terms delivers.0 (default o))) answer,
@@ -107,7 +107,7 @@ module _ {O R : Type 0} (tells : O → Bool) (seen : O → List (Act Note)) (res
     record { deed = Brought parcel became; is = (parcel, terms delivers.0 (default o), became, refl, is, refl); does = does; spare = λ size. other_deed room size (Brought parcel became) refl; held = less; stores = delivers.1.1 (sure p tell); places = refl; holding = had },
   )
 
-  pub unbrought : (default : O → Option (List ℕ)) (parcel : Parcel) → Delivers tells seen rest shows clean default id parcel o d.clients.sessions None p c.sessions → Does now Away said before after → One (record d { clients = c })
+  pub unbrought : (default : O → Option (List ℕ)) (parcel : Parcel) → Delivers tells seen rest view clean default id parcel o d.clients.sessions None p c.sessions → Does now Away said before after → One (record d { clients = c })
   unbrought default parcel delivers does = λ tell. (
     note.Away,
     delivers.1.1 tell,
@@ -115,9 +115,9 @@ module _ {O R : Type 0} (tells : O → Bool) (seen : O → List (Act Note)) (res
   )
 
 -- one step of a connection that is as it was
-pub one_behind : {O R : Type 0} (tells : O → Bool) (seen : O → List (Act Note)) (rest : O → R) (shows : List Event → R → Accounts → Type 0) (o p : O) (d e : Daemon) (before mid after : Post) (now id : ℕ) (said : List ℕ) (room : ℕ)
-    → Keeps before mid → mid.receiver ≡ before.receiver → DoesOneIf tells seen rest shows room o d mid now id said p e after → DoesOneIf tells seen rest shows room o d before now id said p e after
-one_behind tells seen rest shows o p d e before mid after now id said room keeps same one = λ tell.
+pub one_behind : {O R : Type 0} (tells : O → Bool) (seen : O → List (Act Note)) (rest : O → R) (view : View R) (o p : O) (d e : Daemon) (before mid after : Post) (now id : ℕ) (said : List ℕ) (room : ℕ)
+    → Keeps before mid → mid.receiver ≡ before.receiver → DoesOneIf tells seen rest view room o d mid now id said p e after → DoesOneIf tells seen rest view room o d before now id said p e after
+one_behind tells seen rest view o p d e before mid after now id said room keeps same one = λ tell.
     let s = one tell in (
       s.0,
       s.1,

@@ -6,10 +6,10 @@ use Rattle.std.specs.Map.{lookup}
 use Rattle.sqlite_trees.specs.Tree.{Trees}
 use Rattle.lmtp.specs.declared.name.Names.{Names}
 use Rattle.mailstore.specs.Account.{Accounts}
+use Rattle.mailstore.specs.Shows.{ShowsIn}
 use Rattle.std.proofs.lemmas.List.{append-nil}
 use Rattle.mailengine.specs.World.{World, Next, Runs}
-use Rattle.mailmoves.specs.Enduring.{MayLeave, AreTried}
-use Rattle.mailmoves.proofs.EnduringLemmas.{among_left, among_right, among_themselves}
+use Rattle.mailmoves.specs.Enduring.{ShowsMade}
 use Rattle.mailmoves.specs.declared.moving.Moving.{Moving}
 use Rattle.mailmoves.specs.declared.moving.Moving.TheVariants as moving
 use Rattle.mailengine.specs.declared.answer.Answer.{Answer}
@@ -24,21 +24,23 @@ use Rattle.wires.specs.declared.turn.Turn.TheVariants.{Stuffed}
 use Rattle.wires.specs.Life.{Move, acts_of, Passes, Fresh, IsFrontOf}
 use Rattle.wires.specs.Moves.{Moment, Moves}
 use Rattle.wires.specs.Talk.{client_of}
-use Rattle.sieveddaemon.specs.Acts.{Line, no_line, LeadsBy, LacksThen, LeadsIn, Leads, LeadsOn, tried_at, tried_in, opened_by, events_by, events_at, events_in, AnswersBy, AnswersAt, AnswersIn, moment_after, tell_line, tell_on, IsRight, AreRight}
+use Rattle.sieveddaemon.specs.Acts.{Line, no_line, LeadsBy, LacksThen, LeadsIn, Leads, LeadsOn, RestsOn, opened_by, events_by, events_at, events_in, AnswersBy, AnswersAt, AnswersIn, moment_after, tell_line, tell_on, IsRight, AreRight}
 use Rattle.sieveddaemon.specs.DaemonRules.{lmtp, place_at}
-use Rattle.sieveddaemon.specs.Desk.{IsWorld}
+use Rattle.sieveddaemon.specs.Desk.{View, IsWorld, ComesTo}
 use Rattle.sieveddaemon.specs.Headline.{world_of, HoldsAfter, Headline, IsNew}
 use Rattle.sieveddaemon.specs.Holding.{firm_client, firm_post, firm_at, IsBounded}
 use Rattle.sieveddaemon.specs.MailActs.{MailLine, Tells, TellsOn}
 use Rattle.sieveddaemon.specs.MailRules.{mail_rules, post_at}
 use Rattle.sieveddaemon.specs.Places.{client_at}
+use Rattle.sieveddaemon.specs.Tried.{TriesAt, TriedIn, LeavesTried, IsLeft}
 use Rattle.sieveddaemon.specs.Moves.{LetAt, MovedAt, takes_of, answers_of}
 use Rattle.sieveddaemon.specs.declared.mail.MailDaemon.{MailDaemon}
 use Rattle.sieveddaemon.specs.declared.note.Note.{Note}
 use Rattle.sieveddaemon.specs.declared.note.Note.TheVariants.{Did, Away, Freed, Spoke, Answered, Asked, Looked, Moved}
 use Rattle.sieveddaemon.proofs.EventLemmas.{runs_then, runs_one, none_open}
 use Rattle.sieveddaemon.proofs.HoldingLemmas.{grown, bounded_then}
-use Rattle.sieveddaemon.proofs.LeadLemmas.{Led, leads}
+use Rattle.sieveddaemon.proofs.LeadLemmas.{Led, TriedHere, leads}
+use Rattle.sieveddaemon.proofs.TriedLemmas.{LeavesOn, left_on, left_here, is_left}
 use Rattle.sieveddaemon.proofs.LineLemmas.{TiedBy, moment_is, tied_after, right_at}
 use Rattle.sieveddaemon.proofs.MailLemmas.{IsSetUp, stays_set_up, BoundBy, FitsBy as MailFits, words_of as mail_words, mail_after}
 use Rattle.sieveddaemon.proofs.SentLemmas.{front}
@@ -99,54 +101,55 @@ runs_in w v (act ∷ acts) led =
 
 -- ---- moves in turn
 
-module _ {R : Type 0} (shows : List Event → R → Accounts → Type 0) where
+module _ {R : Type 0} (view : View R) where
   -- the store and the sessions are those of a world
-  abbrev Stands : List Event → Moment MailDaemon Note R → World → Type 0
-  Stands tried m w = IsWorld (shows tried) m.rest m.machine.daemon.clients.sessions w
+  abbrev Stands : Moment MailDaemon Note R → World → Type 0
+  Stands m w = IsWorld view m.rest m.machine.daemon.clients.sessions w
 
   -- of one for which memory was lacking that is what follows says
   full_then : (id : ℕ) (act : Act Note) (more : List (Act Note)) → IsFull id act → LacksThen id (act ∷ more)
   full_then id (Full n) more is = is
   full_then id _ more is = absurd is
 
-  lacks_then : (m : Moment MailDaemon Note R) (moves : List (Move Note)) (n : Moment MailDaemon Note R) → Passes (mail_rules shows) m moves n → (id kind : ℕ) → m.service.turn ≡ Stuffed id kind → LacksThen id (acts_of moves)
+  lacks_then : (m : Moment MailDaemon Note R) (moves : List (Move Note)) (n : Moment MailDaemon Note R) → Passes (mail_rules view) m moves n → (id kind : ℕ) → m.service.turn ≡ Stuffed id kind → LacksThen id (acts_of moves)
   lacks_then m [] n passes id kind stuffed = tt
   lacks_then m (move ∷ moves) n passes id kind stuffed =
       let mid = passes.0 in
       let one = passes.1 in
-      let is : IsFull id one.act = fulls (mail_rules shows) m.machine mid.machine m.rest mid.rest m.service mid.service id kind stuffed one.act one.said one.turns in
+      let is : IsFull id one.act = fulls (mail_rules view) m.machine mid.machine m.rest mid.rest m.service mid.service id kind stuffed one.act one.said one.turns in
       full_then id move.act (acts_of moves) (subst (λ a. IsFull id a) passes.2 is)
 
-  leads_on : (tried : List Event) (m : Moment MailDaemon Note R) (moves : List (Move Note)) (n : Moment MailDaemon Note R) (w : World) → AreTried tried (tried_in (acts_of moves)) → Passes (mail_rules shows) m moves n → Stands tried m w
-      → (v : World) × LeadsOn w (acts_of moves) v × Stands tried n v
-  leads_on tried m [] n w are passes stands = (w, refl, subst (λ (k : Moment MailDaemon Note R). Stands tried k w) (sym passes) stands)
-  leads_on tried m (move ∷ moves) n w are passes stands =
+  -- acts lead to a world, and a crash leaves its accounts, or what was tried in them, or what it left before, where no account changed
+  leads_on : (m : Moment MailDaemon Note R) (moves : List (Move Note)) (n : Moment MailDaemon Note R) (w : World) → Passes (mail_rules view) m moves n → Stands m w
+      → (v : World) × LeadsOn w (acts_of moves) v × Stands n v × LeavesOn (view.leaves m.rest) w (acts_of moves) (view.leaves n.rest) v
+  leads_on m [] n w passes stands = (
+    w,
+    refl,
+    subst (λ (k : Moment MailDaemon Note R). Stands k w) (sym passes) stands,
+    subst (λ (k : Moment MailDaemon Note R). LeavesOn (view.leaves m.rest) w [] (view.leaves k.rest) w) (sym passes) (left_here (view.leaves m.rest) w),
+  )
+  leads_on m (move ∷ moves) n w passes stands =
       let mid = passes.0 in
       let one = passes.1 in
-      let here : AreTried tried (tried_at one.act) =
-      subst (λ a. AreTried tried (tried_at a)) (sym passes.2) (among_left tried (tried_at move.act) (tried_in (acts_of moves)) are) in
-      let led : Led shows tried m.machine mid.machine m.rest mid.rest w move.act (acts_of moves) =
-      subst (λ a. Led shows tried m.machine mid.machine m.rest mid.rest w a (acts_of moves)) passes.2
-      (leads shows tried m.machine mid.machine m.rest mid.rest m.service mid.service (acts_of moves) (lacks_then mid moves n passes.4) one.act one.said w one.turns one.leaves here stands) in
-      let more = leads_on tried mid moves n led.0 (among_right tried (tried_at move.act) (tried_in (acts_of moves)) are) passes.4 led.2 in
-      (more.0, (led.0, led.1, more.1), more.2)
+      let led : Led view m.machine mid.machine m.rest mid.rest w move.act (acts_of moves) =
+      subst (λ a. Led view m.machine mid.machine m.rest mid.rest w a (acts_of moves)) passes.2
+      (leads view m.machine mid.machine m.rest mid.rest m.service mid.service (acts_of moves) (lacks_then mid moves n passes.4) one.act one.said w one.turns one.leaves stands) in
+      let more = leads_on mid moves n led.0 passes.4 led.2.is in
+      (more.0, (led.0, led.1, more.1), more.2, left_on (view.leaves m.rest) (view.leaves mid.rest) (view.leaves n.rest) w led.0 more.0 move.act (acts_of moves) led.1 led.2.left more.3)
 
   -- what all hold
-  bounded_on : (tried : List Event) (m : Moment MailDaemon Note R) (moves : List (Move Note)) (n : Moment MailDaemon Note R) (w : World) → AreTried tried (tried_in (acts_of moves)) → Passes (mail_rules shows) m moves n → Stands tried m w
-      → IsBounded m.machine → IsBounded n.machine
-  bounded_on tried m [] n w are passes stands was = subst (λ (k : Moment MailDaemon Note R). IsBounded k.machine) (sym passes) was
-  bounded_on tried m (move ∷ moves) n w are passes stands was =
+  bounded_on : (m : Moment MailDaemon Note R) (moves : List (Move Note)) (n : Moment MailDaemon Note R) (w : World) → Passes (mail_rules view) m moves n → Stands m w → IsBounded m.machine → IsBounded n.machine
+  bounded_on m [] n w passes stands was = subst (λ (k : Moment MailDaemon Note R). IsBounded k.machine) (sym passes) was
+  bounded_on m (move ∷ moves) n w passes stands was =
       let mid = passes.0 in
       let one = passes.1 in
-      let here : AreTried tried (tried_at one.act) =
-      subst (λ a. AreTried tried (tried_at a)) (sym passes.2) (among_left tried (tried_at move.act) (tried_in (acts_of moves)) are) in
-      let led : Led shows tried m.machine mid.machine m.rest mid.rest w one.act (acts_of moves) =
-      leads shows tried m.machine mid.machine m.rest mid.rest m.service mid.service (acts_of moves) (lacks_then mid moves n passes.4) one.act one.said w one.turns one.leaves here stands in
-      let more = grown m.machine mid.machine w led.0 one.act (acts_of moves) stands.sessions led.2.sessions led.1 in
-      bounded_on tried mid moves n led.0 (among_right tried (tried_at move.act) (tried_in (acts_of moves)) are) passes.4 led.2 (bounded_then shows tried m.machine mid.machine m.rest mid.rest m.service mid.service one.act one.said one.turns more w stands was)
+      let led : Led view m.machine mid.machine m.rest mid.rest w one.act (acts_of moves) =
+      leads view m.machine mid.machine m.rest mid.rest m.service mid.service (acts_of moves) (lacks_then mid moves n passes.4) one.act one.said w one.turns one.leaves stands in
+      let more = grown m.machine mid.machine w led.0 one.act (acts_of moves) stands.sessions led.2.is.sessions led.1 in
+      bounded_on mid moves n led.0 passes.4 led.2.is (bounded_then view m.machine mid.machine m.rest mid.rest m.service mid.service one.act one.said one.turns more w stands was)
 
   -- the moment behind one move
-  moment_then : (m mid : Moment MailDaemon Note R) (one : Moves (mail_rules shows) m mid) (act : Act Note) → one.act ≡ act → mid.service.moment ≡ moment_after m.service.moment act
+  moment_then : (m mid : Moment MailDaemon Note R) (one : Moves (mail_rules view) m mid) (act : Act Note) → one.act ≡ act → mid.service.moment ≡ moment_after m.service.moment act
   moment_then m mid one act is = moment_is m.service.moment one.act mid.service.moment one.ticks ∙ ap (λ a. moment_after m.service.moment a) is
 
   -- ---- a client of ManageSieve
@@ -154,20 +157,20 @@ module _ {R : Type 0} (shows : List Event → R → Accounts → Type 0) where
   abbrev Line_at : ℕ → Moment MailDaemon Note R → Option Line → Type 0
   Line_at id m o = TiedBy m.machine id o × FitsBy id o (client_of m.service id) m.service.turn
 
-  line_one : (m mid : Moment MailDaemon Note R) (one : Moves (mail_rules shows) m mid) (id : ℕ) (o : Option Line) → Line_at id m o → Line_at id mid (tell_line id m.service.moment o one.act)
+  line_one : (m mid : Moment MailDaemon Note R) (one : Moves (mail_rules view) m mid) (id : ℕ) (o : Option Line) → Line_at id m o → Line_at id mid (tell_line id m.service.moment o one.act)
   line_one m mid one id o at = (
-    tied_after shows m.machine mid.machine m.rest mid.rest m.service mid.service id o at.0 one.act one.said one.turns,
-    line_after shows m.machine mid.machine m.rest mid.rest m.service mid.service id o at.0 at.1 one.act one.said one.turns (one.talks id),
+    tied_after view m.machine mid.machine m.rest mid.rest m.service mid.service id o at.0 one.act one.said one.turns,
+    line_after view m.machine mid.machine m.rest mid.rest m.service mid.service id o at.0 at.1 one.act one.said one.turns (one.talks id),
   )
 
-  line_then : (m mid : Moment MailDaemon Note R) (one : Moves (mail_rules shows) m mid) (id : ℕ) (o : Option Line) (act : Act Note) → one.act ≡ act → Line_at id m o → Line_at id mid (tell_line id m.service.moment o act)
+  line_then : (m mid : Moment MailDaemon Note R) (one : Moves (mail_rules view) m mid) (id : ℕ) (o : Option Line) (act : Act Note) → one.act ≡ act → Line_at id m o → Line_at id mid (tell_line id m.service.moment o act)
   line_then m mid one id o act is at = subst (λ a. Line_at id mid (tell_line id m.service.moment o a)) is (line_one m mid one id o at)
 
-  right_one : (m mid : Moment MailDaemon Note R) (one : Moves (mail_rules shows) m mid) (id : ℕ) (o : Option Line) (act : Act Note) → one.act ≡ act → Line_at id m o → IfSome o (λ l. IsRight id m.service.moment l act)
+  right_one : (m mid : Moment MailDaemon Note R) (one : Moves (mail_rules view) m mid) (id : ℕ) (o : Option Line) (act : Act Note) → one.act ≡ act → Line_at id m o → IfSome o (λ l. IsRight id m.service.moment l act)
   right_one m mid one id o act is at =
-      subst (λ a. IfSome o (λ l. IsRight id m.service.moment l a)) is (right_at shows m.machine mid.machine m.rest mid.rest m.service mid.service id o at.0 one.act one.said one.turns)
+      subst (λ a. IfSome o (λ l. IsRight id m.service.moment l a)) is (right_at view m.machine mid.machine m.rest mid.rest m.service mid.service id o at.0 one.act one.said one.turns)
 
-  right_on : (m : Moment MailDaemon Note R) (moves : List (Move Note)) (n : Moment MailDaemon Note R) (id : ℕ) (o : Option Line) → Passes (mail_rules shows) m moves n → Line_at id m o → AreRight id m.service.moment o (acts_of moves)
+  right_on : (m : Moment MailDaemon Note R) (moves : List (Move Note)) (n : Moment MailDaemon Note R) (id : ℕ) (o : Option Line) → Passes (mail_rules view) m moves n → Line_at id m o → AreRight id m.service.moment o (acts_of moves)
   right_on m [] n id o passes at = tt
   right_on m (move ∷ moves) n id o passes at =
       let mid = passes.0 in
@@ -181,7 +184,7 @@ module _ {R : Type 0} (shows : List Event → R → Accounts → Type 0) where
   line_front id m None at = tt
   line_front id m (Some l) at = front id (words_of l) (client_of m.service id) m.service.turn at.1
 
-  sent_on : (m : Moment MailDaemon Note R) (moves : List (Move Note)) (n : Moment MailDaemon Note R) (id : ℕ) (o : Option Line) → Passes (mail_rules shows) m moves n → Line_at id m o
+  sent_on : (m : Moment MailDaemon Note R) (moves : List (Move Note)) (n : Moment MailDaemon Note R) (id : ℕ) (o : Option Line) → Passes (mail_rules view) m moves n → Line_at id m o
       → IfSome (tell_on id m.service.moment o (acts_of moves)) (λ l. IsFrontOf l.sent l.spelled)
   sent_on m [] n id o passes at = line_front id m o at
   sent_on m (move ∷ moves) n id o passes at =
@@ -198,20 +201,20 @@ module _ {R : Type 0} (shows : List Event → R → Accounts → Type 0) where
       pub bound : BoundBy m.machine id o
       pub fits : MailFits id o (client_of m.service id) m.service.turn
 
-    mail_one : (m mid : Moment MailDaemon Note R) (one : Moves (mail_rules shows) m mid) (id : ℕ) (o : Option MailLine) → MailAt id m o
+    mail_one : (m mid : Moment MailDaemon Note R) (one : Moves (mail_rules view) m mid) (id : ℕ) (o : Option MailLine) → MailAt id m o
         → (p : Option MailLine) × Tells names host id m.service.moment o one.act p × MailAt id mid p
     mail_one m mid one id o at =
-        let it = mail_after shows names host m.machine mid.machine m.rest mid.rest m.service mid.service id at.set_up o at.bound at.fits one.act one.said one.turns (one.talks id) in (
+        let it = mail_after view names host m.machine mid.machine m.rest mid.rest m.service mid.service id at.set_up o at.bound at.fits one.act one.said one.turns (one.talks id) in (
           it.0,
           it.1,
           record {
-            set_up = stays_set_up shows names host m.machine mid.machine m.rest mid.rest m.service mid.service at.set_up one.act one.said one.turns;
+            set_up = stays_set_up view names host m.machine mid.machine m.rest mid.rest m.service mid.service at.set_up one.act one.said one.turns;
             bound = it.2;
             fits = it.3;
           },
         )
 
-    mail_on : (m : Moment MailDaemon Note R) (moves : List (Move Note)) (n : Moment MailDaemon Note R) (id : ℕ) (o : Option MailLine) → Passes (mail_rules shows) m moves n → MailAt id m o
+    mail_on : (m : Moment MailDaemon Note R) (moves : List (Move Note)) (n : Moment MailDaemon Note R) (id : ℕ) (o : Option MailLine) → Passes (mail_rules view) m moves n → MailAt id m o
         → (p : Option MailLine) × TellsOn names host id m.service.moment o (acts_of moves) p × MailAt id n p
     mail_on m [] n id o passes at = (o, refl, subst (λ (k : Moment MailDaemon Note R). MailAt id k o) (sym passes) at)
     mail_on m (move ∷ moves) n id o passes at =
@@ -227,8 +230,8 @@ module _ {R : Type 0} (shows : List Event → R → Accounts → Type 0) where
     mail_front id m (Some l) at = front id (mail_words l) (client_of m.service id) m.service.turn at.fits
 
   -- some first acts are those of some first moves
-  some_first : (m : Moment MailDaemon Note R) (moves : List (Move Note)) (n : Moment MailDaemon Note R) (some rest : List (Act Note)) → some ++ rest ≡ acts_of moves → Passes (mail_rules shows) m moves n
-      → (first : List (Move Note)) × (mid : Moment MailDaemon Note R) × (acts_of first ≡ some) × Passes (mail_rules shows) m first mid
+  some_first : (m : Moment MailDaemon Note R) (moves : List (Move Note)) (n : Moment MailDaemon Note R) (some rest : List (Act Note)) → some ++ rest ≡ acts_of moves → Passes (mail_rules view) m moves n
+      → (first : List (Move Note)) × (mid : Moment MailDaemon Note R) × (acts_of first ≡ some) × Passes (mail_rules view) m first mid
   some_first m moves n [] rest is passes = ([], m, refl, refl)
   some_first m [] n (act ∷ some) rest is passes = let never : ⊥ = cc in absurd never
   some_first m (move ∷ moves) n (act ∷ some) rest is passes =
@@ -239,7 +242,7 @@ module _ {R : Type 0} (shows : List Event → R → Accounts → Type 0) where
 
   -- ---- the headline
 
-  module _ (leaves : R → Trees → Type 0) (left : (tried : List Event) (r : R) (accounts : Accounts) → shows tried r accounts → (trees : Trees) → leaves r trees → MayLeave tried accounts trees) (m : Moment MailDaemon Note R) (fresh : Fresh m.service) (new : IsNew m.machine) (start : Accounts) (shown : (tried : List Event) → shows tried m.rest start) where
+  module _ (m : Moment MailDaemon Note R) (fresh : Fresh m.service) (new : IsNew m.machine) (start : Accounts) (shown : view.shows m.rest start) (settled : (trees : Trees) → view.leaves m.rest trees → ShowsIn trees start) where
     no_client : (id : ℕ) → client_of m.service id ≡ None
     no_client id = ap (λ es. lookup (tree.is_at (nat_cmp id)) es) fresh.none
 
@@ -249,8 +252,8 @@ module _ {R : Type 0} (shows : List Event → R → Accounts → Type 0) where
     no_post : (id : ℕ) → post_at m.machine id ≡ None
     no_post id = ap (λ es. lookup (tree.is_at (nat_cmp id)) es) new.posts
 
-    stands : (tried : List Event) → Stands tried m (world_of start)
-    stands tried = record { shown = shown tried; sessions = none_open m.machine.daemon.clients.sessions new.sessions }
+    stands : Stands m (world_of start)
+    stands = record { shown = shown; sessions = none_open m.machine.daemon.clients.sessions new.sessions }
 
     line_begins : (id : ℕ) → Line_at id m (Some no_line)
     line_begins id = (
@@ -267,11 +270,10 @@ module _ {R : Type 0} (shows : List Event → R → Accounts → Type 0) where
     bounded_begins : IsBounded m.machine
     bounded_begins count = omega (arith, sums_nothing count (firm_at m.machine) nothing_firm)
 
-    holds : (moves : List (Move Note)) (n : Moment MailDaemon Note R) → Passes (mail_rules shows) m moves n
-        → (v : World) × HoldsAfter m.machine.names m.machine.host (world_of start) m.service.moment (acts_of moves) v × Stands (tried_in (acts_of moves)) n v
+    holds : (moves : List (Move Note)) (n : Moment MailDaemon Note R) → Passes (mail_rules view) m moves n
+        → (v : World) × HoldsAfter m.machine.names m.machine.host (world_of start) m.service.moment (acts_of moves) v × Stands n v × LeavesOn (view.leaves m.rest) (world_of start) (acts_of moves) (view.leaves n.rest) v
     holds moves n passes =
-        let tried = tried_in (acts_of moves) in
-        let led = leads_on tried m moves n (world_of start) (among_themselves tried) passes (stands tried) in
+        let led = leads_on m moves n (world_of start) passes stands in
         let ran = runs_in (world_of start) led.0 (acts_of moves) led.1 in (
           led.0,
           record {
@@ -289,9 +291,10 @@ module _ {R : Type 0} (shows : List Event → R → Accounts → Type 0) where
                 (it.0, it.1, mail_front m.machine.names m.machine.host id n it.0 it.2);
           },
           led.2,
+          led.3,
         )
 
-    pub headline : (moves : List (Move Note)) (n : Moment MailDaemon Note R) → Passes (mail_rules shows) m moves n → Headline shows leaves m.machine.names m.machine.host start m.service.moment (acts_of moves) n.rest n.machine
+    pub headline : (moves : List (Move Note)) (n : Moment MailDaemon Note R) → Passes (mail_rules view) m moves n → Headline view m.machine.names m.machine.host start m.service.moment (acts_of moves) n.rest n.machine
     headline moves n passes =
         let all = holds moves n passes in
         record {
@@ -302,6 +305,6 @@ module _ {R : Type 0} (shows : List Event → R → Accounts → Type 0) where
           end = all.0;
           holds = all.1;
           shown = all.2;
-          left = left (tried_in (acts_of moves)) n.rest all.0.accounts all.2.shown;
-          bounded = bounded_on (tried_in (acts_of moves)) m moves n (world_of start) (among_themselves (tried_in (acts_of moves))) passes (stands (tried_in (acts_of moves))) bounded_begins;
+          left = is_left (view.leaves m.rest) (view.leaves n.rest) (world_of start) all.0 (acts_of moves) settled all.3;
+          bounded = bounded_on m moves n (world_of start) passes stands bounded_begins;
         }

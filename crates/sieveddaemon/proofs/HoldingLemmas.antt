@@ -35,7 +35,7 @@ use Rattle.sieveddaemon.specs.Acts.{LeadsBy, LeadsIn, Leads}
 use Rattle.sieveddaemon.specs.Bounds.{unread_of, held, bound, own}
 use Rattle.sieveddaemon.specs.DaemonRules.{lmtp, place_at}
 use Rattle.sieveddaemon.specs.Deeds.{IsDeed}
-use Rattle.sieveddaemon.specs.Desk.{IsWorld}
+use Rattle.sieveddaemon.specs.Desk.{View, IsWorld}
 use Rattle.sieveddaemon.specs.Holding.{firm_by, firm_client, firm_post, firm_at, IsBounded}
 use Rattle.sieveddaemon.specs.MailRules.{mail_rules, post_at, wants_by, HasRoom, KeepsText, FitsAs, OpensBy, PostGives, SessionGives, GivesBy, PostGoes, SessionGoes, GoesBy, Works, LacksBy}
 use Rattle.sieveddaemon.specs.Moves.{MovedAt}
@@ -299,7 +299,7 @@ allowed_gains now w id (Asked others user lookup) is k = refl
 allowed_gains now w id (Looked wanted) is k = refl
 allowed_gains now w id (Moved others moving) is k = refl
 
-module _ {R : Type 0} (shows : List Event → R → Accounts → Type 0) (tried : List Event) (d e : MailDaemon) (r q : R) (s u : Service) where
+module _ {R : Type 0} (view : View R) (d e : MailDaemon) (r q : R) (s u : Service) where
   abbrev pub Kept_on : Type 0
   Kept_on = IsBounded d → IsBounded e
 
@@ -316,7 +316,7 @@ module _ {R : Type 0} (shows : List Event → R → Accounts → Type 0) (tried 
   lost n lacks grows = bounded_same d e lacks.host.memory (touched d e n None None (record { posts = lacks.posts; places = lacks.lacks.place.places }) grows (omega arith) (omega arith))
 
   -- one comes
-  opened : (b : Bool) (n : ℕ) (said : List ℕ) → OpensBy b d s.moment n said e → Grown d e (λ k. 0) → (w : World) → IsWorld (shows tried) r d.daemon.clients.sessions w → Kept_on
+  opened : (b : Bool) (n : ℕ) (said : List ℕ) → OpensBy b d s.moment n said e → Grown d e (λ k. 0) → (w : World) → IsWorld view r d.daemon.clients.sessions w → Kept_on
   opened true n said o more w is =
       bounded_same d e o.host.memory (touched d e n (Some o.post) None (record { posts = o.posts; places = o.daemon.place.places }) (none n more) (omega arith) (omega (arith, o.empty)))
   opened false n said o more w is =
@@ -326,7 +326,7 @@ module _ {R : Type 0} (shows : List Event → R → Accounts → Type 0) (tried 
       (touched d e n None (Some (new_place s.moment)) (record { posts = o.posts; places = o.opens.place.places }) (none n more)
       (omega (arith, ap unread_of (made.2 n), next_empty w (record { accounts = w.accounts; sessions = made.0 }) n h.0 made.1 h.1)) (omega arith))
 
-  came : (n kind : ℕ) (said : List ℕ) → Enters (mail_rules shows) d s.moment n kind said e u → Grown d e (λ k. 0) → (w : World) → IsWorld (shows tried) r d.daemon.clients.sessions w → Kept_on
+  came : (n kind : ℕ) (said : List ℕ) → Enters (mail_rules view) d s.moment n kind said e u → Grown d e (λ k. 0) → (w : World) → IsWorld view r d.daemon.clients.sessions w → Kept_on
   came n kind said (inl opens) more w is = opened (kind == lmtp) n said opens.0 more w is
   came n kind said (inr opens) more w is = by opens.2
     where
@@ -394,13 +394,13 @@ module _ {R : Type 0} (shows : List Event → R → Accounts → Type 0) (tried 
         )) (omega arith)) was
     session_given fit.Told is never was = absurd never
 
-  heard : (n count : ℕ) (piece said : List ℕ) → Went (GivesBy d s.moment n piece said e) (LacksBy d n e) n (kind_of (client_of s n)) count said u.turn → Tasks (mail_rules shows) d s n count Hear
+  heard : (n count : ℕ) (piece said : List ℕ) → Went (GivesBy d s.moment n piece said e) (LacksBy d n e) n (kind_of (client_of s n)) count said u.turn → Tasks (mail_rules view) d s n count Hear
       → length piece ≤ largest_piece → Grown d e (λ k. cond (same n k) (length piece) 0) → Kept_on
   heard n count piece said (inr lacks) tasks short more = lost n lacks.0 (few n (length piece) more)
   heard n count piece said (inl went) tasks short more = by went.0
     where
       wanted : wants_by (post_at d n) (want_of (place_at d.daemon n) (client_at d.daemon.clients.sessions n)) ≡ want.More
-      wanted = hear_wanted (mail_rules shows) d s.moment count n (client_of s n) tasks.task
+      wanted = hear_wanted (mail_rules view) d s.moment count n (client_of s n) tasks.task
 
       by : GivesBy d s.moment n piece said e → Kept_on
       by (inl g) = post_given n piece said g g.fits.room
@@ -411,7 +411,7 @@ module _ {R : Type 0} (shows : List Event → R → Accounts → Type 0) (tried 
           (place_wanted g.gives.before (client_at d.daemon.clients.sessions n) (subst (λ o. want_of o (client_at d.daemon.clients.sessions n) ≡ want.More) g.gives.was its)) g.whether refl g.fits
 
   -- a step
-  post_goes : (n : ℕ) (note : Note) (said : List ℕ) → PostGoes shows d r s.moment n note said e q → Grown d e (gained_by note) → Kept_on
+  post_goes : (n : ℕ) (note : Note) (said : List ℕ) → PostGoes view d r s.moment n note said e q → Grown d e (gained_by note) → Kept_on
   post_goes n note said g more =
       let still : (k : ℕ) → unread_of (client_at e.daemon.clients.sessions k) ≤ unread_of (client_at d.daemon.clients.sessions k) = λ k. omega (arith, more k, deed_gains note g.does.deed g.does.is k) in
       bounded_same d e g.host.memory
@@ -419,10 +419,10 @@ module _ {R : Type 0} (shows : List Event → R → Accounts → Type 0) (tried 
       (client_less (place_at d.daemon n) (place_at d.daemon n) (client_at d.daemon.clients.sessions n) (client_at e.daemon.clients.sessions n) refl (still n))
       (omega (arith, g.does.held, ap firm_post g.was)))
 
-  session_goes : (n : ℕ) (note : Note) (said : List ℕ) → SessionGoes shows d r s.moment n note said e q → GoesOn (mail_rules shows) d s n Step u.turn → Grown d e (gained_by note) → Kept_on
+  session_goes : (n : ℕ) (note : Note) (said : List ℕ) → SessionGoes view d r s.moment n note said e q → GoesOn (mail_rules view) d s n Step u.turn → Grown d e (gained_by note) → Kept_on
   session_goes n note said g on more =
       let wants : Want = want_of (place_at d.daemon n) (client_at d.daemon.clients.sessions n) in
-      let wanted : task_wanted s.moment (wants_by (post_at d n) wants) ≡ Step = wanted_at (mail_rules shows) d s.moment on.0 n (client_of s n) on.1.task in
+      let wanted : task_wanted s.moment (wants_by (post_at d n) wants) ≡ Step = wanted_at (mail_rules view) d s.moment on.0 n (client_of s n) on.1.task in
       let its : task_wanted s.moment wants ≡ Step = subst (λ o. task_wanted s.moment (wants_by o wants) ≡ Step) g.other wanted in
       let due : IsDue s.moment g.goes.before.waits =
       due_at s.moment g.goes.before (client_at d.daemon.clients.sessions n) (subst (λ o. task_wanted s.moment (want_of o (client_at d.daemon.clients.sessions n)) ≡ Step) g.goes.was its) in
@@ -439,12 +439,12 @@ module _ {R : Type 0} (shows : List Event → R → Accounts → Type 0) (tried 
       ))
       (omega arith))
 
-  goes : (n : ℕ) (note : Note) (said : List ℕ) → GoesBy shows d r s.moment n note said e q → GoesOn (mail_rules shows) d s n Step u.turn → Grown d e (gained_by note) → Kept_on
+  goes : (n : ℕ) (note : Note) (said : List ℕ) → GoesBy view d r s.moment n note said e q → GoesOn (mail_rules view) d s n Step u.turn → Grown d e (gained_by note) → Kept_on
   goes n note said (inl g) on more = post_goes n note said g more
   goes n note said (inr g) on more = session_goes n note said g on more
 
   -- work of its own
-  work_gains : (note : Note) → Works shows d r s.moment note e q → (k : ℕ) → gained_by note k ≡ 0
+  work_gains : (note : Note) → Works view d r s.moment note e q → (k : ℕ) → gained_by note k ≡ 0
   work_gains (Did others event answer) work k = absurd work.does.works
   work_gains (Freed event answer) work k = absurd work.does.works
   work_gains Away work k = refl
@@ -454,7 +454,7 @@ module _ {R : Type 0} (shows : List Event → R → Accounts → Type 0) (tried 
   work_gains (Looked wanted) work k = refl
   work_gains (Moved others moving) work k = refl
 
-  rested : (note : Note) → Works shows d r s.moment note e q → Grown d e (gained_by note) → Kept_on
+  rested : (note : Note) → Works view d r s.moment note e q → Grown d e (gained_by note) → Kept_on
   rested note work more =
       bounded_same d e work.same.host.memory (λ k. omega (
         arith,
@@ -462,17 +462,17 @@ module _ {R : Type 0} (shows : List Event → R → Accounts → Type 0) (tried 
         ap (λ posts. firm_post (tree.get nat_cmp posts k)) work.same.posts,
       ))
 
-  late : (n : ℕ) (said : List ℕ) → Parting (mail_rules shows) d s n said e u → Grown d e (λ k. 0) → Kept_on
+  late : (n : ℕ) (said : List ℕ) → Parting (mail_rules view) d s n said e u → Grown d e (λ k. 0) → Kept_on
   late n said (inl p) more = stays p.1.stays
   late n said (inr (inl p)) more = stays p.2.0
   late n said (inr (inr p)) more = lost n p.2 (none n more)
 
-  lacked : (n : ℕ) → Lacks (mail_rules shows) d s n e u → Grown d e (λ k. 0) → Kept_on
+  lacked : (n : ℕ) → Lacks (mail_rules view) d s n e u → Grown d e (λ k. 0) → Kept_on
   lacked n (inl t) more = stays t.2
   lacked n (inr (inl t)) more = lost n t.0 (none n more)
   lacked n (inr (inr t)) more = stays t.0
 
-  pub bounded_then : (act : Act Note) (said : List ℕ) → Turns (mail_rules shows) d r s act said e q u → Grown d e (gain_of act) → (w : World) → IsWorld (shows tried) r d.daemon.clients.sessions w → Kept_on
+  pub bounded_then : (act : Act Note) (said : List ℕ) → Turns (mail_rules view) d r s act said e q u → Grown d e (gain_of act) → (w : World) → IsWorld view r d.daemon.clients.sessions w → Kept_on
   bounded_then (Came n kind) said t more w is = came n kind said t.3 more w is
   bounded_then (Heard n piece) said t more w is = heard n t.count piece said t.goes t.wanted t.short more
   bounded_then (Noted n note) said t more w is = goes n note said t.0 t.1 more

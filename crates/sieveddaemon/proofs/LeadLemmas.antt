@@ -2,13 +2,16 @@
 use Rattle.std.proofs.Common.{◌≡◌, ◌⊎◌, inl, inr, ℕ, ◌==◌, Bool, true, false, List, Option, Some, None, is_some, IfSome, refl, sym, ◌∙◌, ap, subst, if◌then◌else◌}
 use Rattle.std.specs.FinMap.{get}
 use Rattle.sessions.specs.Clients.{Client}
+use Rattle.sqlite_trees.specs.Tree.{Trees}
 use Rattle.mailstore.specs.Account.{Accounts}
 use Rattle.mailengine.specs.Hosts.{Kept, HasClients, KeepsClients, IsSessionEvent}
 use Rattle.mailengine.specs.World.{World, Clients, Next}
 use Rattle.mailengine.specs.declared.answer.Answer.{Answer}
+use Rattle.mailengine.specs.declared.answer.Answer.TheVariants.{Refused}
 use Rattle.mailengine.specs.declared.clients.Clients.{Clients as CodeClients}
 use Rattle.mailengine.specs.declared.event.Event.{Event}
-use Rattle.mailengine.specs.declared.event.Event.TheVariants.{Open, Give, Close}
+use Rattle.mailengine.specs.declared.event.Event.TheVariants.{Open, Give, Close, TakeMail}
+use Rattle.mailsinks.specs.declared.kept.KeptMail.{KeptMail}
 use Rattle.mailposts.specs.Posts.{Deed}
 use Rattle.wires.specs.declared.act.Act.{Act}
 use Rattle.wires.specs.declared.act.Act.TheVariants.{Woke, Began, Timed, Late, Waits, Roused, Worked, Came, NoneCame, Crowded, Displaced, Listened, InUse, Heard, ReadBlocked, Over, Sent, WriteBlocked, Lost, Noted, Full, Again, Shut, Dropped, Ended}
@@ -17,14 +20,19 @@ use Rattle.wires.specs.declared.turn.Turn.TheVariants.{Stuffed}
 use Rattle.wires.specs.Moves.{Leaves}
 use Rattle.wires.specs.Turns.{Turns, Opens as Enters, Goes, Lacks, Parting, is_open_of, room_by, makes_room}
 use Rattle.wires.specs.Talk.{client_of, kind_of}
-use Rattle.mailmoves.specs.Enduring.{AreTried}
-use Rattle.sieveddaemon.specs.Acts.{tried_by, tried_at, LeadsBy, LeadsIn, Leads, LacksThen, IsMadeOr, IsGuest}
+use Rattle.mailmoves.specs.Enduring.{MayLeave, ShowsMade, ShowsTried, none_tried}
+use Rattle.mailmoves.specs.declared.moving.Moving.{Moving}
+use Rattle.mailmoves.specs.declared.moving.Moving.TheVariants as moving
+use Rattle.mailmoves.proofs.EnduringLemmas.{left_alone, left_weaker}
+use Rattle.sieveddaemon.specs.Acts.{LeadsBy, LeadsIn, Leads, LacksThen, IsMadeOr, IsGuest}
 use Rattle.sieveddaemon.specs.DaemonRules.{lmtp, displaced_of, Happened, Made, Makes, WorksBy}
 use Rattle.sieveddaemon.specs.Deeds.{IsDeed, Stores}
-use Rattle.sieveddaemon.specs.Desk.{IsWorld, NothingDone, StillShows}
+use Rattle.sieveddaemon.specs.Desk.{View, DoneAt, IsWorld, ComesTo, IsDone, NothingDone, StillShows}
 use Rattle.sieveddaemon.specs.MailRules.{mail_rules, displaced_for, OpensBy, GivesBy, GoesBy, LacksBy}
+use Rattle.sieveddaemon.specs.Moves.{MovedAt, TriedAt}
 use Rattle.sieveddaemon.specs.Places.{is_user}
 use Rattle.sieveddaemon.specs.Room.{longest_guest}
+use Rattle.sieveddaemon.specs.Tried.{TriesBy, TriesAt}
 use Rattle.sieveddaemon.proofs.RoomLemmas.{no_user_goes}
 use Rattle.sieveddaemon.specs.declared.daemon.Daemon.{Daemon}
 use Rattle.sieveddaemon.specs.declared.mail.MailDaemon.{MailDaemon}
@@ -58,14 +66,41 @@ by_kind : (b : Bool) (o : Option ℕ) (id : ℕ) → (if b then None else o) ≡
 by_kind true o id is = let never : ◌≡◌ {A = Option ℕ} None (Some id) = is in cc
 by_kind false o id is = is
 
-module _ {R : Type 0} (shows : List Event → R → Accounts → Type 0) (tried : List Event) (d e : MailDaemon) (r q : R) where
+-- what an act tried, as a crash may leave it: what the event makes of the world that it met
+abbrev pub TriedBy : World → Note → World → Trees → Type 0
+TriedBy w note v trees = (event : Event) × (met : World) × TriesBy w note v event met × ShowsMade event met trees
+
+abbrev pub TriedHere : World → Act Note → World → Trees → Type 0
+TriedHere w act v trees = (event : Event) × (met : World) × TriesAt w act v event met × ShowsMade event met trees
+
+did_tried : (others : List Event) (event : Event) (answer : Answer) (w v : World) (done : DoneAt others event answer w v) (trees : Trees) → ShowsTried event answer done.between trees → TriedBy w (Did others event answer) v trees
+did_tried others event (Refused refusal) w v done trees made = (event, done.between, (refl, record { done = done; met_is = refl; refused = tt }), made)
+did_tried others event _ w v done trees none = absurd none
+
+taking_tried : (others : List Event) (mail : KeptMail) (answer : Answer) (w v : World) (moved : MovedAt others (moving.Kept mail answer) w v) (trees : Trees)
+    → ShowsTried (TakeMail mail.user mail.folder) answer moved.done.between trees → TriedBy w (Moved others (moving.Kept mail answer)) v trees
+taking_tried others mail (Refused refusal) w v moved trees made = (TakeMail mail.user mail.folder, moved.done.between, (refl, record { done = moved.done; met_is = refl; refused = tt }), made)
+taking_tried others mail _ w v moved trees none = absurd none
+
+moved_tried : (others : List Event) (m : Moving) (w v : World) (moved : MovedAt others m w v) (trees : Trees) → TriedAt others m w v moved trees → TriedBy w (Moved others m) v trees
+moved_tried others (moving.Kept mail answer) w v moved trees tried = taking_tried others mail answer w v moved trees tried
+moved_tried others _ w v moved trees none = absurd none
+
+module _ {R : Type 0} (view : View R) (d e : MailDaemon) (r q : R) where
   -- an act, which others follow, led there, and the store and the sessions are so
   abbrev pub Led : World → Act Note → List (Act Note) → Type 0
-  Led w act more = (v : World) × Leads w act more v × IsWorld (shows tried) q e.daemon.clients.sessions v
+  Led w act more = (v : World) × Leads w act more v × ComesTo view r w (TriedHere w act v) q e.daemon.clients.sessions v
+
+  -- the store is as it was
+  unchanged : (Tried : Trees → Type 0) (accounts : Accounts) → q ≡ r → MayLeave (view.leaves r) accounts (view.leaves q) accounts Tried
+  unchanged Tried accounts left = subst (λ x. MayLeave (view.leaves r) accounts (view.leaves x) accounts Tried) (sym left) (left_alone (view.leaves r) accounts Tried)
+
+  untried : (Tried : Trees → Type 0) (accounts later : Accounts) → MayLeave (view.leaves r) accounts (view.leaves q) later none_tried → MayLeave (view.leaves r) accounts (view.leaves q) later Tried
+  untried Tried accounts later left = left_weaker (view.leaves r) (view.leaves q) accounts later none_tried Tried (λ trees none. absurd none) left
 
   -- nothing changed
-  same : (w : World) → IsWorld (shows tried) r d.daemon.clients.sessions w → KeepsClients d.daemon.clients.sessions e.daemon.clients.sessions → q ≡ r → IsWorld (shows tried) q e.daemon.clients.sessions w
-  same w is keeps left = record { shown = subst (λ x. shows tried x w.accounts) (sym left) is.shown; sessions = keeps w.sessions is.sessions }
+  same : {Tried : Trees → Type 0} → (w : World) → IsWorld view r d.daemon.clients.sessions w → KeepsClients d.daemon.clients.sessions e.daemon.clients.sessions → q ≡ r → ComesTo view r w Tried q e.daemon.clients.sessions w
+  same w is keeps left = record { is = record { shown = subst (λ x. view.shows x w.accounts) (sym left) is.shown; sessions = keeps w.sessions is.sessions }; left = unchanged _ w.accounts left }
 
   kept_of : e.daemon ≡ d.daemon → KeepsClients d.daemon.clients.sessions e.daemon.clients.sessions
   kept_of is = subst (λ (k : Daemon). KeepsClients d.daemon.clients.sessions k.clients.sessions) (sym is) (λ clients has. has)
@@ -74,26 +109,26 @@ module _ {R : Type 0} (shows : List Event → R → Accounts → Type 0) (tried 
   kept is = kept_of (ap (λ (m : MailDaemon). m.daemon) is)
 
   -- an event of sessions alone
-  happened : (event : Event) (w : World) → IsWorld (shows tried) r d.daemon.clients.sessions w → Happened event d.daemon e.daemon → q ≡ r → (v : World) × ((answer : Answer) × Next w event answer v) × IsWorld (shows tried) q e.daemon.clients.sessions v
-  happened event w is h left =
+  happened : (Tried : World → Trees → Type 0) (event : Event) (w : World) → IsWorld view r d.daemon.clients.sessions w → Happened event d.daemon e.daemon → q ≡ r → (v : World) × ((answer : Answer) × Next w event answer v) × ComesTo view r w (Tried v) q e.daemon.clients.sessions v
+  happened Tried event w is h left =
       let made = h.1 w is.sessions in (
         record { accounts = w.accounts; sessions = made.0 },
         (h.0, made.1),
-        record { shown = subst (λ x. shows tried x w.accounts) (sym left) is.shown; sessions = made.2 },
+        record { is = record { shown = subst (λ x. view.shows x w.accounts) (sym left) is.shown; sessions = made.2 }; left = unchanged _ w.accounts left },
       )
 
-  made : (event : Event) (id : ℕ) (more : List (Act Note)) (w : World) → IsWorld (shows tried) r d.daemon.clients.sessions w → Made event d.daemon e.daemon → q ≡ r
-      → (v : World) × ((answer : Answer) × IsMadeOr answer id more × Next w event answer v) × IsWorld (shows tried) q e.daemon.clients.sessions v
-  made event id more w is h left =
+  made : (Tried : World → Trees → Type 0) (event : Event) (id : ℕ) (more : List (Act Note)) (w : World) → IsWorld view r d.daemon.clients.sessions w → Made event d.daemon e.daemon → q ≡ r
+      → (v : World) × ((answer : Answer) × IsMadeOr answer id more × Next w event answer v) × ComesTo view r w (Tried v) q e.daemon.clients.sessions v
+  made Tried event id more w is h left =
       let did = h.2 w is.sessions in (
         record { accounts = w.accounts; sessions = did.0 },
         (h.0, inl h.1, did.1),
-        record { shown = subst (λ x. shows tried x w.accounts) (sym left) is.shown; sessions = did.2 },
+        record { is = record { shown = subst (λ x. view.shows x w.accounts) (sym left) is.shown; sessions = did.2 }; left = unchanged _ w.accounts left },
       )
 
   -- what asks no store is the same whatever accounts there are
-  freed : (event : Event) (answer : Answer) (w : World) → IsWorld (shows tried) r d.daemon.clients.sessions w → StillShows shows r q → IsSessionEvent event answer d.daemon.clients.sessions e.daemon.clients.sessions
-      → (v : World) × LeadsBy w (Freed event answer) v × IsWorld (shows tried) q e.daemon.clients.sessions v
+  freed : (event : Event) (answer : Answer) (w : World) → IsWorld view r d.daemon.clients.sessions w → StillShows view r q → IsSessionEvent event answer d.daemon.clients.sessions e.daemon.clients.sessions
+      → (v : World) × LeadsBy w (Freed event answer) v × ComesTo view r w (TriedBy w (Freed event answer) v) q e.daemon.clients.sessions v
   freed event answer w is still free =
       let made = free w is.sessions in
       let any : (accounts : Accounts) → Next (record w { accounts = accounts }) event answer (record { accounts = accounts; sessions = made.0 }) = λ accounts.
@@ -101,53 +136,66 @@ module _ {R : Type 0} (shows : List Event → R → Accounts → Type 0) (tried 
       subst (λ (c : Clients). Next (record w { accounts = accounts }) event answer (record { accounts = accounts; sessions = c })) (clients_one e.daemon.clients.sessions other.0 made.0 other.2 made.2) other.1 in (
         record { accounts = w.accounts; sessions = made.0 },
         (refl, any),
-        record { shown = still tried w.accounts is.shown; sessions = made.2 },
+        record { is = record { shown = (still w.accounts is.shown).0; sessions = made.2 }; left = untried _ w.accounts w.accounts (still w.accounts is.shown).1 },
       )
 
-  nothing : (w : World) → IsWorld (shows tried) r d.daemon.clients.sessions w → NothingDone shows r d.daemon.clients.sessions q e.daemon.clients.sessions → IsWorld (shows tried) q e.daemon.clients.sessions w
-  nothing w is none = record { shown = none.shown tried w.accounts is.shown; sessions = none.kept w.sessions is.sessions }
+  nothing : {Tried : Trees → Type 0} → (w : World) → IsWorld view r d.daemon.clients.sessions w → NothingDone view r d.daemon.clients.sessions q e.daemon.clients.sessions → ComesTo view r w Tried q e.daemon.clients.sessions w
+  nothing w is none =
+      let still = none.shown w.accounts is.shown in
+      record { is = record { shown = still.0; sessions = none.kept w.sessions is.sessions }; left = untried _ w.accounts w.accounts still.1 }
+
+  -- an event was brought
+  abbrev LedBy : World → Note → Type 0
+  LedBy w note = (v : World) × LeadsBy w note v × ComesTo view r w (TriedBy w note v) q e.daemon.clients.sessions v
+
+  done_so : (others : List Event) (event : Event) (answer : Answer) (w : World) → IsWorld view r d.daemon.clients.sessions w → IsDone view others event answer r d.daemon.clients.sessions q e.daemon.clients.sessions → LedBy w (Did others event answer)
+  done_so others event answer w is done =
+      let it = done w is in
+      (it.0, it.1, record { is = it.2.is; left = left_weaker (view.leaves r) (view.leaves q) w.accounts it.0.accounts (ShowsTried event answer it.1.between) (TriedBy w (Did others event answer) it.0) (did_tried others event answer w it.0 it.1) it.2.left })
 
   -- what is done for a client of ManageSieve
-  noted : (note : Note) (w : World) → AreTried tried (tried_by note) → IsWorld (shows tried) r d.daemon.clients.sessions w → Makes shows r d.daemon note q e.daemon → (v : World) × LeadsBy w note v × IsWorld (shows tried) q e.daemon.clients.sessions v
-  noted (Did others event answer) w are is makes = makes tried are w is
-  noted Away w are is makes = (w, refl, nothing w is makes)
-  noted (Freed event answer) w are is makes = freed event answer w is makes.0 makes.1
-  noted Spoke w are is makes = (w, refl, nothing w is makes)
-  noted Answered w are is makes = (w, refl, nothing w is makes)
-  noted (Asked others user lookup) w are is makes = absurd makes
-  noted (Looked wanted) w are is makes = absurd makes
-  noted (Moved others moving) w are is makes = absurd makes
+  noted : (note : Note) (w : World) → IsWorld view r d.daemon.clients.sessions w → Makes view r d.daemon note q e.daemon → LedBy w note
+  noted (Did others event answer) w is makes = done_so others event answer w is makes
+  noted Away w is makes = (w, refl, nothing w is makes)
+  noted (Freed event answer) w is makes = freed event answer w is makes.0 makes.1
+  noted Spoke w is makes = (w, refl, nothing w is makes)
+  noted Answered w is makes = (w, refl, nothing w is makes)
+  noted (Asked others user lookup) w is makes = absurd makes
+  noted (Looked wanted) w is makes = absurd makes
+  noted (Moved others moving) w is makes = absurd makes
 
   -- what is done for a client of LMTP
-  did : (note : Note) (deed : Deed) (w : World) → AreTried tried (tried_by note) → IsWorld (shows tried) r d.daemon.clients.sessions w → IsDeed note deed → Stores shows r d.daemon.clients.sessions note q e.daemon.clients.sessions
-      → (v : World) × LeadsBy w note v × IsWorld (shows tried) q e.daemon.clients.sessions v
-  did (Did others event answer) deed w are is told stores = stores tried are w is
-  did (Asked others user lookup) deed w are is told stores = stores tried are w is
-  did Away deed w are is told stores = (w, refl, nothing w is stores)
-  did Answered deed w are is told stores = (w, refl, nothing w is stores)
-  did (Freed event answer) deed w are is told stores = absurd told
-  did Spoke deed w are is told stores = absurd told
-  did (Looked wanted) deed w are is told stores = absurd told
-  did (Moved others moving) deed w are is told stores = absurd told
+  did : (note : Note) (deed : Deed) (w : World) → IsWorld view r d.daemon.clients.sessions w → IsDeed note deed → Stores view r d.daemon.clients.sessions note q e.daemon.clients.sessions → LedBy w note
+  did (Did others event answer) deed w is told stores = done_so others event answer w is stores
+  did (Asked others user lookup) deed w is told stores = let it = stores w is in (it.0, it.1, record { is = it.2.is; left = untried _ w.accounts it.0.accounts it.2.left })
+  did Away deed w is told stores = (w, refl, nothing w is stores)
+  did Answered deed w is told stores = (w, refl, nothing w is stores)
+  did (Freed event answer) deed w is told stores = absurd told
+  did Spoke deed w is told stores = absurd told
+  did (Looked wanted) deed w is told stores = absurd told
+  did (Moved others moving) deed w is told stores = absurd told
 
-  goes : (now id : ℕ) (note : Note) (said : List ℕ) (w : World) → AreTried tried (tried_by note) → IsWorld (shows tried) r d.daemon.clients.sessions w → GoesBy shows d r now id note said e q → (v : World) × LeadsBy w note v × IsWorld (shows tried) q e.daemon.clients.sessions v
-  goes now id note said w are is (inl g) = did note g.does.deed w are is g.does.is g.does.stores
-  goes now id note said w are is (inr g) = noted note w are is g.goes.makes
+  goes : (now id : ℕ) (note : Note) (said : List ℕ) (w : World) → IsWorld view r d.daemon.clients.sessions w → GoesBy view d r now id note said e q → LedBy w note
+  goes now id note said w is (inl g) = did note g.does.deed w is g.does.is g.does.stores
+  goes now id note said w is (inr g) = noted note w is g.goes.makes
 
   -- what the daemon does by itself
-  worked : (now : ℕ) (note : Note) (w : World) → AreTried tried (tried_by note) → IsWorld (shows tried) r d.daemon.clients.sessions w → WorksBy shows d.daemon r now note e.daemon.clients.sessions e.daemon.holding q
-      → (v : World) × LeadsBy w note v × IsWorld (shows tried) q e.daemon.clients.sessions v
-  worked now (Looked wanted) w are is works = (w, refl, record { shown = works.0 tried w.accounts is.shown; sessions = subst (λ (k : Kept). HasClients k w.sessions) (sym works.1) is.sessions })
-  worked now (Moved others moving) w are is works = works.1 tried are w is
-  worked now Away w are is works = (w, refl, nothing w is works.1)
-  worked now (Did others event answer) w are is works = absurd works
-  worked now (Freed event answer) w are is works = absurd works
-  worked now Spoke w are is works = absurd works
-  worked now Answered w are is works = absurd works
-  worked now (Asked others user lookup) w are is works = absurd works
+  worked : (now : ℕ) (note : Note) (w : World) → IsWorld view r d.daemon.clients.sessions w → WorksBy view d.daemon r now note e.daemon.clients.sessions e.daemon.holding q → LedBy w note
+  worked now (Looked wanted) w is works =
+      let still = works.0 w.accounts is.shown in
+      (w, refl, record { is = record { shown = still.0; sessions = subst (λ (k : Kept). HasClients k w.sessions) (sym works.1) is.sessions }; left = untried _ w.accounts w.accounts still.1 })
+  worked now (Moved others moving) w is works =
+      let it = works.1 w is in
+      (it.0, it.1, record { is = it.2.is; left = left_weaker (view.leaves r) (view.leaves q) w.accounts it.0.accounts (TriedAt others moving w it.0 it.1) (TriedBy w (Moved others moving) it.0) (moved_tried others moving w it.0 it.1) it.2.left })
+  worked now Away w is works = (w, refl, nothing w is works.1)
+  worked now (Did others event answer) w is works = absurd works
+  worked now (Freed event answer) w is works = absurd works
+  worked now Spoke w is works = absurd works
+  worked now Answered w is works = absurd works
+  worked now (Asked others user lookup) w is works = absurd works
 
   -- who makes room is a guest
-  guest_goes : (s : Service) (kind id : ℕ) → makes_room (mail_rules shows) d s kind ≡ Some id → (w : World) → IsWorld (shows tried) r d.daemon.clients.sessions w → IsGuest w id
+  guest_goes : (s : Service) (kind id : ℕ) → makes_room (mail_rules view) d s kind ≡ Some id → (w : World) → IsWorld view r d.daemon.clients.sessions w → IsGuest w id
   guest_goes s kind id room w is =
       let chosen = by_kind (kind == lmtp) (displaced_of d.daemon kind) id (named_by s kind (displaced_for d kind) id room) in
       let named = if_named (kind == 0) (longest_guest d.daemon.clients.sessions d.daemon.places) id chosen in
@@ -155,67 +203,67 @@ module _ {R : Type 0} (shows : List Event → R → Accounts → Type 0) (tried 
 
   -- where memory was lacking for a connection, that is what follows says
   module _ (s u : Service) (more : List (Act Note)) (lacks_then : (id kind : ℕ) → u.turn ≡ Stuffed id kind → LacksThen id more) where
-    opened : (b : Bool) (id : ℕ) (said : List ℕ) (w : World) → IsWorld (shows tried) r d.daemon.clients.sessions w → q ≡ r → OpensBy b d s.moment id said e → (v : World) × LeadsIn b w id more v × IsWorld (shows tried) q e.daemon.clients.sessions v
-    opened true id said w is left o = (w, refl, same w is (subst (λ (k : CodeClients). KeepsClients d.daemon.clients.sessions k.sessions) (sym o.daemon.clients) (λ clients has. has)) left)
-    opened false id said w is left o = made (Open id) id more w is o.opens.event left
+    opened : (Tried : World → Trees → Type 0) (b : Bool) (id : ℕ) (said : List ℕ) (w : World) → IsWorld view r d.daemon.clients.sessions w → q ≡ r → OpensBy b d s.moment id said e → (v : World) × LeadsIn b w id more v × ComesTo view r w (Tried v) q e.daemon.clients.sessions v
+    opened Tried true id said w is left o = (w, refl, same w is (subst (λ (k : CodeClients). KeepsClients d.daemon.clients.sessions k.sessions) (sym o.daemon.clients) (λ clients has. has)) left)
+    opened Tried false id said w is left o = made Tried (Open id) id more w is o.opens.event left
 
-    lacking : (b : Bool) (id kind : ℕ) (w : World) → IsWorld (shows tried) r d.daemon.clients.sessions w → q ≡ r → u.turn ≡ Stuffed id kind → LacksBy d id e → (v : World) × LeadsIn b w id more v × IsWorld (shows tried) q e.daemon.clients.sessions v
-    lacking true id kind w is left turn l = (w, refl, same w is l.lacks.kept left)
-    lacking false id kind w is left turn l = let refused = open_refused w id in (w, (refused.0, inr (lacks_then id kind turn), refused.1), same w is l.lacks.kept left)
+    lacking : (Tried : World → Trees → Type 0) (b : Bool) (id kind : ℕ) (w : World) → IsWorld view r d.daemon.clients.sessions w → q ≡ r → u.turn ≡ Stuffed id kind → LacksBy d id e → (v : World) × LeadsIn b w id more v × ComesTo view r w (Tried v) q e.daemon.clients.sessions v
+    lacking Tried true id kind w is left turn l = (w, refl, same w is l.lacks.kept left)
+    lacking Tried false id kind w is left turn l = let refused = open_refused w id in (w, (refused.0, inr (lacks_then id kind turn), refused.1), same w is l.lacks.kept left)
 
-    came : (id kind : ℕ) (said : List ℕ) (w : World) → IsWorld (shows tried) r d.daemon.clients.sessions w → q ≡ r → Enters (mail_rules shows) d s.moment id kind said e u → Led w (Came id kind) more
-    came id kind said w is left (inl o) = opened (kind == lmtp) id said w is left o.0
+    came : (id kind : ℕ) (said : List ℕ) (w : World) → IsWorld view r d.daemon.clients.sessions w → q ≡ r → Enters (mail_rules view) d s.moment id kind said e u → Led w (Came id kind) more
+    came id kind said w is left (inl o) = opened (TriedHere w (Came id kind)) (kind == lmtp) id said w is left o.0
     came id kind said w is left (inr o) = by o.2
       where
         by : OpensBy (kind == lmtp) d s.moment id said e ⊎ LacksBy d id e → Led w (Came id kind) more
-        by (inl opens) = opened (kind == lmtp) id said w is left opens
-        by (inr lacks) = lacking (kind == lmtp) id kind w is left o.1 lacks
+        by (inl opens) = opened (TriedHere w (Came id kind)) (kind == lmtp) id said w is left opens
+        by (inr lacks) = lacking (TriedHere w (Came id kind)) (kind == lmtp) id kind w is left o.1 lacks
 
-    given : (id : ℕ) (piece said : List ℕ) (w : World) → IsWorld (shows tried) r d.daemon.clients.sessions w → q ≡ r → GivesBy d s.moment id piece said e → Led w (Heard id piece) more
+    given : (id : ℕ) (piece said : List ℕ) (w : World) → IsWorld view r d.daemon.clients.sessions w → q ≡ r → GivesBy d s.moment id piece said e → Led w (Heard id piece) more
     given id piece said w is left (inl g) =
         let unheard = give_unheard w id piece (sym (is.sessions id) ∙ g.other) in (w, (unheard.0, inr unheard.1, unheard.2), same w is (kept_of g.daemon) left)
-    given id piece said w is left (inr g) = let it = made (Give id piece) id more w is g.gives.event left in (it.0, (it.1.0, inl it.1.1, it.1.2), it.2)
+    given id piece said w is left (inr g) = let it = made (TriedHere w (Heard id piece)) (Give id piece) id more w is g.gives.event left in (it.0, (it.1.0, inl it.1.1, it.1.2), it.2)
 
-    heard : (id : ℕ) (piece said : List ℕ) (count : ℕ) (w : World) → IsWorld (shows tried) r d.daemon.clients.sessions w → q ≡ r
+    heard : (id : ℕ) (piece said : List ℕ) (count : ℕ) (w : World) → IsWorld view r d.daemon.clients.sessions w → q ≡ r
         → Goes (GivesBy d s.moment id piece said e) (LacksBy d id e) id (kind_of (client_of s id)) count said u.turn → Led w (Heard id piece) more
     heard id piece said count w is left (inl g) = given id piece said w is left g.0
     heard id piece said count w is left (inr g) =
         let refused = give_refused w id piece in (w, (refused.0, inl (inr (lacks_then id (kind_of (client_of s id)) g.2)), refused.1), same w is g.0.lacks.kept left)
 
-    lacked : (id : ℕ) → Lacks (mail_rules shows) d s id e u → KeepsClients d.daemon.clients.sessions e.daemon.clients.sessions
+    lacked : (id : ℕ) → Lacks (mail_rules view) d s id e u → KeepsClients d.daemon.clients.sessions e.daemon.clients.sessions
     lacked id (inl l) = kept l.2
     lacked id (inr (inl l)) = l.0.lacks.kept
     lacked id (inr (inr l)) = kept l.0
 
-    late : (id : ℕ) (said : List ℕ) → Parting (mail_rules shows) d s id said e u → KeepsClients d.daemon.clients.sessions e.daemon.clients.sessions
+    late : (id : ℕ) (said : List ℕ) → Parting (mail_rules view) d s id said e u → KeepsClients d.daemon.clients.sessions e.daemon.clients.sessions
     late id said (inl p) = kept p.1.stays
     late id said (inr (inl p)) = kept p.2.0
     late id said (inr (inr p)) = p.2.lacks.kept
 
     -- each act, of whatever accounts and sessions there were
-    pub leads : (act : Act Note) (said : List ℕ) (w : World) → Turns (mail_rules shows) d r s act said e q u → Leaves r act q → AreTried tried (tried_at act) → IsWorld (shows tried) r d.daemon.clients.sessions w → Led w act more
-    leads (Came id kind) said w turns left are is = came id kind said w is left turns.3
-    leads (Heard id piece) said w turns left are is = heard id piece said turns.count w is left turns.goes
-    leads (Ended id) said w turns left are is = happened (Close id) w is turns.0.closes.event left
-    leads (Noted id note) said w turns left are is = goes s.moment id note said w are is turns.0
-    leads (Worked note) said w turns left are is = worked s.moment note w are is turns.0.does.works
-    leads (Late id) said w turns left are is = (w, refl, same w is (late id said turns.2) left)
-    leads (Displaced id) said w turns left are is = (w, (refl, guest_goes s turns.0.0 id turns.0.2 w is), same w is (late id said turns.1) left)
-    leads (Listened kind) said w turns left are is = (w, refl, same w is (kept turns.0.0) left)
-    leads (Full id) said w turns left are is = (w, refl, same w is (lacked id turns.1) left)
-    leads (Woke within wakes) said w turns left are is = (w, refl, same w is (kept turns.0.0) left)
-    leads (Timed moment) said w turns left are is = (w, refl, same w is (kept turns.0.0) left)
-    leads (Began wake) said w turns left are is = (w, refl, same w is (kept turns.0.0) left)
-    leads (Roused id) said w turns left are is = (w, refl, same w is (kept turns.0.0) left)
-    leads (NoneCame kind) said w turns left are is = (w, refl, same w is (kept turns.0.0) left)
-    leads (Crowded kind) said w turns left are is = (w, refl, same w is (kept turns.0.0) left)
-    leads (InUse id) said w turns left are is = (w, refl, same w is (kept turns.0.0) left)
-    leads (ReadBlocked id) said w turns left are is = (w, refl, same w is (kept turns.0.0) left)
-    leads (Over id) said w turns left are is = (w, refl, same w is (kept turns.0.0) left)
-    leads (Sent id octets) said w turns left are is = (w, refl, same w is (kept turns.0.0) left)
-    leads (WriteBlocked id) said w turns left are is = (w, refl, same w is (kept turns.0.0) left)
-    leads (Lost id) said w turns left are is = (w, refl, same w is (kept turns.0.0) left)
-    leads (Waits id) said w turns left are is = (w, refl, same w is (kept turns.0.0) left)
-    leads (Again id) said w turns left are is = (w, refl, same w is (kept turns.0.0) left)
-    leads (Shut id) said w turns left are is = (w, refl, same w is (kept turns.0.0) left)
-    leads (Dropped id count) said w turns left are is = (w, refl, same w is (kept turns.0.0) left)
+    pub leads : (act : Act Note) (said : List ℕ) (w : World) → Turns (mail_rules view) d r s act said e q u → Leaves r act q → IsWorld view r d.daemon.clients.sessions w → Led w act more
+    leads (Came id kind) said w turns left is = came id kind said w is left turns.3
+    leads (Heard id piece) said w turns left is = heard id piece said turns.count w is left turns.goes
+    leads (Ended id) said w turns left is = happened (TriedHere w (Ended id)) (Close id) w is turns.0.closes.event left
+    leads (Noted id note) said w turns left is = goes s.moment id note said w is turns.0
+    leads (Worked note) said w turns left is = worked s.moment note w is turns.0.does.works
+    leads (Late id) said w turns left is = (w, refl, same w is (late id said turns.2) left)
+    leads (Displaced id) said w turns left is = (w, (refl, guest_goes s turns.0.0 id turns.0.2 w is), same w is (late id said turns.1) left)
+    leads (Listened kind) said w turns left is = (w, refl, same w is (kept turns.0.0) left)
+    leads (Full id) said w turns left is = (w, refl, same w is (lacked id turns.1) left)
+    leads (Woke within wakes) said w turns left is = (w, refl, same w is (kept turns.0.0) left)
+    leads (Timed moment) said w turns left is = (w, refl, same w is (kept turns.0.0) left)
+    leads (Began wake) said w turns left is = (w, refl, same w is (kept turns.0.0) left)
+    leads (Roused id) said w turns left is = (w, refl, same w is (kept turns.0.0) left)
+    leads (NoneCame kind) said w turns left is = (w, refl, same w is (kept turns.0.0) left)
+    leads (Crowded kind) said w turns left is = (w, refl, same w is (kept turns.0.0) left)
+    leads (InUse id) said w turns left is = (w, refl, same w is (kept turns.0.0) left)
+    leads (ReadBlocked id) said w turns left is = (w, refl, same w is (kept turns.0.0) left)
+    leads (Over id) said w turns left is = (w, refl, same w is (kept turns.0.0) left)
+    leads (Sent id octets) said w turns left is = (w, refl, same w is (kept turns.0.0) left)
+    leads (WriteBlocked id) said w turns left is = (w, refl, same w is (kept turns.0.0) left)
+    leads (Lost id) said w turns left is = (w, refl, same w is (kept turns.0.0) left)
+    leads (Waits id) said w turns left is = (w, refl, same w is (kept turns.0.0) left)
+    leads (Again id) said w turns left is = (w, refl, same w is (kept turns.0.0) left)
+    leads (Shut id) said w turns left is = (w, refl, same w is (kept turns.0.0) left)
+    leads (Dropped id count) said w turns left is = (w, refl, same w is (kept turns.0.0) left)

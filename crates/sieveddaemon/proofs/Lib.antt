@@ -12,7 +12,10 @@ pub mod MoveLemmas
 pub mod RoomLemmas
 pub mod SentLemmas
 pub mod StepLemmas
+pub mod StillLemmas
 pub mod SumLemmas
+pub mod TriedExamples
+pub mod TriedLemmas
 pub mod TurnLemmas
 pub mod UnreadLemmas
 pub mod WordLemmas

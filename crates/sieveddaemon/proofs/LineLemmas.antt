@@ -17,6 +17,7 @@ use Rattle.wires.specs.Talk.{same, client_of, kind_of, task_wanted}
 use Rattle.wires.specs.Turns.{Turns, GoesOn, Goes as Went, Lacks, Parting, Opens as Enters}
 use Rattle.wires.proofs.TalkLemmas.{one_number}
 use Rattle.sieveddaemon.specs.Acts.{Line, new_line, line_came, moment_after, noted, idled, tell_line, IsRight}
+use Rattle.sieveddaemon.specs.Desk.{View}
 use Rattle.sieveddaemon.specs.DaemonRules.{lmtp, place_at}
 use Rattle.sieveddaemon.specs.MailRules.{mail_rules, post_at, wants_by, OpensBy, GivesBy, GoesBy, SessionGoes, Works, LacksBy}
 use Rattle.sieveddaemon.specs.Places.{client_at, want_of, want_by, place_given, place_behind, new_place}
@@ -113,7 +114,7 @@ same_line : (b : Bool) (l : Line) → cond b l l ≡ l
 same_line true l = refl
 same_line false l = refl
 
-module _ {R : Type 0} (shows : List Event → R → Accounts → Type 0) (d e : MailDaemon) (r q : R) (s u : Service) (id : ℕ) where
+module _ {R : Type 0} (view : View R) (d e : MailDaemon) (r q : R) (s u : Service) (id : ℕ) where
   touched : (n : ℕ) (post : Option Post) (place : Option Place) → Touches d n post place e → (k l : Line) → (same n id ≡ true → Holds post place k.waits) → Tied d id l → Tied e id (cond (same n id) k l)
   touched n post place t k l put tied = tied_put d e n id post place (same n id) k l (t.posts id) (t.places id) put tied
 
@@ -149,7 +150,7 @@ module _ {R : Type 0} (shows : List Event → R → Accounts → Type 0) (d e : 
   lacking : (b : Bool) (n : ℕ) (o : Option Line) → LacksBy d n e → TiedBy d id o → TiedBy e id (cond (same n id) (line_came b) o)
   lacking b n o lacks tied = came_by (same n id) b None None o (lacks.posts id) (lacks.lacks.place.places id) (λ is. record { none = refl; waits = no_place waits.Nothing }) tied
 
-  came : (n kind : ℕ) (said : List ℕ) (o : Option Line) → Enters (mail_rules shows) d s.moment n kind said e u → TiedBy d id o → TiedBy e id (cond (same n id) (line_came (kind == lmtp)) o)
+  came : (n kind : ℕ) (said : List ℕ) (o : Option Line) → Enters (mail_rules view) d s.moment n kind said e u → TiedBy d id o → TiedBy e id (cond (same n id) (line_came (kind == lmtp)) o)
   came n kind said o (inl opens) tied = opened (kind == lmtp) n said o opens.0 tied
   came n kind said o (inr opens) tied = by opens.2
     where
@@ -181,7 +182,7 @@ module _ {R : Type 0} (shows : List Event → R → Accounts → Type 0) (d e : 
     heard n count piece said (inl g) = given n piece said g.0
     heard n count piece said (inr g) = subst (λ k. Tied e id k) (same_line (same n id) l) (gone n g.0 l l tied)
 
-    goes : (n : ℕ) (note : Note) (said : List ℕ) → GoesBy shows d r s.moment n note said e q → Tied e id (cond (same n id) (noted s.moment l note) l)
+    goes : (n : ℕ) (note : Note) (said : List ℕ) → GoesBy view d r s.moment n note said e q → Tied e id (cond (same n id) (noted s.moment l note) l)
     goes n note said (inl g) =
         touched n (Some g.after) (place_at d.daemon n) (touch_post d e n (Some g.after) g.posts (λ other. ap (λ places. place_at (record d.daemon { places = places }) other) g.does.places)) (noted s.moment l note) l
         (λ is. absurd (no_post n g.before g.was is)) tied
@@ -190,23 +191,23 @@ module _ {R : Type 0} (shows : List Event → R → Accounts → Type 0) (d e : 
         touched n None (Some new) (touch_same d e n (Some new) g.other g.same.posts g.goes.place) (noted s.moment l note) l
         (λ is. record { none = refl; waits = waits_at new (waits_behind s.moment l.waits note) (ap (λ w. waits_behind s.moment w note) (ours n g.goes.before g.goes.was is)) }) tied
 
-    late : (n : ℕ) (said : List ℕ) → Parting (mail_rules shows) d s n said e u → Tied e id (cond (same n id) (idled l) l)
+    late : (n : ℕ) (said : List ℕ) → Parting (mail_rules view) d s n said e u → Tied e id (cond (same n id) (idled l) l)
     late n said (inl p) = unchanged p.1.stays (same n id) (idled l) l refl tied
     late n said (inr (inl p)) = unchanged p.2.0 (same n id) (idled l) l refl tied
     late n said (inr (inr p)) = gone n p.2 (idled l) l tied
 
-    lacked : (n : ℕ) → Lacks (mail_rules shows) d s n e u → Tied e id l
+    lacked : (n : ℕ) → Lacks (mail_rules view) d s n e u → Tied e id l
     lacked n (inl t) = still t.2
     lacked n (inr (inl t)) = subst (λ k. Tied e id k) (same_line (same n id) l) (gone n t.0 l l tied)
     lacked n (inr (inr t)) = still t.0
 
-    rested : (note : Note) → Works shows d r s.moment note e q → Tied e id l
+    rested : (note : Note) → Works view d r s.moment note e q → Tied e id l
     rested note work =
         let post : post_at e id ≡ post_at d id = ap (λ posts. post_at (record d { posts = posts }) id) work.same.posts in
         let place : place_at e.daemon id ≡ place_at d.daemon id = ap (λ places. tree.get nat_cmp places id) work.does.places in
         record { none = post ∙ tied.none; waits = λ it at. tied.waits it (sym place ∙ at) }
 
-    tied_then : (act : Act Note) (said : List ℕ) → Turns (mail_rules shows) d r s act said e q u → TiedBy e id (tell_line id s.moment (Some l) act)
+    tied_then : (act : Act Note) (said : List ℕ) → Turns (mail_rules view) d r s act said e q u → TiedBy e id (tell_line id s.moment (Some l) act)
     tied_then (Came n kind) said t = came n kind said (Some l) t.3 tied
     tied_then (Heard n piece) said t = heard n t.count piece said t.goes
     tied_then (Ended n) said t =
@@ -235,34 +236,34 @@ module _ {R : Type 0} (shows : List Event → R → Accounts → Type 0) (d e : 
     tied_then (Dropped n count) said t = still t.0.0
 
     -- what is done is allowed
-    session_allowed : (n : ℕ) (note : Note) (said : List ℕ) → same n id ≡ true → SessionGoes shows d r s.moment n note said e q → GoesOn (mail_rules shows) d s n Step u.turn → Allows s.moment l.waits id note
+    session_allowed : (n : ℕ) (note : Note) (said : List ℕ) → same n id ≡ true → SessionGoes view d r s.moment n note said e q → GoesOn (mail_rules view) d s n Step u.turn → Allows s.moment l.waits id note
     session_allowed n note said is g on =
         let wants : Want = want_of (place_at d.daemon n) (client_at d.daemon.clients.sessions n) in
-        let wanted : task_wanted s.moment (wants_by (post_at d n) wants) ≡ Step = wanted_at (mail_rules shows) d s.moment on.0 n (client_of s n) on.1.task in
+        let wanted : task_wanted s.moment (wants_by (post_at d n) wants) ≡ Step = wanted_at (mail_rules view) d s.moment on.0 n (client_of s n) on.1.task in
         let own : task_wanted s.moment wants ≡ Step = subst (λ o. task_wanted s.moment (wants_by o wants) ≡ Step) g.other wanted in
         let due : IsDue s.moment g.goes.before.waits =
         due_at s.moment g.goes.before (client_at d.daemon.clients.sessions n) (subst (λ o. task_wanted s.moment (want_of o (client_at d.daemon.clients.sessions n)) ≡ Step) g.goes.was own) in
         subst (λ w. Allows s.moment w id note) (ours n g.goes.before g.goes.was is) (subst (λ k. Allows s.moment g.goes.before.waits k note) (one_number n id is) (g.goes.allows due))
 
-    allowed : (b : Bool) (n : ℕ) (note : Note) (said : List ℕ) → same n id ≡ b → GoesBy shows d r s.moment n note said e q → GoesOn (mail_rules shows) d s n Step u.turn
+    allowed : (b : Bool) (n : ℕ) (note : Note) (said : List ℕ) → same n id ≡ b → GoesBy view d r s.moment n note said e q → GoesOn (mail_rules view) d s n Step u.turn
         → cond b (Allows s.moment l.waits id note) (Unit {0})
     allowed false n note said is g on = tt
     allowed true n note said is (inl g) on = absurd (no_post n g.before g.was is)
     allowed true n note said is (inr g) on = session_allowed n note said is g on
 
-    right_then : (act : Act Note) (said : List ℕ) → Turns (mail_rules shows) d r s act said e q u → IsRight id s.moment l act
+    right_then : (act : Act Note) (said : List ℕ) → Turns (mail_rules view) d r s act said e q u → IsRight id s.moment l act
     right_then (Noted n note) said t = allowed (same n id) n note said refl t.0 t.1
     right_then _ said t = tt
 
   -- one that hasn't come, or is a client of LMTP
-  none_then : (act : Act Note) (said : List ℕ) → Turns (mail_rules shows) d r s act said e q u → TiedBy e id (tell_line id s.moment None act)
+  none_then : (act : Act Note) (said : List ℕ) → Turns (mail_rules view) d r s act said e q u → TiedBy e id (tell_line id s.moment None act)
   none_then (Came n kind) said t = came n kind said None t.3 tt
   none_then _ said t = tt
 
-  pub tied_after : (o : Option Line) → TiedBy d id o → (act : Act Note) (said : List ℕ) → Turns (mail_rules shows) d r s act said e q u → TiedBy e id (tell_line id s.moment o act)
+  pub tied_after : (o : Option Line) → TiedBy d id o → (act : Act Note) (said : List ℕ) → Turns (mail_rules view) d r s act said e q u → TiedBy e id (tell_line id s.moment o act)
   tied_after None tied act said t = none_then act said t
   tied_after (Some l) tied act said t = tied_then l tied act said t
 
-  pub right_at : (o : Option Line) → TiedBy d id o → (act : Act Note) (said : List ℕ) → Turns (mail_rules shows) d r s act said e q u → IfSome o (λ l. IsRight id s.moment l act)
+  pub right_at : (o : Option Line) → TiedBy d id o → (act : Act Note) (said : List ℕ) → Turns (mail_rules view) d r s act said e q u → IfSome o (λ l. IsRight id s.moment l act)
   right_at None tied act said t = tt
   right_at (Some l) tied act said t = right_then l tied act said t

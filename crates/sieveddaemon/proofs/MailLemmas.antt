@@ -18,6 +18,7 @@ use Rattle.wires.specs.declared.turn.Turn.{Turn}
 use Rattle.wires.specs.Talk.{same, client_of, kind_of, Talks}
 use Rattle.wires.specs.Turns.{Turns, Goes as Went, Lacks, Parting, Opens as Enters}
 use Rattle.wires.proofs.TalkLemmas.{one_number}
+use Rattle.sieveddaemon.specs.Desk.{View}
 use Rattle.sieveddaemon.specs.DaemonRules.{lmtp, place_at}
 use Rattle.sieveddaemon.specs.MailActs.{MailLine, new_mail, mail_came, says_more, sent_more, IsNoted, Its, TellsOf, Tells}
 use Rattle.sieveddaemon.specs.MailRules.{mail_rules, post_at, OpensBy, GivesBy, GoesBy, SameHost, IsFarewell, Parts, Works, LacksBy}
@@ -37,7 +38,7 @@ pub record IsSetUp (names : Names) (host : List ℕ) (d : MailDaemon) : Type 0 w
 set_up : (names : Names) (host : List ℕ) (d e : MailDaemon) → IsSetUp names host d → SameHost d e → IsSetUp names host e
 set_up names host d e is same = record { named = same.names ∙ is.named; hosted = same.host ∙ is.hosted }
 
-module _ {R : Type 0} (shows : List Event → R → Accounts → Type 0) (names : Names) (host : List ℕ) (d e : MailDaemon) (r q : R) (s u : Service) (is : IsSetUp names host d) where
+module _ {R : Type 0} (view : View R) (names : Names) (host : List ℕ) (d e : MailDaemon) (r q : R) (s u : Service) (is : IsSetUp names host d) where
   left_so : e ≡ d → IsSetUp names host e
   left_so one = subst (λ m. IsSetUp names host m) (sym one) is
 
@@ -48,7 +49,7 @@ module _ {R : Type 0} (shows : List Event → R → Accounts → Type 0) (names 
   lacks_so : (n : ℕ) → LacksBy d n e → IsSetUp names host e
   lacks_so n l = set_up names host d e is l.host
 
-  came_so : (n kind : ℕ) (said : List ℕ) → Enters (mail_rules shows) d s.moment n kind said e u → IsSetUp names host e
+  came_so : (n kind : ℕ) (said : List ℕ) → Enters (mail_rules view) d s.moment n kind said e u → IsSetUp names host e
   came_so n kind said (inl o) = opens_so (kind == lmtp) n said o.0
   came_so n kind said (inr o) = by o.2
     where
@@ -64,21 +65,21 @@ module _ {R : Type 0} (shows : List Event → R → Accounts → Type 0) (names 
   heard_so n count piece said (inl g) = gives_so n piece said g.0
   heard_so n count piece said (inr g) = lacks_so n g.0
 
-  goes_so : (n : ℕ) (note : Note) (said : List ℕ) → GoesBy shows d r s.moment n note said e q → IsSetUp names host e
+  goes_so : (n : ℕ) (note : Note) (said : List ℕ) → GoesBy view d r s.moment n note said e q → IsSetUp names host e
   goes_so n note said (inl g) = set_up names host d e is g.host
   goes_so n note said (inr g) = set_up names host d e is g.same.host
 
-  parts_so : (n : ℕ) (said : List ℕ) → Parting (mail_rules shows) d s n said e u → IsSetUp names host e
+  parts_so : (n : ℕ) (said : List ℕ) → Parting (mail_rules view) d s n said e u → IsSetUp names host e
   parts_so n said (inl p) = left_so p.1.stays
   parts_so n said (inr (inl p)) = left_so p.2.0
   parts_so n said (inr (inr p)) = lacks_so n p.2
 
-  lacked_so : (n : ℕ) → Lacks (mail_rules shows) d s n e u → IsSetUp names host e
+  lacked_so : (n : ℕ) → Lacks (mail_rules view) d s n e u → IsSetUp names host e
   lacked_so n (inl t) = left_so t.2
   lacked_so n (inr (inl t)) = lacks_so n t.0
   lacked_so n (inr (inr t)) = left_so t.0
 
-  pub stays_set_up : (act : Act Note) (said : List ℕ) → Turns (mail_rules shows) d r s act said e q u → IsSetUp names host e
+  pub stays_set_up : (act : Act Note) (said : List ℕ) → Turns (mail_rules view) d r s act said e q u → IsSetUp names host e
   stays_set_up (Came n kind) said t = came_so n kind said t.3
   stays_set_up (Heard n piece) said t = heard_so n t.count piece said t.goes
   stays_set_up (Ended n) said t = set_up names host d e is t.0.host
@@ -155,7 +156,7 @@ abbrev pub FitsBy : ℕ → Option MailLine → Option Client → Turn → Type 
 FitsBy id None o turn = Unit {0}
 FitsBy id (Some l) o turn = Fits id (words_of l) o turn
 
-module _ {R : Type 0} (shows : List Event → R → Accounts → Type 0) (names : Names) (host : List ℕ) (d e : MailDaemon) (r q : R) (s u : Service) (id : ℕ) (is_set_up : IsSetUp names host d) where
+module _ {R : Type 0} (view : View R) (names : Names) (host : List ℕ) (d e : MailDaemon) (r q : R) (s u : Service) (id : ℕ) (is_set_up : IsSetUp names host d) where
   touched : (n : ℕ) (post : Option Code) (place : Option Place) → Touches d n post place e → (k l : Post) → (same n id ≡ true → Keeps post place k) → Bound d id l → Bound e id (cond (same n id) k l)
   touched n post place t k l put bound = bound_put d e id post place (same n id) k l (t.posts id) (t.places id) put bound
 
@@ -207,7 +208,7 @@ module _ {R : Type 0} (shows : List Event → R → Accounts → Type 0) (names 
     heard_then false piece now_bound fits = (l, refl, now_bound, fits)
 
     -- a deed for it, or a note of another
-    done : (n : ℕ) (note : Note) (said : List ℕ) → same n id ≡ true → GoesBy shows d r s.moment n note said e q → Fits id (spells said (words_of l)) (client_of u id) u.turn
+    done : (n : ℕ) (note : Note) (said : List ℕ) → same n id ≡ true → GoesBy view d r s.moment n note said e q → Fits id (spells said (words_of l)) (client_of u id) u.turn
         → (k : MailLine) × IsNoted s.moment l note k × Bound e id k.post × Fits id (words_of k) (client_of u id) u.turn
     done n note said is (inl g) fits =
         let did = g.does.does l.post (stood n g.before g.was is) in
@@ -220,20 +221,20 @@ module _ {R : Type 0} (shows : List Event → R → Accounts → Type 0) (names 
         )
     done n note said is (inr g) fits = absurd (no_place n g.goes.before g.goes.was is)
 
-    done_elsewhere : (n : ℕ) (note : Note) (said : List ℕ) → same n id ≡ false → GoesBy shows d r s.moment n note said e q → Bound e id l.post
+    done_elsewhere : (n : ℕ) (note : Note) (said : List ℕ) → same n id ≡ false → GoesBy view d r s.moment n note said e q → Bound e id l.post
     done_elsewhere n note said other (inl g) =
         touched_still n (Some g.after) (place_at d.daemon n) (touch_post d e n (Some g.after) g.posts (λ k. ap (λ places. place_at (record d.daemon { places = places }) k) g.does.places)) l.post
         (λ is. let never : ⊥ = let both : true ≡ false = sym is ∙ other in cc in absurd never) bound
     done_elsewhere n note said other (inr g) =
         touched_still n None _ (touch_same d e n _ g.other g.same.posts g.goes.place) l.post (λ is. let never : ⊥ = let both : true ≡ false = sym is ∙ other in cc in absurd never) bound
 
-    noted_then : (b : Bool) (n : ℕ) (note : Note) (said : List ℕ) → same n id ≡ b → GoesBy shows d r s.moment n note said e q → Fits id (cond b (spells said (words_of l)) (words_of l)) (client_of u id) u.turn
+    noted_then : (b : Bool) (n : ℕ) (note : Note) (said : List ℕ) → same n id ≡ b → GoesBy view d r s.moment n note said e q → Fits id (cond b (spells said (words_of l)) (words_of l)) (client_of u id) u.turn
         → (k : MailLine) × Its b (IsNoted s.moment l note k) (k ≡ l) × Bound e id k.post × Fits id (words_of k) (client_of u id) u.turn
     noted_then true n note said is g fits = done n note said is g fits
     noted_then false n note said is g fits = (l, refl, done_elsewhere n note said is g, fits)
 
     -- it was late
-    late_bound : (n : ℕ) (said : List ℕ) → Parting (mail_rules shows) d s n said e u → Bound e id l.post
+    late_bound : (n : ℕ) (said : List ℕ) → Parting (mail_rules view) d s n said e u → Bound e id l.post
     late_bound n said (inl p) = still p.1.stays
     late_bound n said (inr (inl p)) = still p.2.0
     late_bound n said (inr (inr p)) = subst (λ k. Bound e id k) (same_post (same n id) l.post) (gone n p.2 l.post l.post bound)
@@ -248,12 +249,12 @@ module _ {R : Type 0} (shows : List Event → R → Accounts → Type 0) (names 
     sent_then true octets now_bound fits = (sent_more octets l, refl, now_bound, fits)
     sent_then false octets now_bound fits = (l, refl, now_bound, fits)
 
-    lacked : (n : ℕ) → Lacks (mail_rules shows) d s n e u → Bound e id l.post
+    lacked : (n : ℕ) → Lacks (mail_rules view) d s n e u → Bound e id l.post
     lacked n (inl t) = still t.2
     lacked n (inr (inl t)) = subst (λ k. Bound e id k) (same_post (same n id) l.post) (gone n t.0 l.post l.post bound)
     lacked n (inr (inr t)) = still t.0
 
-    rested : (note : Note) → Works shows d r s.moment note e q → Bound e id l.post
+    rested : (note : Note) → Works view d r s.moment note e q → Bound e id l.post
     rested note work =
         let post : post_at e id ≡ post_at d id = ap (λ posts. post_at (record d { posts = posts }) id) work.same.posts in
         let place : place_at e.daemon id ≡ place_at d.daemon id = ap (λ places. tree.get nat_cmp places id) work.does.places in
@@ -269,7 +270,7 @@ module _ {R : Type 0} (shows : List Event → R → Accounts → Type 0) (names 
     opened false n said other o =
         touched_still n None _ (record { posts = o.posts; places = o.opens.place.places }) l.post (λ is. let never : ⊥ = let both : true ≡ false = sym is ∙ other in cc in absurd never) bound
 
-    came_elsewhere : (n kind : ℕ) (said : List ℕ) → same n id ≡ false → Enters (mail_rules shows) d s.moment n kind said e u → Bound e id l.post
+    came_elsewhere : (n kind : ℕ) (said : List ℕ) → same n id ≡ false → Enters (mail_rules view) d s.moment n kind said e u → Bound e id l.post
     came_elsewhere n kind said other (inl o) = opened (kind == lmtp) n said other o.0
     came_elsewhere n kind said other (inr o) = by o.2
       where
@@ -288,11 +289,11 @@ module _ {R : Type 0} (shows : List Event → R → Accounts → Type 0) (names 
     IsOther (Came n kind) = same n id ≡ false
     IsOther act = Unit {0}
 
-    fit : (act : Act Note) (said : List ℕ) → IsOther act → Fits id (words_of l) (client_of s id) s.turn → Turns (mail_rules shows) d r s act said e q u → Talks s.moment id (client_of s id) act said (client_of u id)
-        → Fits id (words_after (mail_rules shows) d e r q s u id (line_of Idle) said (words_of l) act) (client_of u id) u.turn
-    fit act said other fits t talks = fits_after (mail_rules shows) d e r q s u id (line_of Idle) (words_of l) idle_some silent farewell act said other fits t talks
+    fit : (act : Act Note) (said : List ℕ) → IsOther act → Fits id (words_of l) (client_of s id) s.turn → Turns (mail_rules view) d r s act said e q u → Talks s.moment id (client_of s id) act said (client_of u id)
+        → Fits id (words_after (mail_rules view) d e r q s u id (line_of Idle) said (words_of l) act) (client_of u id) u.turn
+    fit act said other fits t talks = fits_after (mail_rules view) d e r q s u id (line_of Idle) (words_of l) idle_some silent farewell act said other fits t talks
 
-    mail_then : (act : Act Note) (said : List ℕ) → IsOther act → Turns (mail_rules shows) d r s act said e q u → Fits id (words_after (mail_rules shows) d e r q s u id (line_of Idle) said (words_of l) act) (client_of u id) u.turn → Then act
+    mail_then : (act : Act Note) (said : List ℕ) → IsOther act → Turns (mail_rules view) d r s act said e q u → Fits id (words_after (mail_rules view) d e r q s u id (line_of Idle) said (words_of l) act) (client_of u id) u.turn → Then act
     mail_then (Came n kind) said other t fits = (l, refl, came_elsewhere n kind said other t.3, fits)
     mail_then (Heard n piece) said other t fits = heard_then (same n id) piece (heard n t.count piece said t.goes) fits
     mail_then (Noted n note) said other t fits = noted_then (same n id) n note said refl t.0 fits
@@ -342,7 +343,7 @@ module _ {R : Type 0} (shows : List Event → R → Accounts → Type 0) (names 
       let place : place_at e.daemon id ≡ None = lacks.lacks.place.places id ∙ ap (λ b. cond b None (place_at d.daemon id)) is in
       record { none = place; stands = λ c at. let never : ⊥ = let both : None ≡ Some c = sym post ∙ at in cc in absurd never }
 
-  new_bound : (n kind : ℕ) (said : List ℕ) → same n id ≡ true → kind == lmtp ≡ true → Enters (mail_rules shows) d s.moment n kind said e u → Bound e id (new_post names host s.moment)
+  new_bound : (n kind : ℕ) (said : List ℕ) → same n id ≡ true → kind == lmtp ≡ true → Enters (mail_rules view) d s.moment n kind said e u → Bound e id (new_post names host s.moment)
   new_bound n kind said is by_lmtp (inl o) = begun n said is (subst (λ b. OpensBy b d s.moment n said e) by_lmtp o.0)
   new_bound n kind said is by_lmtp (inr o) = by o.2
     where
@@ -350,14 +351,14 @@ module _ {R : Type 0} (shows : List Event → R → Accounts → Type 0) (names 
       by (inl opens) = begun n said is (subst (λ b. OpensBy b d s.moment n said e) by_lmtp opens)
       by (inr lacks) = gone_new n (new_post names host s.moment) is lacks
 
-  new_by : (b : Bool) (n kind : ℕ) (said : List ℕ) → kind == lmtp ≡ b → same n id ≡ true → Enters (mail_rules shows) d s.moment n kind said e u
+  new_by : (b : Bool) (n kind : ℕ) (said : List ℕ) → kind == lmtp ≡ b → same n id ≡ true → Enters (mail_rules view) d s.moment n kind said e u
       → (p : Option MailLine) × (p ≡ mail_came names host s.moment b) × BoundBy e id p × FitsBy id p (client_of u id) u.turn
   new_by false n kind said by_kind is enters = (None, refl, tt, tt)
   new_by true n kind said by_kind is enters = (
     Some (new_mail names host s.moment),
     refl,
     new_bound n kind said is by_kind enters,
-    fits_new (mail_rules shows) d e r q s u id (line_of Idle) n kind (greeting host) said is (greets n kind said by_kind) enters,
+    fits_new (mail_rules view) d e r q s u id (line_of Idle) n kind (greeting host) said is (greets n kind said by_kind) enters,
   )
 
   -- ---- behind each act
@@ -365,11 +366,11 @@ module _ {R : Type 0} (shows : List Event → R → Accounts → Type 0) (names 
   abbrev After : Option MailLine → Act Note → Type 0
   After o act = (p : Option MailLine) × Tells names host id s.moment o act p × BoundBy e id p × FitsBy id p (client_of u id) u.turn
 
-  of_one : (l : MailLine) (bound : Bound d id l.post) → Fits id (words_of l) (client_of s id) s.turn → (act : Act Note) (said : List ℕ) → IsOther l bound act → Turns (mail_rules shows) d r s act said e q u
+  of_one : (l : MailLine) (bound : Bound d id l.post) → Fits id (words_of l) (client_of s id) s.turn → (act : Act Note) (said : List ℕ) → IsOther l bound act → Turns (mail_rules view) d r s act said e q u
       → Talks s.moment id (client_of s id) act said (client_of u id) → (k : MailLine) × TellsOf id s.moment l act k × Bound e id k.post × Fits id (words_of k) (client_of u id) u.turn
   of_one l bound fits act said other t talks = mail_then l bound act said other t (fit l bound act said other fits t talks)
 
-  came_by : (b : Bool) (o : Option MailLine) → BoundBy d id o → FitsBy id o (client_of s id) s.turn → (n kind : ℕ) (said : List ℕ) → same n id ≡ b → Turns (mail_rules shows) d r s (Came n kind) said e q u
+  came_by : (b : Bool) (o : Option MailLine) → BoundBy d id o → FitsBy id o (client_of s id) s.turn → (n kind : ℕ) (said : List ℕ) → same n id ≡ b → Turns (mail_rules view) d r s (Came n kind) said e q u
       → Talks {N = Note} s.moment id (client_of s id) (Came n kind) said (client_of u id)
       → (p : Option MailLine) × Its b (p ≡ mail_came names host s.moment (kind == lmtp)) (p ≡ o) × BoundBy e id p × FitsBy id p (client_of u id) u.turn
   came_by true o bound fits n kind said is t talks = new_by (kind == lmtp) n kind said refl is t.3
@@ -378,7 +379,7 @@ module _ {R : Type 0} (shows : List Event → R → Accounts → Type 0) (names 
       let it = of_one l bound fits (Came n kind) said is t talks in
       (Some l, refl, subst (λ (k : MailLine). Bound e id k.post) it.1 it.2, subst (λ (k : MailLine). Fits id (words_of k) (client_of u id) u.turn) it.1 it.3)
 
-  mail_some : (l : MailLine) → Bound d id l.post → Fits id (words_of l) (client_of s id) s.turn → (act : Act Note) (said : List ℕ) → Turns (mail_rules shows) d r s act said e q u
+  mail_some : (l : MailLine) → Bound d id l.post → Fits id (words_of l) (client_of s id) s.turn → (act : Act Note) (said : List ℕ) → Turns (mail_rules view) d r s act said e q u
       → Talks s.moment id (client_of s id) act said (client_of u id) → After (Some l) act
   mail_some l bound fits (Came n kind) said t talks = came_by (same n id) (Some l) bound fits n kind said refl t talks
   mail_some l bound fits (Heard n piece) said t talks = let it = of_one l bound fits (Heard n piece) said tt t talks in (Some it.0, (it.0, it.1, refl), it.2, it.3)
@@ -406,11 +407,11 @@ module _ {R : Type 0} (shows : List Event → R → Accounts → Type 0) (names 
   mail_some l bound fits (Shut n) said t talks = let it = of_one l bound fits (Shut n) said tt t talks in (Some it.0, (it.0, it.1, refl), it.2, it.3)
   mail_some l bound fits (Dropped n count) said t talks = let it = of_one l bound fits (Dropped n count) said tt t talks in (Some it.0, (it.0, it.1, refl), it.2, it.3)
 
-  mail_none : (act : Act Note) (said : List ℕ) → Turns (mail_rules shows) d r s act said e q u → Talks s.moment id (client_of s id) act said (client_of u id) → After None act
+  mail_none : (act : Act Note) (said : List ℕ) → Turns (mail_rules view) d r s act said e q u → Talks s.moment id (client_of s id) act said (client_of u id) → After None act
   mail_none (Came n kind) said t talks = came_by (same n id) None tt tt n kind said refl t talks
   mail_none _ said t talks = (None, refl, tt, tt)
 
-  pub mail_after : (o : Option MailLine) → BoundBy d id o → FitsBy id o (client_of s id) s.turn → (act : Act Note) (said : List ℕ) → Turns (mail_rules shows) d r s act said e q u
+  pub mail_after : (o : Option MailLine) → BoundBy d id o → FitsBy id o (client_of s id) s.turn → (act : Act Note) (said : List ℕ) → Turns (mail_rules view) d r s act said e q u
       → Talks s.moment id (client_of s id) act said (client_of u id) → After o act
   mail_after None bound fits act said t talks = mail_none act said t talks
   mail_after (Some l) bound fits act said t talks = mail_some l bound fits act said t talks

@@ -1,5 +1,6 @@
 -- A message that moves on, behind what others did.
 use Rattle.std.proofs.Common.{◌≡◌, inl, inr, ℕ, Bool, true, List, [], Option, Some, None, IsTrue, refl, ◌∙◌, ap, subst}
+use Rattle.sqlite_trees.specs.Tree.{Trees}
 use Rattle.mailsinks.specs.declared.kept.KeptMail.{KeptMail}
 use Rattle.mailstore.specs.Account.{Accounts}
 use Rattle.mailengine.specs.Hosts.{Kept, HasClients}
@@ -9,15 +10,17 @@ use Rattle.mailengine.specs.declared.clients.Clients.{Clients}
 use Rattle.mailengine.specs.declared.event.Event.{Event}
 use Rattle.mailengine.specs.declared.event.Event.TheVariants.{TakeMail}
 use Rattle.mailengine.proofs.HostLemmas.{mail_taking_may}
-use Rattle.mailmoves.specs.Moving.{Moves, TakesFirst}
+use Rattle.mailmoves.specs.Enduring.{MayLeave, ShowsTried, none_tried}
+use Rattle.mailmoves.specs.Moving.{Moves, TakesFirst, TriedMoving}
+use Rattle.mailmoves.proofs.EnduringLemmas.{left_then}
 use Rattle.mailmoves.specs.declared.moving.Moving.{Moving}
 use Rattle.mailmoves.specs.declared.moving.Moving.TheVariants as moving
 use Rattle.wires.specs.declared.act.Act.{Act}
 use Rattle.wires.specs.Rules.{WorksIf}
 use Rattle.sieveddaemon.specs.DaemonRules.{daemon_rules}
-use Rattle.sieveddaemon.specs.Desk.{IsWorld}
+use Rattle.sieveddaemon.specs.Desk.{View, ComesTo}
 use Rattle.sieveddaemon.specs.Holds.{is_move_due, moved}
-use Rattle.sieveddaemon.specs.Moves.{LetAt, MovedAt, MovesOn}
+use Rattle.sieveddaemon.specs.Moves.{LetAt, MovedAt, TriedAt, MovesOn}
 use Rattle.sieveddaemon.specs.declared.daemon.Daemon.{Daemon}
 use Rattle.sieveddaemon.specs.declared.daemon.Holding.{Holding}
 use Rattle.sieveddaemon.specs.declared.note.Note.{Note}
@@ -33,12 +36,22 @@ taken_next w user folder answer later (inr (refusal, may, is, same)) =
 pub let_none : (w : World) → LetAt [] w w
 let_none w = record { strangers = tt; told = []; theirs = refl; apart = refl }
 
-module _ {R : Type 0} (shows : R → Accounts → Type 0) (others : List Event) (q : R) (after : Kept) (w mid : World) (lets : LetAt others w mid) (sessions : HasClients after mid.sessions) where
-  nothing_then : (later : Accounts) → later ≡ mid.accounts → shows q later → (next : World) × LetAt others w next × IsWorld shows q after next
-  nothing_then later same shown = (mid, lets, record { shown = subst (λ a. shows q a) same shown; sessions = sessions })
+-- behind what others did, of which nothing is left, and what might be left then
+module _ {R : Type 0} (view : View R) (others : List Event) (r q : R) (after : Kept) (w mid : World) (between : Trees → Type 0) (lets : LetAt others w mid) (sessions : HasClients after mid.sessions)
+    (theirs : MayLeave (view.leaves r) w.accounts between mid.accounts none_tried) where
+  nothing_then : (later : Accounts) → later ≡ mid.accounts → view.shows q later → MayLeave between mid.accounts (view.leaves q) later none_tried → (next : World) × LetAt others w next × ComesTo view r w none_tried q after next
+  nothing_then later same shown left = (
+    mid,
+    lets,
+    record {
+      is = record { shown = subst (λ a. view.shows q a) same shown; sessions = sessions };
+      left = left_then (view.leaves r) between (view.leaves q) w.accounts mid.accounts mid.accounts none_tried theirs (subst (λ a. MayLeave between mid.accounts (view.leaves q) a none_tried) same left);
+    },
+  )
 
-  pub moved_then : (m : Moving) (later : Accounts) → Moves m mid.accounts later → shows q later → (next : World) × MovedAt others m w next × IsWorld shows q after next
-  moved_then (moving.Kept mail answer) later moves shown = (
+  pub moved_then : (m : Moving) (later : Accounts) → Moves m mid.accounts later → view.shows q later → MayLeave between mid.accounts (view.leaves q) later (TriedMoving m mid)
+      → (next : World) × (moved : MovedAt others m w next) × ComesTo view r w (TriedAt others m w next moved) q after next
+  moved_then (moving.Kept mail answer) later moves shown left = (
     record { accounts = later; sessions = mid.sessions },
     record {
       done = record {
@@ -51,18 +64,21 @@ module _ {R : Type 0} (shows : R → Accounts → Type 0) (others : List Event) 
       };
       first = moves.0;
     },
-    record { shown = shown; sessions = sessions },
+    record {
+      is = record { shown = shown; sessions = sessions };
+      left = left_then (view.leaves r) between (view.leaves q) w.accounts mid.accounts later (ShowsTried (TakeMail mail.user mail.folder) answer mid) theirs left;
+    },
   )
-  moved_then moving.Nothing later moves shown = nothing_then later moves shown
-  moved_then moving.Passed later moves shown = nothing_then later moves shown
-  moved_then (moving.Failed refusal) later moves shown = nothing_then later moves shown
-  moved_then (moving.Stays stay) later moves shown = nothing_then later moves shown
+  moved_then moving.Nothing later moves shown left = nothing_then later moves shown left
+  moved_then moving.Passed later moves shown left = nothing_then later moves shown left
+  moved_then (moving.Failed refusal) later moves shown left = nothing_then later moves shown left
+  moved_then (moving.Stays stay) later moves shown left = nothing_then later moves shown left
 
 -- what the daemon does by itself
-module _ {O R : Type 0} (tells : O → Bool) (seen : O → List (Act Note)) (rest : O → R) (shows : List Event → R → Accounts → Type 0) (has : R → List KeptMail → Type 0) (clean : R → Type 0) (sure : (o : O) → IsTrue (tells o) → clean (rest o))
+module _ {O R : Type 0} (tells : O → Bool) (seen : O → List (Act Note)) (rest : O → R) (view : View R) (has : R → List KeptMail → Type 0) (clean : R → Type 0) (sure : (o : O) → IsTrue (tells o) → clean (rest o))
     (o p : O) (d : Daemon) (now : ℕ) where
-  pub works_move : (c : Clients) (span : Option ℕ) (h : Holding) → is_move_due d.holding now ≡ true → MovesOn tells seen rest shows has clean o d.clients.sessions span p c.sessions → h ≡ moved d.holding now span
-      → WorksIf tells seen rest (daemon_rules shows) o d now p (record d { clients = c; holding = h })
+  pub works_move : (c : Clients) (span : Option ℕ) (h : Holding) → is_move_due d.holding now ≡ true → MovesOn tells seen rest view has clean o d.clients.sessions span p c.sessions → h ≡ moved d.holding now span
+      → WorksIf tells seen rest (daemon_rules view) o d now p (record d { clients = c; holding = h })
   works_move c (Some span) h due moves had = λ tell. record {
     note = note.Moved moves.0 moves.1;
     grows = moves.5 tell;

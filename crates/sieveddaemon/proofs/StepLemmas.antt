@@ -16,7 +16,7 @@ use Rattle.wires.specs.Rules.{StepsIf}
 use Rattle.wires.specs.Told.{TellsIf}
 use Rattle.sieveddaemon.specs.DaemonRules.{daemon_rules, place_at, AtPlace, AsksFor, Makes, Places, Renews}
 use Rattle.sieveddaemon.specs.Holds.{asked_at}
-use Rattle.sieveddaemon.specs.Desk.{Carries, IsDone, NothingDone, StillShowsIf}
+use Rattle.sieveddaemon.specs.Desk.{View, Carries, IsDone, NothingDone, StillShowsIf}
 use Rattle.sieveddaemon.specs.Places.{client_at, renewed, place_told, is_out, is_user}
 use Rattle.sieveddaemon.specs.Waiting.{Allows, MayAsk, MayGiveUp, said_at_once, too_much, waits_after, waits_behind}
 use Rattle.sieveddaemon.specs.declared.daemon.Daemon.{Daemon}
@@ -67,11 +67,11 @@ place_by : (d e : Daemon) (c : CodeClients) (h : Holding) (now id : ℕ) (w : Wa
 place_by d e c h now id w answered before r was =
     subst (λ (k : CodeClients). Places d id (Some (renewed now before w answered (is_user (client_at k.sessions id)))) e) (sym r.clients) (r.place before was)
 
-module _ {O R : Type 0} (tells : O → Bool) (seen : O → List (Act Note)) (rest : O → R) (shows : List Event → R → Accounts → Type 0) (clean : R → Type 0) (sure : (o : O) → IsTrue (tells o) → clean (rest o))
+module _ {O R : Type 0} (tells : O → Bool) (seen : O → List (Act Note)) (rest : O → R) (view : View R) (clean : R → Type 0) (sure : (o : O) → IsTrue (tells o) → clean (rest o))
     (o p : O) (d e : Daemon) (c : CodeClients) (now id : ℕ) (said : List ℕ) where
   -- an event was done by the store
-  pub did : (answer : Answer) → Carries tells seen rest shows clean id (Step id) o d.clients.sessions (Some answer) p c.sessions → AsksStore (Step id) d.clients.sessions
-      → AtPlace d id (λ place. MayAsk now place.waits) → Renews (mid_of d c (asked_at now d.holding)) now id (waits_after now answer) (is_out answer) e → said ≡ said_at_once answer → StepsIf tells seen rest (daemon_rules shows) o d now id said p e
+  pub did : (answer : Answer) → Carries tells seen rest view clean id (Step id) o d.clients.sessions (Some answer) p c.sessions → AsksStore (Step id) d.clients.sessions
+      → AtPlace d id (λ place. MayAsk now place.waits) → Renews (mid_of d c (asked_at now d.holding)) now id (waits_after now answer) (is_out answer) e → said ≡ said_at_once answer → StepsIf tells seen rest (daemon_rules view) o d now id said p e
   did answer carries asks may r says tell = record {
     note = Did carries.0 (Step id) answer;
     grows = carries.2 tell;
@@ -81,7 +81,7 @@ module _ {O R : Type 0} (tells : O → Bool) (seen : O → List (Act Note)) (res
       allows = λ due. (may.2, refl);
       cause = tt;
       asks = asks;
-      makes = subst (λ (k : CodeClients). IsDone shows carries.0 (Step id) answer (rest o) d.clients.sessions (rest p) k.sessions) (sym r.clients) (carries.1 (sure p tell));
+      makes = subst (λ (k : CodeClients). IsDone view carries.0 (Step id) answer (rest o) d.clients.sessions (rest p) k.sessions) (sym r.clients) (carries.1 (sure p tell));
       says = says;
       place = place_by d e c (asked_at now d.holding) now id (waits_after now answer) (is_out answer) may.0 r may.1;
       holding = r.holding;
@@ -89,8 +89,8 @@ module _ {O R : Type 0} (tells : O → Bool) (seen : O → List (Act Note)) (res
   }
 
   -- it was away
-  pub away : Carries tells seen rest shows clean id (Step id) o d.clients.sessions None p c.sessions → AsksStore (Step id) d.clients.sessions
-      → (may : AtPlace d id (λ place. MayAsk now place.waits)) → Renews (mid_of d c d.holding) now id (waits_behind now may.0.waits Away) false e → said ≡ [] → StepsIf tells seen rest (daemon_rules shows) o d now id said p e
+  pub away : Carries tells seen rest view clean id (Step id) o d.clients.sessions None p c.sessions → AsksStore (Step id) d.clients.sessions
+      → (may : AtPlace d id (λ place. MayAsk now place.waits)) → Renews (mid_of d c d.holding) now id (waits_behind now may.0.waits Away) false e → said ≡ [] → StepsIf tells seen rest (daemon_rules view) o d now id said p e
   away carries asks may r says tell = record {
     note = Away;
     grows = carries.1 tell;
@@ -100,7 +100,7 @@ module _ {O R : Type 0} (tells : O → Bool) (seen : O → List (Act Note)) (res
       allows = λ due. may.2;
       cause = tt;
       asks = asks;
-      makes = subst (λ (k : CodeClients). NothingDone shows (rest o) d.clients.sessions (rest p) k.sessions) (sym r.clients) (carries.0 (sure p tell));
+      makes = subst (λ (k : CodeClients). NothingDone view (rest o) d.clients.sessions (rest p) k.sessions) (sym r.clients) (carries.0 (sure p tell));
       says = says;
       place = place_by d e c d.holding now id (waits_behind now may.0.waits Away) false may.0 r may.1;
       holding = r.holding;
@@ -109,8 +109,8 @@ module _ {O R : Type 0} (tells : O → Bool) (seen : O → List (Act Note)) (res
 
   -- an event was answered that asks no store
   pub freed : (event : Event) (answer : Answer) → ((place : Place) → place_at d id ≡ Some place → Allows now place.waits id (Freed event answer)) → (before : Place) → place_at d id ≡ Some before
-      → IsSessionEvent event answer d.clients.sessions c.sessions → TellsIf tells seen o (Noted id (Freed event answer)) p → StillShowsIf tells rest shows o p
-      → Renews (mid_of d c d.holding) now id (waits_after now answer) (is_out answer) e → said ≡ said_at_once answer → StepsIf tells seen rest (daemon_rules shows) o d now id said p e
+      → IsSessionEvent event answer d.clients.sessions c.sessions → TellsIf tells seen o (Noted id (Freed event answer)) p → StillShowsIf tells rest view o p
+      → Renews (mid_of d c d.holding) now id (waits_after now answer) (is_out answer) e → said ≡ said_at_once answer → StepsIf tells seen rest (daemon_rules view) o d now id said p e
   freed event answer allows before was made told still r says tell = record {
     note = Freed event answer;
     grows = told tell;
@@ -128,8 +128,8 @@ module _ {O R : Type 0} (tells : O → Bool) (seen : O → List (Act Note)) (res
   }
 
   -- a step from sessions that are as they were
-  kept_makes : (note : Note) → KeepsClients d.clients.sessions c.sessions → Makes shows (rest o) (mid_of d c d.holding) note (rest p) e → Makes shows (rest o) d note (rest p) e
-  kept_makes (Did others event answer) keeps makes = λ tried are w stands. makes tried are w (record { shown = stands.shown; sessions = keeps w.sessions stands.sessions })
+  kept_makes : (note : Note) → KeepsClients d.clients.sessions c.sessions → Makes view (rest o) (mid_of d c d.holding) note (rest p) e → Makes view (rest o) d note (rest p) e
+  kept_makes (Did others event answer) keeps makes = λ w stands. makes w (record { shown = stands.shown; sessions = keeps w.sessions stands.sessions })
   kept_makes Away keeps makes = record { shown = makes.shown; kept = λ clients has. makes.kept clients (keeps clients has) }
   kept_makes Spoke keeps makes = record { shown = makes.shown; kept = λ clients has. makes.kept clients (keeps clients has) }
   kept_makes (Freed event answer) keeps makes = (makes.0, λ w has. makes.1 w (keeps w.sessions has))
@@ -148,7 +148,7 @@ module _ {O R : Type 0} (tells : O → Bool) (seen : O → List (Act Note)) (res
   kept_asks (Looked wanted) keeps asks = tt
   kept_asks (Moved others moving) keeps asks = tt
 
-  pub behind : KeepsClients d.clients.sessions c.sessions → StepsIf tells seen rest (daemon_rules shows) o (mid_of d c d.holding) now id said p e → StepsIf tells seen rest (daemon_rules shows) o d now id said p e
+  pub behind : KeepsClients d.clients.sessions c.sessions → StepsIf tells seen rest (daemon_rules view) o (mid_of d c d.holding) now id said p e → StepsIf tells seen rest (daemon_rules view) o d now id said p e
   behind keeps steps tell =
       let s = steps tell in
       let g = s.steps in
@@ -159,11 +159,11 @@ module _ {O R : Type 0} (tells : O → Bool) (seen : O → List (Act Note)) (res
       }
 
 -- it was told that there was no room
-pub refused : {O R : Type 0} (tells : O → Bool) (seen : O → List (Act Note)) (rest : O → R) (shows : List Event → R → Accounts → Type 0) (o p : O) (d e : Daemon) (now id : ℕ) (said : List ℕ)
-    → AtPlace d id (λ place. (place.waits ≡ waits.Nothing) × (place.fit ≡ fit.Over)) → TellsIf tells seen o (Noted id Answered) p → StillShowsIf tells rest shows o p → said ≡ too_much
+pub refused : {O R : Type 0} (tells : O → Bool) (seen : O → List (Act Note)) (rest : O → R) (view : View R) (o p : O) (d e : Daemon) (now id : ℕ) (said : List ℕ)
+    → AtPlace d id (λ place. (place.waits ≡ waits.Nothing) × (place.fit ≡ fit.Over)) → TellsIf tells seen o (Noted id Answered) p → StillShowsIf tells rest view o p → said ≡ too_much
     → ((before : Place) → place_at d id ≡ Some before → Places d id (Some (place_told now before (is_user (client_at d.clients.sessions id)))) e) → e.clients ≡ d.clients → e.holding ≡ d.holding
-    → StepsIf tells seen rest (daemon_rules shows) o d now id said p e
-refused tells seen rest shows o p d e now id said may told still says places clients holding tell = record {
+    → StepsIf tells seen rest (daemon_rules view) o d now id said p e
+refused tells seen rest view o p d e now id said may told still says places clients holding tell = record {
   note = Answered;
   grows = told tell;
   steps = record {

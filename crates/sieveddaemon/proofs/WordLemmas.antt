@@ -12,6 +12,7 @@ use Rattle.wires.specs.Talk.{same, client_of, Talks}
 use Rattle.wires.specs.Turns.{Turns, Opens as Enters}
 use Rattle.wires.proofs.TalkLemmas.{one_number}
 use Rattle.sieveddaemon.specs.Acts.{Line, no_line, line_came, noted, tell, tell_line}
+use Rattle.sieveddaemon.specs.Desk.{View}
 use Rattle.sieveddaemon.specs.DaemonRules.{lmtp, place_at}
 use Rattle.sieveddaemon.specs.MailRules.{mail_rules, post_at, OpensBy, GivesBy, GoesBy, IsFarewell, Parts}
 use Rattle.sieveddaemon.specs.Waiting.{said_with, greeting, idle}
@@ -45,7 +46,7 @@ words_if false k l = refl
 pub none_sent : (id : ℕ) (o : Option Client) (turn : Turn) → o ≡ None → FitsBy id (Some no_line) o turn
 none_sent id o turn none = subst (λ x. Fits id (words_of no_line) x turn) (sym none) (inl ([], refl))
 
-module _ {R : Type 0} (shows : List Event → R → Accounts → Type 0) (d e : MailDaemon) (r q : R) (s u : Service) (id : ℕ) where
+module _ {R : Type 0} (view : View R) (d e : MailDaemon) (r q : R) (s u : Service) (id : ℕ) where
   module _ (l : Line) (tied : Tied d id l) where
     silent : (piece said : List ℕ) → GivesBy d s.moment id piece said e → said ≡ []
     silent piece said (inl g) = g.silent
@@ -58,18 +59,18 @@ module _ {R : Type 0} (shows : List Event → R → Accounts → Type 0) (d e : 
     IsOther (Came n kind) = same n id ≡ false
     IsOther act = Unit {0}
 
-    fit : (act : Act Note) (said : List ℕ) → IsOther act → Fits id (words_of l) (client_of s id) s.turn → Turns (mail_rules shows) d r s act said e q u → Talks s.moment id (client_of s id) act said (client_of u id)
-        → Fits id (words_after (mail_rules shows) d e r q s u id idle said (words_of l) act) (client_of u id) u.turn
-    fit act said other fits t talks = fits_after (mail_rules shows) d e r q s u id idle (words_of l) idle_some silent farewell act said other fits t talks
+    fit : (act : Act Note) (said : List ℕ) → IsOther act → Fits id (words_of l) (client_of s id) s.turn → Turns (mail_rules view) d r s act said e q u → Talks s.moment id (client_of s id) act said (client_of u id)
+        → Fits id (words_after (mail_rules view) d e r q s u id idle said (words_of l) act) (client_of u id) u.turn
+    fit act said other fits t talks = fits_after (mail_rules view) d e r q s u id idle (words_of l) idle_some silent farewell act said other fits t talks
 
     -- what is said with a note of it
-    says : (n : ℕ) (note : Note) (said : List ℕ) → same n id ≡ true → GoesBy shows d r s.moment n note said e q → said ≡ said_with l.waits note
+    says : (n : ℕ) (note : Note) (said : List ℕ) → same n id ≡ true → GoesBy view d r s.moment n note said e q → said ≡ said_with l.waits note
     says n note said is (inl g) = let never : ⊥ = let both : None ≡ Some g.before = sym tied.none ∙ ap (λ k. post_at d k) (sym (one_number n id is)) ∙ g.was in cc in absurd never
     says n note said is (inr g) =
         let waits = tied.waits g.goes.before (ap (λ k. place_at d.daemon k) (sym (one_number n id is)) ∙ g.goes.was) in
         g.goes.says ∙ ap (λ w. said_with w note) waits
 
-    noted_words : (b : Bool) (n : ℕ) (note : Note) (said : List ℕ) → same n id ≡ b → GoesBy shows d r s.moment n note said e q → cond b (spells said (words_of l)) (words_of l) ≡ words_of (cond b (noted s.moment l note) l)
+    noted_words : (b : Bool) (n : ℕ) (note : Note) (said : List ℕ) → same n id ≡ b → GoesBy view d r s.moment n note said e q → cond b (spells said (words_of l)) (words_of l) ≡ words_of (cond b (noted s.moment l note) l)
     noted_words true n note said is g = ap (λ t. spells t (words_of l)) (says n note said is g)
     noted_words false n note said is g = refl
 
@@ -79,7 +80,7 @@ module _ {R : Type 0} (shows : List Event → R → Accounts → Type 0) (d e : 
     like : (a b : Words) → a ≡ b → Fits id a (client_of u id) u.turn → Fits id b (client_of u id) u.turn
     like a b is fits = subst (λ w. Fits id w (client_of u id) u.turn) is fits
 
-    line_then : (act : Act Note) (said : List ℕ) → Turns (mail_rules shows) d r s act said e q u → Fits id (words_after (mail_rules shows) d e r q s u id idle said (words_of l) act) (client_of u id) u.turn → After act
+    line_then : (act : Act Note) (said : List ℕ) → Turns (mail_rules view) d r s act said e q u → Fits id (words_after (mail_rules view) d e r q s u id idle said (words_of l) act) (client_of u id) u.turn → After act
     line_then (Noted n note) said t fits = like _ _ (noted_words (same n id) n note said refl t.0) fits
     line_then (Late n) said t fits = like _ _ (words_if (same n id) (record l { spelled = l.spelled ++ idle }) l) fits
     line_then (Displaced n) said t fits = like _ _ (words_if (same n id) (record l { spelled = l.spelled ++ idle }) l) fits
@@ -106,24 +107,24 @@ module _ {R : Type 0} (shows : List Event → R → Accounts → Type 0) (d e : 
     line_then (Shut n) said t fits = fits
     line_then (Dropped n count) said t fits = fits
 
-    one_after : (act : Act Note) (said : List ℕ) → IsOther act → Fits id (words_of l) (client_of s id) s.turn → Turns (mail_rules shows) d r s act said e q u → Talks s.moment id (client_of s id) act said (client_of u id) → After act
+    one_after : (act : Act Note) (said : List ℕ) → IsOther act → Fits id (words_of l) (client_of s id) s.turn → Turns (mail_rules view) d r s act said e q u → Talks s.moment id (client_of s id) act said (client_of u id) → After act
     one_after act said other fits t talks = line_then act said t (fit act said other fits t talks)
 
   -- it comes itself
   greets : (n kind : ℕ) (said : List ℕ) → kind == lmtp ≡ false → OpensBy (kind == lmtp) d s.moment n said e → said ≡ greeting
   greets n kind said is opens = let o = subst (λ b. OpensBy b d s.moment n said e) is opens in o.opens.says
 
-  new_by : (b : Bool) (n kind : ℕ) (said : List ℕ) → kind == lmtp ≡ b → same n id ≡ true → Enters (mail_rules shows) d s.moment n kind said e u → FitsBy id (line_came b) (client_of u id) u.turn
+  new_by : (b : Bool) (n kind : ℕ) (said : List ℕ) → kind == lmtp ≡ b → same n id ≡ true → Enters (mail_rules view) d s.moment n kind said e u → FitsBy id (line_came b) (client_of u id) u.turn
   new_by true n kind said by_kind is enters = tt
-  new_by false n kind said by_kind is enters = fits_new (mail_rules shows) d e r q s u id idle n kind greeting said is (greets n kind said by_kind) enters
+  new_by false n kind said by_kind is enters = fits_new (mail_rules view) d e r q s u id idle n kind greeting said is (greets n kind said by_kind) enters
 
-  came_by : (b : Bool) (o : Option Line) → TiedBy d id o → FitsBy id o (client_of s id) s.turn → (n kind : ℕ) (said : List ℕ) → same n id ≡ b → Turns (mail_rules shows) d r s (Came n kind) said e q u
+  came_by : (b : Bool) (o : Option Line) → TiedBy d id o → FitsBy id o (client_of s id) s.turn → (n kind : ℕ) (said : List ℕ) → same n id ≡ b → Turns (mail_rules view) d r s (Came n kind) said e q u
       → Talks {N = Note} s.moment id (client_of s id) (Came n kind) said (client_of u id) → FitsBy id (cond b (line_came (kind == lmtp)) o) (client_of u id) u.turn
   came_by true o tied fits n kind said is t talks = new_by (kind == lmtp) n kind said refl is t.3
   came_by false None tied fits n kind said is t talks = tt
   came_by false (Some l) tied fits n kind said is t talks = one_after l tied (Came n kind) said is fits t talks
 
-  line_some : (l : Line) → Tied d id l → Fits id (words_of l) (client_of s id) s.turn → (act : Act Note) (said : List ℕ) → Turns (mail_rules shows) d r s act said e q u
+  line_some : (l : Line) → Tied d id l → Fits id (words_of l) (client_of s id) s.turn → (act : Act Note) (said : List ℕ) → Turns (mail_rules view) d r s act said e q u
       → Talks s.moment id (client_of s id) act said (client_of u id) → FitsBy id (tell_line id s.moment (Some l) act) (client_of u id) u.turn
   line_some l tied fits (Came n kind) said t talks = came_by (same n id) (Some l) tied fits n kind said refl t talks
   line_some l tied fits (Heard n piece) said t talks = one_after l tied (Heard n piece) said tt fits t talks
@@ -151,11 +152,11 @@ module _ {R : Type 0} (shows : List Event → R → Accounts → Type 0) (d e : 
   line_some l tied fits (Shut n) said t talks = one_after l tied (Shut n) said tt fits t talks
   line_some l tied fits (Dropped n count) said t talks = one_after l tied (Dropped n count) said tt fits t talks
 
-  line_none : (act : Act Note) (said : List ℕ) → Turns (mail_rules shows) d r s act said e q u → Talks s.moment id (client_of s id) act said (client_of u id) → FitsBy id (tell_line id s.moment None act) (client_of u id) u.turn
+  line_none : (act : Act Note) (said : List ℕ) → Turns (mail_rules view) d r s act said e q u → Talks s.moment id (client_of s id) act said (client_of u id) → FitsBy id (tell_line id s.moment None act) (client_of u id) u.turn
   line_none (Came n kind) said t talks = came_by (same n id) None tt tt n kind said refl t talks
   line_none _ said t talks = tt
 
-  pub line_after : (o : Option Line) → TiedBy d id o → FitsBy id o (client_of s id) s.turn → (act : Act Note) (said : List ℕ) → Turns (mail_rules shows) d r s act said e q u
+  pub line_after : (o : Option Line) → TiedBy d id o → FitsBy id o (client_of s id) s.turn → (act : Act Note) (said : List ℕ) → Turns (mail_rules view) d r s act said e q u
       → Talks s.moment id (client_of s id) act said (client_of u id) → FitsBy id (tell_line id s.moment o act) (client_of u id) u.turn
   line_after None tied fits act said t talks = line_none act said t talks
   line_after (Some l) tied fits act said t talks = line_some l tied fits act said t talks

@@ -10,8 +10,6 @@ use Rattle.mailengine.specs.declared.event.Event.TheVariants.{Open, Give, Close}
 use Rattle.wires.specs.Talk.{same}
 use Rattle.wires.specs.declared.act.Act.{Act}
 use Rattle.wires.specs.declared.act.Act.TheVariants.{Timed, Late, Displaced, Worked, Came, Heard, Sent, Noted, Full, Ended}
-use Rattle.mailmoves.specs.Enduring.{refused_of}
-use Rattle.mailmoves.specs.Moving.{refused_in}
 use Rattle.sieveddaemon.specs.DaemonRules.{lmtp}
 use Rattle.sieveddaemon.specs.Desk.{DoneAt, FindsAt}
 use Rattle.sieveddaemon.specs.Moves.{MovedAt, takes_of, answers_of}
@@ -71,6 +69,11 @@ abbrev pub LeadsOn : World → List (Act Note) → World → Type 0
 LeadsOn w [] v = v ≡ w
 LeadsOn w (act ∷ acts) v = (mid : World) × Leads w act acts mid × LeadsOn mid acts v
 
+-- the same, and no act changes an account
+abbrev pub RestsOn : World → List (Act Note) → World → Type 0
+RestsOn w [] v = v ≡ w
+RestsOn w (act ∷ acts) v = (mid : World) × Leads w act acts mid × (mid.accounts ≡ w.accounts) × RestsOn mid acts v
+
 -- the same as a list of events
 abbrev pub events_by : Note → List Event
 events_by (Did others event answer) = others ++ event ∷ []
@@ -78,22 +81,6 @@ events_by (Freed event answer) = event ∷ []
 events_by (Asked others user lookup) = others
 events_by (Moved others moving) = others ++ takes_of moving
 events_by _ = []
-
--- events that came to the store, and whose change may be on the disk although it isn't shown: of others, and one that was refused
-abbrev pub tried_by : Note → List Event
-tried_by (Did others event answer) = others ++ refused_of event answer
-tried_by (Asked others user lookup) = others
-tried_by (Moved others moving) = others ++ refused_in moving
-tried_by _ = []
-
-abbrev pub tried_at : Act Note → List Event
-tried_at (Noted id note) = tried_by note
-tried_at (Worked note) = tried_by note
-tried_at _ = []
-
-abbrev pub tried_in : List (Act Note) → List Event
-tried_in [] = []
-tried_in (act ∷ acts) = tried_at act ++ tried_in acts
 
 abbrev pub opened_by : Bool → ℕ → List Event
 opened_by true id = []

@@ -2,7 +2,6 @@
 use Rattle.std.specs.Prelude.{◌≡◌, ◌∷◌, ℕ, ◌==◌, ◌||◌, nat_lt, Bool, true, cond, List, [], Option, Some, None, if◌then◌else◌}
 use Rattle.std.specs.Ordering.{nat_cmp}
 use Rattle.std.specs.BTreeMap as tree
-use Rattle.mailstore.specs.Account.{Accounts}
 use Rattle.sessions.specs.Clients.{Client}
 use Rattle.mailengine.specs.Hosts.{Kept, AsksStore, IsSessionEvent, KeepsClients}
 use Rattle.mailengine.specs.declared.answer.Answer.{Answer}
@@ -10,7 +9,7 @@ use Rattle.mailengine.specs.declared.event.Event.{Event}
 use Rattle.mailengine.specs.declared.event.Event.TheVariants.{Open, Give, Step, Close}
 use Rattle.wires.specs.Rules.{Rules}
 use Rattle.wires.specs.Talk.{same}
-use Rattle.sieveddaemon.specs.Desk.{StillShows, IsDone, NothingDone}
+use Rattle.sieveddaemon.specs.Desk.{View, StillShows, IsDone, NothingDone}
 use Rattle.mailmoves.specs.Moving.{span_behind}
 use Rattle.sieveddaemon.specs.Holds.{asked_at, holding_behind, has_work, is_move_due, is_rested, looked, moved, patience_by}
 use Rattle.sieveddaemon.specs.Moves.{IsMoved}
@@ -100,13 +99,13 @@ pub record Closes (d : Daemon) (id : ℕ) (e : Daemon) : Type 0 where
 
 -- what a note says is done: an event by the store; nothing where it was away, what was kept back is said, or it is over; an event that asks no
 -- store, and is the same whatever accounts there are
-abbrev pub Makes : {R : Type 0} → (List Event → R → Accounts → Type 0) → R → Daemon → Note → R → Daemon → Type 0
-Makes shows r d (Did others event answer) q e = IsDone shows others event answer r d.clients.sessions q e.clients.sessions
-Makes shows r d Away q e = NothingDone shows r d.clients.sessions q e.clients.sessions
-Makes shows r d Spoke q e = NothingDone shows r d.clients.sessions q e.clients.sessions
-Makes shows r d Answered q e = NothingDone shows r d.clients.sessions q e.clients.sessions
-Makes shows r d (Freed event answer) q e = StillShows shows r q × IsSessionEvent event answer d.clients.sessions e.clients.sessions
-Makes shows r d _ q e = ⊥
+abbrev pub Makes : {R : Type 0} → View R → R → Daemon → Note → R → Daemon → Type 0
+Makes view r d (Did others event answer) q e = IsDone view others event answer r d.clients.sessions q e.clients.sessions
+Makes view r d Away q e = NothingDone view r d.clients.sessions q e.clients.sessions
+Makes view r d Spoke q e = NothingDone view r d.clients.sessions q e.clients.sessions
+Makes view r d Answered q e = NothingDone view r d.clients.sessions q e.clients.sessions
+Makes view r d (Freed event answer) q e = StillShows view r q × IsSessionEvent event answer d.clients.sessions e.clients.sessions
+Makes view r d _ q e = ⊥
 
 -- the store is asked only for what asks one: all else is answered by the session alone
 abbrev pub AsksFor : ℕ → Note → Kept → Type 0
@@ -123,13 +122,13 @@ abbrev pub had_at : ℕ → Daemon → Daemon
 had_at now d = record d { holding = asked_at now d.holding }
 
 -- what its connection waits for allows the note, which says what is done, what is said, and what is waited for then
-pub record Goes {R : Type 0} (shows : List Event → R → Accounts → Type 0) (d : Daemon) (r : R) (now id : ℕ) (note : Note) (said : List ℕ) (e : Daemon) (q : R) : Type 0 where
+pub record Goes {R : Type 0} (view : View R) (d : Daemon) (r : R) (now id : ℕ) (note : Note) (said : List ℕ) (e : Daemon) (q : R) : Type 0 where
   pub before : Place
   pub was : place_at d id ≡ Some before
   pub allows : IsDue now before.waits → Allows now before.waits id note
   pub cause : HasCause note before.fit
   pub asks : AsksFor id note d.clients.sessions
-  pub makes : Makes shows r d note q e
+  pub makes : Makes view r d note q e
   pub says : said ≡ said_with before.waits note
   pub place : Places d id (Some (place_behind now before note (client_at e.clients.sessions id))) e
   pub holding : e.holding ≡ holding_behind now note d.holding
@@ -151,17 +150,17 @@ pub record Renews (d : Daemon) (now id : ℕ) (w : Waits) (answered : Bool) (e :
 
 -- what is noted of it: it was given back where somebody waits for it, or nobody asked for so long; a message was to move on, and it was
 -- its time; or the store wasn't to be had for that
-abbrev pub WorksBy : {R : Type 0} → (List Event → R → Accounts → Type 0) → Daemon → R → ℕ → Note → Kept → Holding → R → Type 0
-WorksBy shows d r now (Looked wanted) after h q =
-    StillShows shows r q × (after ≡ d.clients.sessions) × (h ≡ looked d.holding now (is_rested d.holding now) (is_rested d.holding now || wanted))
-WorksBy shows d r now (Moved others moving) after h q =
-    (is_move_due d.holding now ≡ true) × IsMoved shows others moving r d.clients.sessions q after × (h ≡ moved d.holding now (Some (span_behind moving)))
-WorksBy shows d r now Away after h q = (is_move_due d.holding now ≡ true) × NothingDone shows r d.clients.sessions q after × (h ≡ moved d.holding now None)
-WorksBy shows d r now _ after h q = ⊥
+abbrev pub WorksBy : {R : Type 0} → View R → Daemon → R → ℕ → Note → Kept → Holding → R → Type 0
+WorksBy view d r now (Looked wanted) after h q =
+    StillShows view r q × (after ≡ d.clients.sessions) × (h ≡ looked d.holding now (is_rested d.holding now) (is_rested d.holding now || wanted))
+WorksBy view d r now (Moved others moving) after h q =
+    (is_move_due d.holding now ≡ true) × IsMoved view others moving r d.clients.sessions q after × (h ≡ moved d.holding now (Some (span_behind moving)))
+WorksBy view d r now Away after h q = (is_move_due d.holding now ≡ true) × NothingDone view r d.clients.sessions q after × (h ≡ moved d.holding now None)
+WorksBy view d r now _ after h q = ⊥
 
 -- nothing else changes
-pub record DoesWork {R : Type 0} (shows : List Event → R → Accounts → Type 0) (d : Daemon) (r : R) (now : ℕ) (note : Note) (e : Daemon) (q : R) : Type 0 where
-  pub works : WorksBy shows d r now note e.clients.sessions e.holding q
+pub record DoesWork {R : Type 0} (view : View R) (d : Daemon) (r : R) (now : ℕ) (note : Note) (e : Daemon) (q : R) : Type 0 where
+  pub works : WorksBy view d r now note e.clients.sessions e.holding q
   pub places : e.places ≡ d.places
 
 -- ---- for how long it may rest
@@ -186,8 +185,8 @@ patience_of d = least_from (patience_by d.holding) d.places.entries
 
 -- ---- all of it
 
-abbrev pub daemon_rules : {R : Type 0} → (List Event → R → Accounts → Type 0) → Rules Daemon Note R
-daemon_rules shows = record {
+abbrev pub daemon_rules : {R : Type 0} → View R → Rules Daemon Note R
+daemon_rules view = record {
   limit = limit_of;
   displaced = displaced_of;
   wants = λ d id. want_of (place_at d id) (client_at d.clients.sessions id);
@@ -196,9 +195,9 @@ daemon_rules shows = record {
   deadline = λ d id. due_of (place_at d id) (client_at d.clients.sessions id);
   opens = λ d now kind id said e. Opens d now id said e;
   gives = λ d now id piece said e. (whether : Fit) × Gives d now id piece whether said e;
-  steps = λ d r now id note said e q. Goes shows d r now id note said e q;
+  steps = λ d r now id note said e q. Goes view d r now id note said e q;
   lates = λ d now id said e. (said ≡ idle) × (e ≡ d);
-  works = λ d r now note e q. DoesWork shows d r now note e q;
+  works = λ d r now note e q. DoesWork view d r now note e q;
   lacks = λ d id e. LacksFor d id e;
   closes = λ d now id e. Closes d id e;
 }

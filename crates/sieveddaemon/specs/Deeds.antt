@@ -3,7 +3,6 @@ use Rattle.std.specs.Prelude.{◌≡◌, ◌⊎◌, ℕ, ◌-◌, ◌==◌, if�
 use Rattle.std.specs.List.{flat_map}
 use Rattle.lmtp.specs.declared.reply.Reply.{Reply}
 use Rattle.lmtp.specs.declared.reply.Reply.TheVariants.{NoSuchUser, AccountClosed, MessageTooLarge, BadSender, BadRecipient, NoRoom, LocalFault}
-use Rattle.mailstore.specs.Account.{Accounts}
 use Rattle.mailstore.specs.declared.refusal.Refusal.{Refusal}
 use Rattle.mailstore.specs.declared.refusal.Refusal.TheVariants.{Memory, NoUser, AccountClosed as ClosedAccount, TooLarge, BadEnvelope}
 use Rattle.mailengine.specs.Hosts.{Kept}
@@ -21,7 +20,7 @@ use Rattle.reportlines.specs.Reports.{delivery_report}
 use Rattle.wires.specs.declared.act.Act.{Act}
 use Rattle.wires.specs.declared.act.Act.TheVariants.{Noted}
 use Rattle.sieveddaemon.specs.Holds.{holding_behind}
-use Rattle.sieveddaemon.specs.Desk.{IsDone, IsAsked, NothingDone, delivery_of}
+use Rattle.sieveddaemon.specs.Desk.{View, IsDone, IsAsked, NothingDone, delivery_of}
 use Rattle.sieveddaemon.specs.declared.daemon.Daemon.{Daemon}
 use Rattle.sieveddaemon.specs.declared.note.Note.{Note}
 use Rattle.mailengine.specs.Terms.{Terms}
@@ -64,26 +63,26 @@ IsDeed (note.Did others event told) deed =
 IsDeed other deed = ⊥
 
 -- and what it makes of the store
-abbrev pub Stores : {R : Type 0} → (List Event → R → Accounts → Type 0) → R → Kept → Note → R → Kept → Type 0
-Stores shows r before (note.Did others event told) q after = IsDone shows others event told r before q after
-Stores shows r before (note.Asked others user lookup) q after = IsAsked shows others user lookup r before q after
-Stores shows r before other q after = NothingDone shows r before q after
+abbrev pub Stores : {R : Type 0} → View R → R → Kept → Note → R → Kept → Type 0
+Stores view r before (note.Did others event told) q after = IsDone view others event told r before q after
+Stores view r before (note.Asked others user lookup) q after = IsAsked view others user lookup r before q after
+Stores view r before other q after = NothingDone view r before q after
 
 -- ---- one step of a client of LMTP, apart from others
 
 -- its note tells a deed for it, of which the store and the sessions have their part; where there is room for so many octets. It holds no more
 -- behind it
-pub record DoesOne {R : Type 0} (shows : List Event → R → Accounts → Type 0) (room : ℕ) (d : Daemon) (r : R) (before : Post) (now : ℕ) (note : Note) (said : List ℕ) (e : Daemon) (q : R) (after : Post) : Type 0 where
+pub record DoesOne {R : Type 0} (view : View R) (room : ℕ) (d : Daemon) (r : R) (before : Post) (now : ℕ) (note : Note) (said : List ℕ) (e : Daemon) (q : R) (after : Post) : Type 0 where
   pub deed : Deed
   pub is : IsDeed note deed
   pub does : Does now deed said before after
   pub spare : (size : ℕ) → deed ≡ Declined size → size ≡ room
   pub held : HoldsNoMore before after
-  pub stores : Stores shows r d.clients.sessions note q e.clients.sessions
+  pub stores : Stores view r d.clients.sessions note q e.clients.sessions
   pub places : e.places ≡ d.places
   pub holding : e.holding ≡ holding_behind now note d.holding
 
 -- the same, where it is told
-abbrev pub DoesOneIf : {O R : Type 0} → (O → Bool) → (O → List (Act Note)) → (O → R) → (List Event → R → Accounts → Type 0) → ℕ → O → Daemon → Post → ℕ → ℕ → List ℕ → O → Daemon → Post → Type 0
-DoesOneIf tells seen rest shows room o d before now id said p e after =
-    IsTrue (tells p) → (note : Note) × (seen p ≡ seen o ++ Noted id note ∷ []) × DoesOne shows room d (rest o) before now note said e (rest p) after
+abbrev pub DoesOneIf : {O R : Type 0} → (O → Bool) → (O → List (Act Note)) → (O → R) → View R → ℕ → O → Daemon → Post → ℕ → ℕ → List ℕ → O → Daemon → Post → Type 0
+DoesOneIf tells seen rest view room o d before now id said p e after =
+    IsTrue (tells p) → (note : Note) × (seen p ≡ seen o ++ Noted id note ∷ []) × DoesOne view room d (rest o) before now note said e (rest p) after

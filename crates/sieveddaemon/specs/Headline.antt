@@ -4,20 +4,20 @@ use Rattle.std.specs.FinMap.{empty}
 use Rattle.sqlite_trees.specs.Tree.{Trees}
 use Rattle.lmtp.specs.declared.name.Names.{Names}
 use Rattle.mailstore.specs.Account.{Accounts}
+use Rattle.mailstore.specs.Shows.{ShowsIn}
 use Rattle.mailengine.specs.OwnActs.{IsAlone}
-use Rattle.mailengine.specs.declared.event.Event.{Event}
 use Rattle.mailengine.specs.Sound.{AreSound}
 use Rattle.mailengine.specs.Spacing.{IsSpaced}
 use Rattle.mailengine.specs.World.{World, Runs}
 use Rattle.mailengine.specs.declared.answer.Answer.{Answer}
-use Rattle.mailmoves.specs.Enduring.{MayLeave}
 use Rattle.wires.specs.Life.{Fresh, IsFrontOf}
 use Rattle.wires.specs.declared.act.Act.{Act}
 use Rattle.wires.specs.declared.service.Service.{Service}
-use Rattle.sieveddaemon.specs.Acts.{LeadsOn, events_in, tried_in, AnswersIn, no_line, tell_on, AreRight}
-use Rattle.sieveddaemon.specs.Desk.{IsWorld}
+use Rattle.sieveddaemon.specs.Acts.{LeadsOn, events_in, AnswersIn, no_line, tell_on, AreRight}
+use Rattle.sieveddaemon.specs.Desk.{View, IsWorld}
 use Rattle.sieveddaemon.specs.Holding.{IsBounded}
 use Rattle.sieveddaemon.specs.MailActs.{MailLine, TellsOn}
+use Rattle.sieveddaemon.specs.Tried.{IsLeft}
 use Rattle.sieveddaemon.specs.declared.mail.MailDaemon.{MailDaemon}
 use Rattle.sieveddaemon.specs.declared.note.Note.{Note}
 
@@ -47,14 +47,14 @@ pub record HoldsAfter (names : Names) (host : List ℕ) (w : World) (now : ℕ) 
 
 -- from these accounts and no connection on, at each front of the acts, and at the end with the accounts that the store shows then and the
 -- daemon's sessions. A crash at the end, while the store is had and no fault of the disk has shut it, leaves these accounts, or what one
--- event of the acts makes of them, as a whole: one that was refused, or one of others. So what was acknowledged stays, but for what that
--- event makes of it, and nothing is half there
-pub record Headline {R : Type 0} (shows : List Event → R → Accounts → Type 0) (leaves : R → Trees → Type 0) (names : Names) (host : List ℕ) (start : Accounts) (now : ℕ) (acts : List (Act Note)) (r : R) (d : MailDaemon) : Type 0 where
+-- event makes of them that was refused since they last changed, at the very world that it met (`IsLeft`). So what was acknowledged stays,
+-- but for what that event makes of it, and nothing is half there
+pub record Headline {R : Type 0} (view : View R) (names : Names) (host : List ℕ) (start : Accounts) (now : ℕ) (acts : List (Act Note)) (r : R) (d : MailDaemon) : Type 0 where
   pub each_moment : (some rest : List (Act Note)) → some ++ rest ≡ acts → (v : World) × HoldsAfter names host (world_of start) now some v
   pub end : World
   pub holds : HoldsAfter names host (world_of start) now acts end
-  pub shown : IsWorld (shows (tried_in acts)) r d.daemon.clients.sessions end
-  pub left : (trees : Trees) → leaves r trees → MayLeave (tried_in acts) end.accounts trees
+  pub shown : IsWorld view r d.daemon.clients.sessions end
+  pub left : (trees : Trees) → view.leaves r trees → IsLeft (world_of start) acts end trees
   -- all connections together hold what they may, but for what each may besides
   pub bounded : IsBounded d
 
@@ -64,9 +64,9 @@ pub record IsNew (d : MailDaemon) : Type 0 where
   pub places : d.daemon.places.entries ≡ []
   pub posts : d.posts.entries ≡ []
 
--- of a life, where it is told, that begins with a store that shows these accounts, and in which nothing is left of what was tried
--- before: the acts that were added
-abbrev pub Serves : {O R : Type 0} → (O → Bool) → (O → List (Act Note)) → (O → R) → (List Event → R → Accounts → Type 0) → (R → Trees → Type 0) → O → MailDaemon → Service → O → MailDaemon → Type 0
-Serves tells seen rest shows leaves o d s p e =
-    IsTrue (tells p) → IsNew d → Fresh s → (start : Accounts) → ((tried : List Event) → shows tried (rest o) start)
-    → (acts : List (Act Note)) × (seen p ≡ seen o ++ acts) × Headline shows leaves d.names d.host start s.moment acts (rest p) e
+-- of a life, where it is told, that begins with a store that shows these accounts, and of which a crash leaves nothing else: the acts
+-- that were added
+abbrev pub Serves : {O R : Type 0} → (O → Bool) → (O → List (Act Note)) → (O → R) → View R → O → MailDaemon → Service → O → MailDaemon → Type 0
+Serves tells seen rest view o d s p e =
+    IsTrue (tells p) → IsNew d → Fresh s → (start : Accounts) → view.shows (rest o) start → ((trees : Trees) → view.leaves (rest o) trees → ShowsIn trees start)
+    → (acts : List (Act Note)) × (seen p ≡ seen o ++ acts) × Headline view d.names d.host start s.moment acts (rest p) e

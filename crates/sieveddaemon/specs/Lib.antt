@@ -11,4 +11,5 @@ pub mod MailRules
 pub mod Moves
 pub mod Places
 pub mod Room
+pub mod Tried
 pub mod Waiting

@@ -5,8 +5,6 @@ use Rattle.std.specs.BTreeMap as tree
 use Rattle.lmtp.specs.Receivers.{IsDropped, held_by}
 use Rattle.lmtp.specs.Replies.{greeting, line_of}
 use Rattle.lmtp.specs.declared.reply.Reply.TheVariants.{Idle}
-use Rattle.mailstore.specs.Account.{Accounts}
-use Rattle.mailengine.specs.declared.event.Event.{Event}
 use Rattle.mailposts.specs.Posts.{new_post}
 use Rattle.mailposts.specs.Stands.{Stands, Keeps, Hears, HoldsNoMore}
 use Rattle.mailposts.specs.Tallies.{wanted, due}
@@ -20,6 +18,7 @@ use Rattle.wires.specs.declared.machine.Want.TheVariants as want
 use Rattle.sieveddaemon.specs.Bounds.{held, bound, own, room, FitsClient, PassesBound}
 use Rattle.sieveddaemon.specs.DaemonRules.{lmtp, limit_of, displaced_of, place_at, least, patience_of, Opens, Gives, Goes, DoesWork, LacksFor, Closes, Forgets}
 use Rattle.sieveddaemon.specs.Deeds.{DoesOne}
+use Rattle.sieveddaemon.specs.Desk.{View}
 use Rattle.sieveddaemon.specs.Holds.{has_work}
 use Rattle.sieveddaemon.specs.Places.{client_at, want_of, due_of}
 use Rattle.sieveddaemon.specs.Waiting.{idle}
@@ -166,11 +165,11 @@ pub record PostGives (d : MailDaemon) (now id : ℕ) (piece said : List ℕ) (e 
   pub takes : TakesPiece fitted now id piece e
 
 -- one step is one deed, which the note tells; a MAIL is refused only where it announces more than there is room for
-pub record PostGoes {R : Type 0} (shows : List Event → R → Accounts → Type 0) (d : MailDaemon) (r : R) (now id : ℕ) (note : Note) (said : List ℕ) (e : MailDaemon) (q : R) : Type 0 where
+pub record PostGoes {R : Type 0} (view : View R) (d : MailDaemon) (r : R) (now id : ℕ) (note : Note) (said : List ℕ) (e : MailDaemon) (q : R) : Type 0 where
   pub before : Post
   pub was : post_at d id ≡ Some before
   pub after : Post
-  pub does : DoesOne shows (room d) d.daemon r before now note said e.daemon q after
+  pub does : DoesOne view (room d) d.daemon r before now note said e.daemon q after
   pub posts : Posts d id (Some after) e
   pub host : SameHost d e
 
@@ -204,13 +203,13 @@ abbrev pub GivesBy : MailDaemon → ℕ → ℕ → List ℕ → List ℕ → Ma
 GivesBy d now id piece said e = PostGives d now id piece said e ⊎ SessionGives d now id piece said e
 
 -- the daemon goes on with one, by its own rules
-pub record SessionGoes {R : Type 0} (shows : List Event → R → Accounts → Type 0) (d : MailDaemon) (r : R) (now id : ℕ) (note : Note) (said : List ℕ) (e : MailDaemon) (q : R) : Type 0 where
+pub record SessionGoes {R : Type 0} (view : View R) (d : MailDaemon) (r : R) (now id : ℕ) (note : Note) (said : List ℕ) (e : MailDaemon) (q : R) : Type 0 where
   pub other : post_at d id ≡ None
-  pub goes : Goes shows d.daemon r now id note said e.daemon q
+  pub goes : Goes view d.daemon r now id note said e.daemon q
   pub same : SamePosts d e
 
-abbrev pub GoesBy : {R : Type 0} → (List Event → R → Accounts → Type 0) → MailDaemon → R → ℕ → ℕ → Note → List ℕ → MailDaemon → R → Type 0
-GoesBy shows d r now id note said e q = PostGoes shows d r now id note said e q ⊎ SessionGoes shows d r now id note said e q
+abbrev pub GoesBy : {R : Type 0} → View R → MailDaemon → R → ℕ → ℕ → Note → List ℕ → MailDaemon → R → Type 0
+GoesBy view d r now id note said e q = PostGoes view d r now id note said e q ⊎ SessionGoes view d r now id note said e q
 
 -- what is said last to one that is late or makes room, by what is known of it (RFC 5321, 4.5.3.2.7; RFC 5804, 1.2)
 abbrev pub IsFarewell : Option Post → Option Place → List ℕ → Type 0
@@ -223,8 +222,8 @@ pub record Parts (d : MailDaemon) (id : ℕ) (said : List ℕ) (e : MailDaemon) 
   pub stays : e ≡ d
 
 -- the daemon does something by itself, by its own rules
-pub record Works {R : Type 0} (shows : List Event → R → Accounts → Type 0) (d : MailDaemon) (r : R) (now : ℕ) (note : Note) (e : MailDaemon) (q : R) : Type 0 where
-  pub does : DoesWork shows d.daemon r now note e.daemon q
+pub record Works {R : Type 0} (view : View R) (d : MailDaemon) (r : R) (now : ℕ) (note : Note) (e : MailDaemon) (q : R) : Type 0 where
+  pub does : DoesWork view d.daemon r now note e.daemon q
   pub same : SamePosts d e
 
 -- where memory was lacking for one nothing more is known of it
@@ -238,8 +237,8 @@ pub record ClosesBy (d : MailDaemon) (id : ℕ) (e : MailDaemon) : Type 0 where
   pub posts : Posts d id None e
   pub host : SameHost d e
 
-abbrev pub mail_rules : {R : Type 0} → (List Event → R → Accounts → Type 0) → Rules MailDaemon Note R
-mail_rules shows = record {
+abbrev pub mail_rules : {R : Type 0} → View R → Rules MailDaemon Note R
+mail_rules view = record {
   limit = limit_for;
   displaced = displaced_for;
   wants = λ d id. wants_by (post_at d id) (want_of (place_at d.daemon id) (client_at d.daemon.clients.sessions id));
@@ -248,9 +247,9 @@ mail_rules shows = record {
   deadline = λ d id. due_by (post_at d id) (due_of (place_at d.daemon id) (client_at d.daemon.clients.sessions id));
   opens = λ d now kind id said e. OpensBy (kind == lmtp) d now id said e;
   gives = λ d now id piece said e. GivesBy d now id piece said e;
-  steps = λ d r now id note said e q. GoesBy shows d r now id note said e q;
+  steps = λ d r now id note said e q. GoesBy view d r now id note said e q;
   lates = λ d now id said e. Parts d id said e;
-  works = λ d r now note e q. Works shows d r now note e q;
+  works = λ d r now note e q. Works view d r now note e q;
   lacks = λ d id e. LacksBy d id e;
   closes = λ d now id e. ClosesBy d id e;
 }

@@ -1,20 +1,20 @@
 -- A message that moves on: others' events, then it is kept, and then the event that takes it out.
 use Rattle.std.specs.Prelude.{◌≡◌, ℕ, Bool, List, [], ◌∷◌, ◌++◌, Option, Some, None}
+use Rattle.sqlite_trees.specs.Tree.{Trees}
 use Rattle.mailsinks.specs.declared.kept.KeptMail.{KeptMail}
-use Rattle.mailstore.specs.Account.{Accounts}
 use Rattle.mailengine.specs.Hosts.{Kept}
 use Rattle.mailengine.specs.World.{World, Runs}
 use Rattle.mailengine.specs.declared.answer.Answer.{Answer}
 use Rattle.mailengine.specs.declared.event.Event.{Event}
 use Rattle.mailengine.specs.declared.event.Event.TheVariants.{TakeMail}
-use Rattle.mailmoves.specs.Enduring.{AreTried}
-use Rattle.mailmoves.specs.Moving.{IsFirst, refused_in, span_behind}
+use Rattle.mailmoves.specs.Enduring.{ShowsTried}
+use Rattle.mailmoves.specs.Moving.{IsFirst, span_behind}
 use Rattle.mailmoves.specs.declared.moving.Moving.{Moving}
 use Rattle.mailmoves.specs.declared.moving.Moving.TheVariants as moving
 use Rattle.wires.specs.declared.act.Act.{Act}
 use Rattle.wires.specs.declared.act.Act.TheVariants.{Worked}
 use Rattle.wires.specs.Told.{TellsIf}
-use Rattle.sieveddaemon.specs.Desk.{AreOthers, DoneAt, IsWorld, NothingDone}
+use Rattle.sieveddaemon.specs.Desk.{View, AreOthers, DoneAt, IsWorld, ComesTo, NothingDone}
 use Rattle.sieveddaemon.specs.declared.note.Note.{Note}
 use Rattle.sieveddaemon.specs.declared.note.Note.TheVariants.{Away, Moved}
 
@@ -35,11 +35,16 @@ abbrev pub MovedAt : List Event → Moving → World → World → Type 0
 MovedAt others (moving.Kept mail answer) w next = TakenAt others mail answer w next
 MovedAt others other w next = LetAt others w next
 
--- the same, whatever accounts the store showed; events of others were tried, and the one that takes the message, where it was refused
-abbrev pub IsMoved : {R : Type 0} → (List Event → R → Accounts → Type 0) → List Event → Moving → R → Kept → R → Kept → Type 0
-IsMoved shows others moving r before q after =
-    (tried : List Event) → AreTried tried (others ++ refused_in moving) → (w : World) → IsWorld (shows tried) r before w
-    → (next : World) × MovedAt others moving w next × IsWorld (shows tried) q after next
+-- what was tried in it: the event that takes the message out, where it was refused, at the world that it met
+abbrev pub TriedAt : (others : List Event) (m : Moving) (w next : World) → MovedAt others m w next → Trees → Type 0
+TriedAt others (moving.Kept mail answer) w next moved trees = ShowsTried (TakeMail mail.user mail.folder) answer moved.done.between trees
+TriedAt others other w next moved trees = ⊥
+
+-- the same, whatever accounts the store showed
+abbrev pub IsMoved : {R : Type 0} → View R → List Event → Moving → R → Kept → R → Kept → Type 0
+IsMoved view others moving r before q after =
+    (w : World) → IsWorld view r before w
+    → (next : World) × (moved : MovedAt others moving w next) × ComesTo view r w (TriedAt others moving w next moved) q after next
 
 -- the event that takes a message out is behind the sink, which has that message then, at the end of those that it had
 abbrev pub HasKept : {R : Type 0} → (R → List KeptMail → Type 0) → Moving → R → R → Type 0
@@ -56,9 +61,9 @@ answers_of (moving.Kept mail answer) = answer ∷ []
 answers_of other = []
 
 -- a call of the desk; where something is told, it is that. `clean`: the disk returned what was written
-abbrev pub MovesOn : {O R : Type 0} → (O → Bool) → (O → List (Act Note)) → (O → R) → (List Event → R → Accounts → Type 0) → (R → List KeptMail → Type 0) → (R → Type 0) → O → Kept → Option ℕ → O → Kept → Type 0
-MovesOn tells seen rest shows has clean old before (Some span) new after =
-    (others : List Event) × (moving : Moving) × (span ≡ span_behind moving) × (clean (rest new) → IsMoved shows others moving (rest old) before (rest new) after)
+abbrev pub MovesOn : {O R : Type 0} → (O → Bool) → (O → List (Act Note)) → (O → R) → View R → (R → List KeptMail → Type 0) → (R → Type 0) → O → Kept → Option ℕ → O → Kept → Type 0
+MovesOn tells seen rest view has clean old before (Some span) new after =
+    (others : List Event) × (moving : Moving) × (span ≡ span_behind moving) × (clean (rest new) → IsMoved view others moving (rest old) before (rest new) after)
     × HasKept has moving (rest old) (rest new) × TellsIf tells seen old (Worked (Moved others moving)) new
-MovesOn tells seen rest shows has clean old before None new after =
-    (clean (rest new) → NothingDone shows (rest old) before (rest new) after) × TellsIf tells seen old (Worked Away) new
+MovesOn tells seen rest view has clean old before None new after =
+    (clean (rest new) → NothingDone view (rest old) before (rest new) after) × TellsIf tells seen old (Worked Away) new

@@ -1,17 +1,13 @@
 //! The store, as the daemon sees it.
-ghost use Rattle.std.specs.Prelude.{ℕ, List, IsTrue, IfSome};
-ghost use Rattle.sqlite_trees.specs.Tree.{Trees};
+ghost use Rattle.std.specs.Prelude.{List, IsTrue, IfSome};
 ghost use Rattle.mailposts.specs.Posts.{IsFound};
-ghost use Rattle.mailstore.specs.Account.{Accounts};
 ghost use Rattle.mailengine.specs.Hosts.{IsGivenUp};
-ghost use Rattle.mailengine.specs.declared.event.Event.{Event};
 ghost use Rattle.wires.specs.declared.act.Act.TheVariants.{Noted};
 ghost use Rattle.wires.specs.Told.{TellsIf};
 ghost use Rattle.sieveddaemon.specs.declared.note.Note.TheVariants.{Answered, Freed, Spoke};
-ghost use Rattle.mailmoves.specs.Enduring.{MayLeave};
 ghost use Rattle.mailsinks.specs.declared.kept.KeptMail.{KeptMail};
 ghost use Rattle.sieveddaemon.specs.Moves.{MovesOn};
-ghost use Rattle.sieveddaemon.specs.Desk.{Carries, Delivers, Looks, LooksUp, StillShowsIf};
+ghost use Rattle.sieveddaemon.specs.Desk.{View, Carries, Delivers, Looks, LooksUp, StillShowsIf};
 
 use crate::note::Note;
 use lmtp::Lookup;
@@ -22,11 +18,9 @@ use wires::outside::Outside;
 /// Where events are brought to a store that other processes use too. Each call but those that only tell asks for the store
 /// where it isn't had, and keeps it until it is given back.
 pub trait Desk: Outside<Note = Note> {
-    /// Which accounts the store shows, while these events were tried: their changes may be on the disk, although they aren't shown.
-    ghost shows: { List Event → Self.Rest → Accounts → Type 0 };
-
-    /// What an open after a crash at this moment may find, while the store is had and no fault of the disk has shut it.
-    ghost leaves: { Self.Rest → Trees → Type 0 };
+    /// Which accounts the store shows, and what an open after a crash at this moment may find, while it is had and no fault of the disk
+    /// has shut it.
+    ghost view: { View Self.Rest };
 
     /// The disk returned what was written.
     ghost clean: { Self.Rest → Type 0 };
@@ -39,38 +33,38 @@ pub trait Desk: Outside<Note = Note> {
     fn carry(&mut self, id: u32, clients: &mut Clients, event: &Event) -> Option<Answer>
         requires { ¬ IsGivenUp event.now }
         ensures kept { IsTrue (Self.tells self.new) → IsTrue (Self.tells self.old) }
-        ensures carries { Carries Self.tells Self.seen Self.rest shows clean id event.now self.old clients.old.sessions result self.new clients.new.sessions };
+        ensures carries { Carries Self.tells Self.seen Self.rest view clean id event.now self.old clients.old.sessions result self.new clients.new.sessions };
 
     /// Tells that an event of a connection was answered that asks no store. Nothing is done.
     fn tell_freed(&mut self, id: u32, event: &Event, answer: &Answer)
         ensures kept { IsTrue (Self.tells self.new) → IsTrue (Self.tells self.old) }
         ensures told { TellsIf Self.tells Self.seen self.old (Noted id (Freed event.now answer.now)) self.new }
-        ensures shown { StillShowsIf Self.tells Self.rest shows self.old self.new };
+        ensures shown { StillShowsIf Self.tells Self.rest view self.old self.new };
 
     /// Asks the store whether there is an account of that name; a name that it can't look for now is a fault, or lacks
     /// memory. Nothing is changed. None where the store isn't to be had now.
     fn look_up(&mut self, id: u32, clients: &mut Clients, user: &[u8]) -> Option<Lookup>
         ensures kept { IsTrue (Self.tells self.new) → IsTrue (Self.tells self.old) }
         ensures found { IfSome result IsFound }
-        ensures asks { LooksUp Self.tells Self.seen Self.rest shows clean id user.now self.old clients.old.sessions result self.new clients.new.sessions };
+        ensures asks { LooksUp Self.tells Self.seen Self.rest view clean id user.now self.old clients.old.sessions result self.new clients.new.sessions };
 
     /// Brings a message to the store, at the moment that the clock shows now, with the host's default script, and answers it once
     /// its change is there for good. None where the store isn't to be had now.
     fn deliver(&mut self, id: u32, clients: &mut Clients, parcel: &Parcel) -> Option<Answer>
         ensures kept { IsTrue (Self.tells self.new) → IsTrue (Self.tells self.old) }
-        ensures delivers { Delivers Self.tells Self.seen Self.rest shows clean default id parcel.now self.old clients.old.sessions result self.new clients.new.sessions };
+        ensures delivers { Delivers Self.tells Self.seen Self.rest view clean default id parcel.now self.old clients.old.sessions result self.new clients.new.sessions };
 
     /// Tells that a client of LMTP was answered without the store, or one of ManageSieve that there is no room. Nothing is done.
     fn tell_answered(&mut self, id: u32)
         ensures kept { IsTrue (Self.tells self.new) → IsTrue (Self.tells self.old) }
         ensures told { TellsIf Self.tells Self.seen self.old (Noted id Answered) self.new }
-        ensures shown { StillShowsIf Self.tells Self.rest shows self.old self.new };
+        ensures shown { StillShowsIf Self.tells Self.rest view self.old self.new };
 
     /// Tells that to a connection is said what was kept back. Nothing is done.
     fn tell_spoke(&mut self, id: u32)
         ensures kept { IsTrue (Self.tells self.new) → IsTrue (Self.tells self.old) }
         ensures told { TellsIf Self.tells Self.seen self.old (Noted id Spoke) self.new }
-        ensures shown { StillShowsIf Self.tells Self.rest shows self.old self.new };
+        ensures shown { StillShowsIf Self.tells Self.rest view self.old self.new };
 
     /// Which messages the sink has, where mail moves on; of one that doesn't tell them any may be had.
     ghost has: { Self.Rest → List KeptMail → Type 0 };
@@ -80,16 +74,13 @@ pub trait Desk: Outside<Note = Note> {
     /// is to move; none where the store isn't to be had now.
     fn move_on(&mut self, clients: &mut Clients, now: u64, fresh: bool) -> Option<u64>
         ensures kept { IsTrue (Self.tells self.new) → IsTrue (Self.tells self.old) }
-        ensures moves { MovesOn Self.tells Self.seen Self.rest shows has clean self.old clients.old.sessions result self.new clients.new.sessions };
+        ensures moves { MovesOn Self.tells Self.seen Self.rest view has clean self.old clients.old.sessions result self.new clients.new.sessions };
 
     /// Looks whether somebody waits for the store, and gives it back where somebody does, or where it `rests`. Says whether
     /// it was given back.
     fn look(&mut self, rests: bool) -> bool
         ensures kept { IsTrue (Self.tells self.new) → IsTrue (Self.tells self.old) }
-        ensures looks { Looks Self.tells Self.seen Self.rest shows clean self.old rests result self.new };
-
-    // A crash leaves the accounts that are shown, or what one of the events that were tried makes of them, as a whole.
-    ghost left: { (tried : List Event) (rest : Self.Rest) (accounts : Accounts) → shows tried rest accounts → (trees : Trees) → leaves rest trees → MayLeave tried accounts trees };
+        ensures looks { Looks Self.tells Self.seen Self.rest view clean self.old rests result self.new };
 
     // Where it tells its acts, its disk doesn't lie.
     ghost sure: { (desk : Self) → IsTrue (Self.tells desk) → clean (Self.rest desk) };

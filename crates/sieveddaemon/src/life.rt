@@ -24,8 +24,8 @@ pub fn serve<O: Sockets + Clock + Desk>(
 ) -> Result<(), Fault>
     ensures kept { IsTrue (O.tells outside.new) → IsTrue (O.tells outside.old) }
     ensures passed { OnOk result (AddsIf O.tells O.seen outside.old acts outside.new) }
-    ensures lives { LivesIf O.tells O.seen O.rest (mail_rules O.shows) outside.old daemon.old service.old outside.new daemon.new service.new }
-    ensures headline { Serves O.tells O.seen O.rest O.shows O.leaves outside.old daemon.old service.old outside.new daemon.new }
+    ensures lives { LivesIf O.tells O.seen O.rest (mail_rules O.view) outside.old daemon.old service.old outside.new daemon.new service.new }
+    ensures headline { Serves O.tells O.seen O.rest O.view outside.old daemon.old service.old outside.new daemon.new }
     ensures broke { OnErr result (IsTrue (O.broken outside.new)) }
 {
     life::serve(outside, daemon, service, acts)

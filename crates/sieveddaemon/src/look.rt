@@ -63,7 +63,7 @@ fn is_turn(holding: &Holding, now: u64) -> bool
 /// The daemon does something by itself.
 pub fn work_by<O: Desk>(daemon: &mut Daemon, outside: &mut O, now: u64)
     ensures kept { IsTrue (O.tells outside.new) → IsTrue (O.tells outside.old) }
-    ensures works { WorksIf O.tells O.seen O.rest (daemon_rules O.shows) outside.old daemon.old now outside.new daemon.new }
+    ensures works { WorksIf O.tells O.seen O.rest (daemon_rules O.view) outside.old daemon.old now outside.new daemon.new }
 {
     if is_move_due(&daemon.holding, now) && is_looked(&daemon.holding) {
         move_by(daemon, outside, now)
@@ -75,7 +75,7 @@ pub fn work_by<O: Desk>(daemon: &mut Daemon, outside: &mut O, now: u64)
 /// It is looked whether somebody waits for the store.
 fn look_by<O: Desk>(daemon: &mut Daemon, outside: &mut O, now: u64)
     ensures kept { IsTrue (O.tells outside.new) → IsTrue (O.tells outside.old) }
-    ensures works { WorksIf O.tells O.seen O.rest (daemon_rules O.shows) outside.old daemon.old now outside.new daemon.new }
+    ensures works { WorksIf O.tells O.seen O.rest (daemon_rules O.view) outside.old daemon.old now outside.new daemon.new }
 {
     let rests = daemon.holding.asked.wrapping_add(MAX_REST) <= now;
     let gives = outside.look(rests);
@@ -118,7 +118,7 @@ fn span_behind(rests: bool) -> u64
 fn move_by<O: Desk>(daemon: &mut Daemon, outside: &mut O, now: u64)
     requires { rules.is_move_due daemon.old.holding now ≡ true }
     ensures kept { IsTrue (O.tells outside.new) → IsTrue (O.tells outside.old) }
-    ensures works { WorksIf O.tells O.seen O.rest (daemon_rules O.shows) outside.old daemon.old now outside.new daemon.new }
+    ensures works { WorksIf O.tells O.seen O.rest (daemon_rules O.view) outside.old daemon.old now outside.new daemon.new }
 {
     let fresh = daemon.holding.events != 0;
     let span = outside.move_on(&mut daemon.clients, now, fresh);

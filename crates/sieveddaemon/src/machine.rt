@@ -31,7 +31,7 @@ pub const MAX_SENDERS: usize = 20;
 impl<O: Desk> Machine<O> for MailDaemon {
     ghost use Rattle.sieveddaemon.specs.MailRules.{mail_rules};
 
-    ghost rules = { mail_rules O.shows };
+    ghost rules = { mail_rules O.view };
 
     fn limit(&self, kind: u32) -> usize {
         if kind == LMTP {

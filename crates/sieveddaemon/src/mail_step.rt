@@ -27,7 +27,7 @@ pub fn step_post<O: Desk>(
 ) -> Result<(), AllocError>
     requires { out.old ≡ [] }
     ensures kept { IsTrue (O.tells outside.new) → IsTrue (O.tells outside.old) }
-    ensures ok { OnOk result (StepsIf O.tells O.seen O.rest (mail_rules O.shows) outside.old mail.old now id out.new outside.new mail.new) }
+    ensures ok { OnOk result (StepsIf O.tells O.seen O.rest (mail_rules O.view) outside.old mail.old now id out.new outside.new mail.new) }
     ensures err { OnErr result (IdlesIf O.tells O.seen O.rest outside.old outside.new) }
     ensures lacks { OnErr result (LacksBy mail.old id mail.new) }
 {
@@ -55,7 +55,7 @@ fn do_next<O: Desk>(
 ) -> Result<(), AllocError>
     requires { out.old ≡ [] }
     ensures kept { IsTrue (O.tells outside.new) → IsTrue (O.tells outside.old) }
-    ensures ok { OnOk result (deeds.DoesOneIf O.tells O.seen O.rest O.shows spare outside.old daemon.old post.old now id out.new outside.new daemon.new post.new) }
+    ensures ok { OnOk result (deeds.DoesOneIf O.tells O.seen O.rest O.view spare outside.old daemon.old post.old now id out.new outside.new daemon.new post.new) }
     ensures err { OnErr result (IdlesIf O.tells O.seen O.rest outside.old outside.new) }
     ensures lacks { OnErr result (daemon.new ≡ daemon.old) }
 {
@@ -99,7 +99,7 @@ fn answer_line<O: Desk>(
     requires line { Demands now post.old demands.Line }
     requires out { out.old ≡ [] }
     ensures kept { IsTrue (O.tells outside.new) → IsTrue (O.tells outside.old) }
-    ensures ok { OnOk result ((daemon : DaemonOf) → deeds.DoesOneIf O.tells O.seen O.rest O.shows spare outside.old daemon post.old now id out.new outside.new daemon post.new) }
+    ensures ok { OnOk result ((daemon : DaemonOf) → deeds.DoesOneIf O.tells O.seen O.rest O.view spare outside.old daemon post.old now id out.new outside.new daemon post.new) }
     ensures err { OnErr result (IdlesIf O.tells O.seen O.rest outside.old outside.new) }
 {
     let refused = post.refuse(now, spare as u64, out)?;
@@ -126,7 +126,7 @@ fn ask<O: Desk>(
     requires asked { Demands now post.old (demands.Account question) }
     requires slot { HasSlot post.old }
     ensures kept { IsTrue (O.tells outside.new) → IsTrue (O.tells outside.old) }
-    ensures does { (spare : ℕ) → deeds.DoesOneIf O.tells O.seen O.rest O.shows spare outside.old daemon.old post.old now id result outside.new daemon.new post.new }
+    ensures does { (spare : ℕ) → deeds.DoesOneIf O.tells O.seen O.rest O.view spare outside.old daemon.old post.old now id result outside.new daemon.new post.new }
 {
     match outside.look_up(id, &mut daemon.clients, question.user.as_slice()) {
         Some(lookup) => {
@@ -153,7 +153,7 @@ fn bring<O: Desk>(
 ) -> Octets
     requires { Demands now post.old (demands.Delivery parcel) }
     ensures kept { IsTrue (O.tells outside.new) → IsTrue (O.tells outside.old) }
-    ensures does { (spare : ℕ) → deeds.DoesOneIf O.tells O.seen O.rest O.shows spare outside.old daemon.old post.old now id result outside.new daemon.new post.new }
+    ensures does { (spare : ℕ) → deeds.DoesOneIf O.tells O.seen O.rest O.view spare outside.old daemon.old post.old now id result outside.new daemon.new post.new }
 {
     match outside.deliver(id, &mut daemon.clients, &parcel) {
         Some(answer) => {

@@ -191,7 +191,7 @@ fn bring<O: Desk>(
     requires may { AtPlace daemon.old id (λ place. MayAsk now place.waits) }
     requires asks { AsksStore (Step id) daemon.old.clients.sessions }
     ensures kept { IsTrue (O.tells outside.new) → IsTrue (O.tells outside.old) }
-    ensures ok { OnOk result (StepsIf O.tells O.seen O.rest (daemon_rules O.shows) outside.old daemon.old now id out.new outside.new daemon.new) }
+    ensures ok { OnOk result (StepsIf O.tells O.seen O.rest (daemon_rules O.view) outside.old daemon.old now id out.new outside.new daemon.new) }
     ensures err { OnErr result (IdlesIf O.tells O.seen O.rest outside.old outside.new) }
     ensures lacks { OnErr result (LacksFor daemon.old id daemon.new) }
 {
@@ -218,7 +218,7 @@ fn step_first<O: Desk>(
     requires out { out.old ≡ [] }
     requires may { AtPlace daemon.old id (λ place. MayAsk now place.waits) }
     ensures kept { IsTrue (O.tells outside.new) → IsTrue (O.tells outside.old) }
-    ensures ok { OnOk result (StepsIf O.tells O.seen O.rest (daemon_rules O.shows) outside.old daemon.old now id out.new outside.new daemon.new) }
+    ensures ok { OnOk result (StepsIf O.tells O.seen O.rest (daemon_rules O.view) outside.old daemon.old now id out.new outside.new daemon.new) }
     ensures err { OnErr result (IdlesIf O.tells O.seen O.rest outside.old outside.new) }
     ensures lacks { OnErr result (LacksFor daemon.old id daemon.new) }
 {
@@ -248,7 +248,7 @@ fn give_up<O: Desk>(
     requires out { out.old ≡ [] }
     requires may { AtPlace daemon.old id (λ place. MayGiveUp now place.waits) }
     ensures kept { IsTrue (O.tells outside.new) → IsTrue (O.tells outside.old) }
-    ensures ok { OnOk result (StepsIf O.tells O.seen O.rest (daemon_rules O.shows) outside.old daemon.old now id out.new outside.new daemon.new) }
+    ensures ok { OnOk result (StepsIf O.tells O.seen O.rest (daemon_rules O.view) outside.old daemon.old now id out.new outside.new daemon.new) }
     ensures err { OnErr result (IdlesIf O.tells O.seen O.rest outside.old outside.new) }
     ensures lacks { OnErr result (LacksFor daemon.old id daemon.new) }
 {
@@ -269,7 +269,7 @@ fn speak<O: Desk>(daemon: &mut Daemon, outside: &mut O, now: u64, id: u32, out: 
     requires out { out.old ≡ [] }
     requires may { AtPlace daemon.old id (λ place. IsReply place.waits) }
     ensures kept { IsTrue (O.tells outside.new) → IsTrue (O.tells outside.old) }
-    ensures ok { StepsIf O.tells O.seen O.rest (daemon_rules O.shows) outside.old daemon.old now id out.new outside.new daemon.new }
+    ensures ok { StepsIf O.tells O.seen O.rest (daemon_rules O.view) outside.old daemon.old now id out.new outside.new daemon.new }
 {
     outside.tell_spoke(id);
     match renew(daemon, now, id, Waits::Nothing, true) {
@@ -315,7 +315,7 @@ fn refuse<O: Desk>(
     requires out { out.old ≡ [] }
     requires may { AtPlace daemon.old id (λ place. (place.waits ≡ Waits.Nothing) × (place.fit ≡ Fit.Over)) }
     ensures kept { IsTrue (O.tells outside.new) → IsTrue (O.tells outside.old) }
-    ensures ok { OnOk result (StepsIf O.tells O.seen O.rest (daemon_rules O.shows) outside.old daemon.old now id out.new outside.new daemon.new) }
+    ensures ok { OnOk result (StepsIf O.tells O.seen O.rest (daemon_rules O.view) outside.old daemon.old now id out.new outside.new daemon.new) }
     ensures err { OnErr result (IdlesIf O.tells O.seen O.rest outside.old outside.new) }
     ensures lacks { OnErr result (LacksFor daemon.old id daemon.new) }
 {
@@ -340,7 +340,7 @@ fn step_free<O: Desk>(
     requires out { out.old ≡ [] }
     requires may { AtPlace daemon.old id (λ place. (place.waits ≡ Waits.Nothing) × (place.fit ≡ fit)) }
     ensures kept { IsTrue (O.tells outside.new) → IsTrue (O.tells outside.old) }
-    ensures ok { OnOk result (StepsIf O.tells O.seen O.rest (daemon_rules O.shows) outside.old daemon.old now id out.new outside.new daemon.new) }
+    ensures ok { OnOk result (StepsIf O.tells O.seen O.rest (daemon_rules O.view) outside.old daemon.old now id out.new outside.new daemon.new) }
     ensures err { OnErr result (IdlesIf O.tells O.seen O.rest outside.old outside.new) }
     ensures lacks { OnErr result (LacksFor daemon.old id daemon.new) }
 {
@@ -361,7 +361,7 @@ pub fn step_once<O: Desk>(
 ) -> Result<(), AllocError>
     requires { out.old ≡ [] }
     ensures kept { IsTrue (O.tells outside.new) → IsTrue (O.tells outside.old) }
-    ensures ok { OnOk result (StepsIf O.tells O.seen O.rest (daemon_rules O.shows) outside.old daemon.old now id out.new outside.new daemon.new) }
+    ensures ok { OnOk result (StepsIf O.tells O.seen O.rest (daemon_rules O.view) outside.old daemon.old now id out.new outside.new daemon.new) }
     ensures err { OnErr result (IdlesIf O.tells O.seen O.rest outside.old outside.new) }
     ensures lacks { OnErr result (LacksFor daemon.old id daemon.new) }
 {

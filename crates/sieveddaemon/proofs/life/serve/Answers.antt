@@ -4,10 +4,10 @@ use Rattle.sieveddaemon.proofs.HeadlineLemmas.{headline}
 use Rattle.sieveddaemon.proofs.life.serve.Goals as goal
 
 pub returns-clause-headline : goal.returns-clause-headline
-returns-clause-headline g c tells new fresh start shown =
+returns-clause-headline g c tells new fresh start shown settled =
     let lives = c.serve.ensures.lives tells in (
       acts_of lives.moves,
       lives.grows,
-      headline g.O.Desk.shows g.O.Desk.leaves g.met.O.Desk.left (at g.O.Outside.seen g.O.Outside.rest c.args.outside.now c.args.daemon.now c.args.service.now) fresh new start shown lives.moves
+      headline g.O.Desk.view (at g.O.Outside.seen g.O.Outside.rest c.args.outside.now c.args.daemon.now c.args.service.now) fresh new start shown settled lives.moves
           (at g.O.Outside.seen g.O.Outside.rest c.serve.new.outside c.serve.new.machine c.serve.new.service) lives.passes,
     )

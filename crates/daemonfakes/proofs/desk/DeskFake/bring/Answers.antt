@@ -10,11 +10,11 @@ pub returns-clause-brings : goal.returns-clause-brings
 returns-clause-brings g c =
     let others = c.let_others-others.result in
     let rest : c.is_away.new.self.stage.fake ≡ c.args.self.now.stage.fake = ap (λ s. s.fake) c.is_away.ensures in
-    let lets : LetsOthers g.S.Shelf.holds others c.args.self.now.stage.fake.rest c.args.clients.now.sessions c.let_others-others.new.self.stage.fake.rest c.let_others-others.new.clients.sessions =
-    subst (λ f. LetsOthers g.S.Shelf.holds others f.rest c.args.clients.now.sessions c.let_others-others.new.self.stage.fake.rest c.let_others-others.new.clients.sessions) rest c.let_others-others.ensures.others in
-    let done : IsDone g.S.Shelf.holds others c.args.event c.change-answer.result c.args.self.now.stage.fake.rest c.args.clients.now.sessions c.note_event.new.self.stage.fake.rest c.change-answer.new.clients.sessions =
-    subst (λ s. IsDone g.S.Shelf.holds others c.args.event c.change-answer.result c.args.self.now.stage.fake.rest c.args.clients.now.sessions s c.change-answer.new.clients.sessions) (sym c.note_event.ensures.left)
-    (done_behind g.S.Shelf.holds others c.args.event c.change-answer.result c.args.self.now.stage.fake.rest c.let_others-others.new.self.stage.fake.rest c.change-answer.new.self c.args.clients.now.sessions c.let_others-others.new.clients.sessions c.change-answer.new.clients.sessions
+    let lets : LetsOthers g.S.Shelf.view others c.args.self.now.stage.fake.rest c.let_others-others.new.self.stage.fake.rest =
+    subst (λ f. LetsOthers g.S.Shelf.view others f.rest c.let_others-others.new.self.stage.fake.rest) rest c.let_others-others.ensures.others in
+    let done : IsDone g.S.Shelf.view others c.args.event c.change-answer.result c.args.self.now.stage.fake.rest c.args.clients.now.sessions c.note_event.new.self.stage.fake.rest c.change-answer.new.clients.sessions =
+    subst (λ s. IsDone g.S.Shelf.view others c.args.event c.change-answer.result c.args.self.now.stage.fake.rest c.args.clients.now.sessions s c.change-answer.new.clients.sessions) (sym c.note_event.ensures.left)
+    (done_behind g.S.Shelf.view others c.args.event c.change-answer.result c.args.self.now.stage.fake.rest c.let_others-others.new.self.stage.fake.rest c.change-answer.new.self c.args.clients.now.sessions c.change-answer.new.clients.sessions
     lets c.change-answer.ensures.applied) in (
       others,
       λ clean. done,

@@ -5,7 +5,7 @@ use Rattle.daemonfakes.proofs.desk.DeskFake.let_others.Given as goal
 -- those that happened so far are told, and nothing else is
 abbrev pub invariant-loop-event : goal.invariant-loop-event
 invariant-loop-event g l =
-    LetsOthers g.S.Shelf.holds l.others.items l.initial.self.stage.fake.rest l.initial.clients.sessions l.self.stage.fake.rest l.clients.sessions
+    LetsOthers g.S.Shelf.view l.others.items l.initial.self.stage.fake.rest l.self.stage.fake.rest
     × (l.self.stage.fake.acts ≡ l.initial.self.stage.fake.acts)
     × (l.self.stage.fake.lost ≡ l.initial.self.stage.fake.lost)
     × StillHas g.S.Shelf.has l.initial.self.stage.fake.rest l.self.stage.fake.rest

@@ -10,11 +10,11 @@ pub returns-clause-asks : goal.returns-clause-asks
 returns-clause-asks g c =
     let others = c.let_others-others.result in
     let rest : c.is_away.new.self.stage.fake ≡ c.args.self.now.stage.fake = ap (λ s. s.fake) c.is_away.ensures in
-    let lets : LetsOthers g.S.Shelf.holds others c.args.self.now.stage.fake.rest c.args.clients.now.sessions c.let_others-others.new.self.stage.fake.rest c.let_others-others.new.clients.sessions =
-    subst (λ f. LetsOthers g.S.Shelf.holds others f.rest c.args.clients.now.sessions c.let_others-others.new.self.stage.fake.rest c.let_others-others.new.clients.sessions) rest c.let_others-others.ensures.others in
-    let asked : IsAsked g.S.Shelf.holds others c.args.user.now c.find-lookup.result c.args.self.now.stage.fake.rest c.args.clients.now.sessions c.note_asked.new.self.stage.fake.rest c.let_others-others.new.clients.sessions =
-    subst (λ s. IsAsked g.S.Shelf.holds others c.args.user.now c.find-lookup.result c.args.self.now.stage.fake.rest c.args.clients.now.sessions s c.let_others-others.new.clients.sessions) (sym c.note_asked.ensures.left)
-    (asked_behind g.S.Shelf.holds others c.args.user.now c.find-lookup.result c.args.self.now.stage.fake.rest c.let_others-others.new.self.stage.fake.rest c.find-lookup.new.self c.args.clients.now.sessions c.let_others-others.new.clients.sessions
+    let lets : LetsOthers g.S.Shelf.view others c.args.self.now.stage.fake.rest c.let_others-others.new.self.stage.fake.rest =
+    subst (λ f. LetsOthers g.S.Shelf.view others f.rest c.let_others-others.new.self.stage.fake.rest) rest c.let_others-others.ensures.others in
+    let asked : IsAsked g.S.Shelf.view others c.args.user.now c.find-lookup.result c.args.self.now.stage.fake.rest c.args.clients.now.sessions c.note_asked.new.self.stage.fake.rest c.args.clients.now.sessions =
+    subst (λ s. IsAsked g.S.Shelf.view others c.args.user.now c.find-lookup.result c.args.self.now.stage.fake.rest c.args.clients.now.sessions s c.args.clients.now.sessions) (sym c.note_asked.ensures.left)
+    (asked_behind g.S.Shelf.view others c.args.user.now c.find-lookup.result c.args.self.now.stage.fake.rest c.let_others-others.new.self.stage.fake.rest c.find-lookup.new.self c.args.clients.now.sessions
     lets c.find-lookup.ensures.sought) in (
       others,
       λ clean. asked,

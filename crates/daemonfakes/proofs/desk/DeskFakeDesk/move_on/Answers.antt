@@ -11,11 +11,11 @@ returns-clause-moves g c =
     let others = c.let_others-others.result in
     let moving = c.move_on-moving.result in
     let rest : c.is_away.new.self.stage.fake ≡ c.args.self.now.stage.fake = ap (λ s. s.fake) c.is_away.ensures in
-    let lets : LetsOthers g.S.Shelf.holds others c.args.self.now.stage.fake.rest c.args.clients.now.sessions c.let_others-others.new.self.stage.fake.rest c.let_others-others.new.clients.sessions =
-    subst (λ f. LetsOthers g.S.Shelf.holds others f.rest c.args.clients.now.sessions c.let_others-others.new.self.stage.fake.rest c.let_others-others.new.clients.sessions) rest c.let_others-others.ensures.others in
-    let moved : IsMoved g.S.Shelf.holds others moving c.args.self.now.stage.fake.rest c.args.clients.now.sessions c.keep-2.new.self.fake.rest c.let_others-others.new.clients.sessions =
-    subst (λ s. IsMoved g.S.Shelf.holds others moving c.args.self.now.stage.fake.rest c.args.clients.now.sessions s c.let_others-others.new.clients.sessions) (sym c.keep-2.ensures.left)
-    (moved_behind g.S.Shelf.holds others moving c.args.self.now.stage.fake.rest c.let_others-others.new.self.stage.fake.rest c.move_on-moving.new.self c.args.clients.now.sessions c.let_others-others.new.clients.sessions
+    let lets : LetsOthers g.S.Shelf.view others c.args.self.now.stage.fake.rest c.let_others-others.new.self.stage.fake.rest =
+    subst (λ f. LetsOthers g.S.Shelf.view others f.rest c.let_others-others.new.self.stage.fake.rest) rest c.let_others-others.ensures.others in
+    let moved : IsMoved g.S.Shelf.view others moving c.args.self.now.stage.fake.rest c.args.clients.now.sessions c.keep-2.new.self.fake.rest c.args.clients.now.sessions =
+    subst (λ s. IsMoved g.S.Shelf.view others moving c.args.self.now.stage.fake.rest c.args.clients.now.sessions s c.args.clients.now.sessions) (sym c.keep-2.ensures.left)
+    (moved_behind g.S.Shelf.view others moving c.args.self.now.stage.fake.rest c.let_others-others.new.self.stage.fake.rest c.move_on-moving.new.self c.args.clients.now.sessions
     lets c.move_on-moving.ensures.moves) in (
       others,
       moving,

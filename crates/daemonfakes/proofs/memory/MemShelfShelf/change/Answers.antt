@@ -7,12 +7,12 @@ use Rattle.mailmoves.proofs.EnduringLemmas.{event_endures}
 use Rattle.daemonfakes.proofs.memory.MemShelfShelf.change.Goals as goal
 
 pub returns-in-Ok-clause-applied : goal.returns-in-Ok-clause-applied
-returns-in-Ok-clause-applied c = λ tried are w is.
+returns-in-Ok-clause-applied c = λ w is.
     let made : IsEvent c.args.event.now c.in-Ok.answer (host_with over_memory c.args.self.now.store c.args.clients.now) (host_with over_memory c.apply.new.store c.apply.new.clients) = search rules in
     let clean = memory_is_clean c.apply.new.store in
-    let it = event_endures tried c.args.event.now (state over_memory c.args.self.now.store) (state over_memory c.apply.new.store) c.args.clients.now.sessions c.apply.new.clients.sessions clean
-    (c.apply.ensures.shut clean) c.apply.ensures.crash w is.sessions is.shown c.in-Ok.answer are made in
-    (it.0, it.1, record { shown = it.2; sessions = it.3 })
+    let it = event_endures c.args.event.now (state over_memory c.args.self.now.store) (state over_memory c.apply.new.store) c.args.clients.now.sessions c.apply.new.clients.sessions clean
+    (c.apply.ensures.shut clean) c.apply.ensures.crash w is.sessions is.shown c.in-Ok.answer made in
+    (it.0, it.1, record { is = record { shown = it.2.shown; sessions = it.3 }; left = it.2.left })
 
 pub returns-in-Err-clause-applied : goal.returns-in-Err-clause-applied
 returns-in-Err-clause-applied c = let given : IsGivenUp c.args.event.now = search rules in absurd (c.requires given)

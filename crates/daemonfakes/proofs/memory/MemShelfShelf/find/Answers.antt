@@ -2,4 +2,6 @@ use Rattle.sqlite.proofs.Callers.{memory_is_clean}
 use Rattle.daemonfakes.proofs.memory.MemShelfShelf.find.Goals as goal
 
 pub returns-clause-sought : goal.returns-clause-sought
-returns-clause-sought c = λ tried accounts has. c.find_account.ensures.finds (memory_is_clean c.find_account.new.store) tried accounts has
+returns-clause-sought c = λ accounts has.
+    let it = c.find_account.ensures.finds (memory_is_clean c.find_account.new.store) accounts has in
+    (it.0, it.1.shown, it.1.left)

@@ -2,4 +2,6 @@ use Rattle.sqlite.proofs.Callers.{memory_is_clean}
 use Rattle.daemonfakes.proofs.memory.MemShelfShelf.move_on.Goals as goal
 
 pub returns-clause-moves : goal.returns-clause-moves
-returns-clause-moves c = λ tried are accounts has. c.move_next.ensures.moves (memory_is_clean c.move_next.new.store) tried are accounts has
+returns-clause-moves c = λ w has.
+    let it = c.move_next.ensures.moves (memory_is_clean c.move_next.new.store) w has in
+    (it.0, it.1, it.2.shown, it.2.left)

@@ -1,12 +1,20 @@
 -- What became of a message of the store that is had.
-use Rattle.std.proofs.Common.{subst}
-use Rattle.daemonhosts.specs.Held.{ShowsBy}
+use Rattle.std.proofs.Common.{subst, sym}
+use Rattle.mailmoves.specs.Enduring.{MayLeave, leaves_of}
+use Rattle.mailmoves.specs.Moving.{TriedMoving}
+use Rattle.sqlite.specs.Held.{state}
+use Rattle.daemonhosts.specs.Held.{ShowsBy, LeavesBy}
 use Rattle.daemonhosts.proofs.HeldLemmas.{has_kept}
 use Rattle.daemonhosts.proofs.held.HeldStore.move_on.Goals as goal
 
 pub returns-clause-moves : goal.returns-clause-moves
-returns-clause-moves g c = λ clean tried are accounts shown.
-    c.move_next.ensures.moves clean tried are accounts (subst (λ o. ShowsBy g.K.S.Store g.K.Keeper.tells tried (g.K.Keeper.holds c.args.self.now.keeper) o accounts) c.in-Some.is shown)
+returns-clause-moves g c = λ clean w shown.
+    let it = c.move_next.ensures.moves clean w (subst (λ o. ShowsBy g.K.S.Store g.K.Keeper.tells (g.K.Keeper.holds c.args.self.now.keeper) o w.accounts) c.in-Some.is shown) in (
+      it.0,
+      it.1,
+      it.2.shown,
+      subst (λ o. MayLeave (λ trees. LeavesBy g.K.S.Store o trees) w.accounts (leaves_of (state g.K.S.Store c.move_next.new.store)) it.0 (TriedMoving c.move_next.result w)) (sym c.in-Some.is) it.2.left,
+    )
 
 pub returns-clause-keeps : goal.returns-clause-keeps
 returns-clause-keeps g c = has_kept g.T.MailSink.tells g.T.MailSink.kept c.args.self.now _ c.move_next.result c.move_next.ensures.keeps
