@@ -1,0 +1,4 @@
+pub mod Fields
+pub mod Netstring
+pub mod Order
+pub mod Text

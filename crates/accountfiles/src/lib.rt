@@ -1,0 +1,15 @@
+//! An account as a text that leaves one store and enters another: lines of netstrings, in one order, and a SHA-256 at the end.
+#![tactic(auto)]
+
+mod account_file;
+mod fields;
+mod head;
+mod line;
+mod netstring;
+mod order;
+mod part;
+
+pub use account_file::{AccountFile, ReadError};
+pub use head::Head;
+pub use netstring::FIELD_LIMIT;
+pub use part::{LetterKind, Part};
