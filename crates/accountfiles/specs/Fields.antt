@@ -1,7 +1,8 @@
 -- The fields of a line: what an account has once, one of its parts, and the sum at the end.
-use Rattle.std.specs.Prelude.{ℕ, ◌<◌, ◌≤◌, ◌^◌, ◌==◌, List, [], ◌∷◌, codes, decimal, cond, nat_lt, Option, Some, None, option_and_then, option_map, option_to_list}
+use Rattle.std.specs.Prelude.{Bool, true, false, ◌&&◌, ℕ, ◌<◌, ◌≤◌, ◌^◌, ◌==◌, List, [], ◌∷◌, codes, decimal, cond, nat_lt, Option, Some, None, option_and_then, option_map, option_to_list}
 use Rattle.accountfiles.specs.Netstring.{same_text, number_in}
-use Rattle.accountfiles.specs.declared.head.Head.{Head}
+use Rattle.accountfiles.specs.declared.head.Owner.{Owner}
+use Rattle.accountfiles.specs.declared.head.Numbers.{Numbers}
 use Rattle.accountfiles.specs.declared.part.LetterKind.{LetterKind}
 use Rattle.accountfiles.specs.declared.part.LetterKind.TheVariants.{Redirect, Answer}
 use Rattle.accountfiles.specs.declared.part.Part.{Part}
@@ -14,10 +15,11 @@ abbrev pub version_fields : List (List ℕ)
 version_fields = codes "sieved-account" ∷ codes "1" ∷ []
 
 -- a name that isn't there is no field
-abbrev pub head_fields : Head → List (List ℕ)
-head_fields h =
-    codes "account" ∷ h.name ∷ h.address ∷ h.salt ∷ decimal h.rounds ∷ h.digest ∷ decimal h.next_copy ∷ decimal h.next_out ∷ decimal h.next_notice
-    ∷ option_to_list h.active
+abbrev pub owner_fields : Owner → List (List ℕ)
+owner_fields o = codes "account" ∷ o.name ∷ o.address ∷ o.salt ∷ o.digest ∷ option_to_list o.active
+
+abbrev pub numbers_fields : Numbers → List (List ℕ)
+numbers_fields n = codes "numbers" ∷ decimal n.rounds ∷ decimal n.next_copy ∷ decimal n.next_out ∷ decimal n.next_notice ∷ []
 
 abbrev pub letter_word : LetterKind → List ℕ
 letter_word Redirect = codes "redirect"
@@ -37,9 +39,40 @@ sum_fields sum = codes "sum" ∷ sum ∷ []
 
 -- ---- what is read
 
+abbrev pub owner_by : List ℕ → List ℕ → List ℕ → List ℕ → Option (List ℕ) → Owner
+owner_by name address salt digest active = record { name = name; address = address; salt = salt; digest = digest; active = active }
+
+unfoldable pub owner_with : List ℕ → List ℕ → List ℕ → List ℕ → List ℕ → Option (List ℕ) → Option Owner
+owner_with word name address salt digest active = cond (same_text word (codes "account")) (Some (owner_by name address salt digest active)) None
+
+unfoldable pub owner_at : List (List ℕ) → Option Owner
+owner_at [] = None
+owner_at (word ∷ []) = None
+owner_at (word ∷ a ∷ []) = None
+owner_at (word ∷ a ∷ b ∷ []) = None
+owner_at (word ∷ a ∷ b ∷ c ∷ []) = None
+owner_at (word ∷ a ∷ b ∷ c ∷ d ∷ []) = owner_with word a b c d None
+owner_at (word ∷ a ∷ b ∷ c ∷ d ∷ e ∷ []) = owner_with word a b c d (Some e)
+owner_at (word ∷ a ∷ b ∷ c ∷ d ∷ e ∷ f ∷ more) = None
+
 -- a number below 2^32
 unfoldable pub rounds_in : List ℕ → Option ℕ
 rounds_in text = option_and_then (λ n. cond (nat_lt n (2 ^ 32)) (Some n) None) (number_in text)
+
+abbrev pub numbers_by : ℕ → ℕ → ℕ → ℕ → Numbers
+numbers_by rounds copy out notice = record { rounds = rounds; next_copy = copy; next_out = out; next_notice = notice }
+
+unfoldable pub counters_at : ℕ → List ℕ → List ℕ → List ℕ → Option Numbers
+counters_at rounds copy out notice = option_and_then (λ c. option_and_then (λ o. option_map (λ n. numbers_by rounds c o n) (number_in notice)) (number_in out)) (number_in copy)
+
+unfoldable pub numbers_at : List (List ℕ) → Option Numbers
+numbers_at [] = None
+numbers_at (word ∷ []) = None
+numbers_at (word ∷ a ∷ []) = None
+numbers_at (word ∷ a ∷ b ∷ []) = None
+numbers_at (word ∷ a ∷ b ∷ c ∷ []) = None
+numbers_at (word ∷ a ∷ b ∷ c ∷ d ∷ []) = cond (same_text word (codes "numbers")) (option_and_then (λ r. counters_at r b c d) (rounds_in a)) None
+numbers_at (word ∷ a ∷ b ∷ c ∷ d ∷ e ∷ more) = None
 
 unfoldable pub script_at : List ℕ → List ℕ → List ℕ → Option Part
 script_at word name text = cond (same_text word (codes "script")) (Some (Script name text)) None
@@ -78,3 +111,17 @@ part_at (word ∷ a ∷ b ∷ []) = script_at word a b
 part_at (word ∷ a ∷ b ∷ c ∷ []) = four_at word a b c
 part_at (word ∷ a ∷ b ∷ c ∷ d ∷ []) = letter_at word a b c d
 part_at (word ∷ a ∷ b ∷ c ∷ d ∷ e ∷ more) = None
+
+-- the sum that the fields say, if they say one
+unfoldable pub sum_at : List (List ℕ) → Option (List ℕ)
+sum_at [] = None
+sum_at (word ∷ []) = None
+sum_at (word ∷ a ∷ []) = cond (same_text word (codes "sum")) (Some a) None
+sum_at (word ∷ a ∷ b ∷ more) = None
+
+-- whether the fields are those of the first line
+unfoldable pub is_version : List (List ℕ) → Bool
+is_version [] = false
+is_version (word ∷ []) = false
+is_version (word ∷ a ∷ []) = same_text word (codes "sieved-account") && same_text a (codes "1")
+is_version (word ∷ a ∷ b ∷ more) = false

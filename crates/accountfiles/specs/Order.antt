@@ -5,7 +5,7 @@ use Rattle.std.specs.declared.cmp.Ordering.{Ordering}
 use Rattle.std.specs.Ordering.{nat_cmp, on, then_cmp, is_lt}
 use Rattle.std.specs.Cmp.Lexicographic.{slice_cmp}
 use Rattle.accountfiles.specs.Netstring.{same_text}
-use Rattle.accountfiles.specs.declared.head.Head.{Head}
+use Rattle.accountfiles.specs.declared.head.Numbers.{Numbers}
 use Rattle.accountfiles.specs.declared.part.Part.{Part}
 use Rattle.accountfiles.specs.declared.part.Part.TheVariants.{Script, Reply, Mail, Copy, Letter, Notice}
 
@@ -67,19 +67,19 @@ abbrev pub is_given : ℕ → ℕ → Bool
 is_given next number = nat_le 1 number && nat_lt number next
 
 -- a part's numbers were given by the account, and a database can have its moment
-abbrev pub fits : Head → Part → Bool
-fits h (Script name text) = true
-fits h (Reply handle sender moment) = nat_lt moment (2 ^ 63)
-fits h (Mail number folder message) = is_given h.next_copy number
-fits h (Copy number folder first) = is_given h.next_copy number
-fits h (Letter id kind sender target message) = is_given h.next_out id
-fits h (Notice number moment text) = is_given h.next_notice number && nat_lt moment (2 ^ 63)
+abbrev pub fits : Numbers → Part → Bool
+fits n (Script name text) = true
+fits n (Reply handle sender moment) = nat_lt moment (2 ^ 63)
+fits n (Mail number folder message) = is_given n.next_copy number
+fits n (Copy number folder first) = is_given n.next_copy number && is_given n.next_copy first
+fits n (Letter id kind sender target message) = is_given n.next_out id
+fits n (Notice number moment text) = is_given n.next_notice number && nat_lt moment (2 ^ 63)
 
 abbrev pub is_counter : ℕ → Bool
 is_counter next = nat_le 1 next && nat_lt next (2 ^ 63)
 
-abbrev pub is_head : Head → Bool
-is_head h = is_counter h.next_copy && (is_counter h.next_out && is_counter h.next_notice)
+abbrev pub are_numbers : Numbers → Bool
+are_numbers n = is_counter n.next_copy && (is_counter n.next_out && is_counter n.next_notice)
 
 -- the part is the script with the name
 abbrev pub is_script : List ℕ → Part → Bool
@@ -90,7 +90,3 @@ is_script name part = false
 abbrev pub has_active : Option (List ℕ) → List Part → Bool
 has_active None parts = true
 has_active (Some name) parts = list_any (is_script name) parts
-
--- an account that has a text
-abbrev pub is_account : Head → List Part → Bool
-is_account h parts = is_head h && (list_all (fits h) parts && (are_chained None parts && has_active h.active parts))

@@ -10,6 +10,6 @@ mod order;
 mod part;
 
 pub use account_file::{AccountFile, ReadError};
-pub use head::Head;
+pub use head::{Head, Numbers, Owner};
 pub use netstring::FIELD_LIMIT;
 pub use part::{LetterKind, Part};

@@ -1,10 +1,11 @@
 //! In which order the parts of an account stand, and which may stand there.
 ghost use Rattle.std.specs.Prelude.{◌≡◌, ◌^◌, nat_lt, option_copied};
-ghost use Rattle.std.specs.List.{list_all};
-ghost use Rattle.accountfiles.specs.Order.{rank_of, number_of as number_in, key_of as key_in, second_of as second_in, part_cmp, has_come as has_come_in, joins as joins_in, follows as follows_in, fits as fits_in, is_given as is_given_by, is_head as is_head_of, is_counter as is_counter_of, has_active as has_active_in, is_script as is_script_of};
+ghost use Rattle.std.specs.List.{list_any};
+ghost use Rattle.accountfiles.specs.Order.{rank_of, number_of as number_in, key_of as key_in, second_of as second_in, part_cmp, has_come as has_come_in, joins as joins_in, follows as follows_in, fits as fits_in, is_given as is_given_by, are_numbers as are_numbers_in, is_counter as is_counter_of, has_active as has_active_in, is_script as is_script_of};
 
-use crate::head::Head;
+use crate::head::Numbers;
 use crate::part::Part;
+use octets::Octets;
 use std::cmp::Ordering;
 
 /// Scripts come first, then moments, messages in folders, messages on their way out, notices.
@@ -111,17 +112,19 @@ fn is_moment(moment: u64) -> bool
 }
 
 /// Whether the account gave the part's numbers, and a database can have its moment.
-pub(crate) fn fits(head: &Head, part: &Part) -> bool
-    ensures { result ≡ fits_in head.now part.now }
+pub(crate) fn fits(numbers: &Numbers, part: &Part) -> bool
+    ensures { result ≡ fits_in numbers.now part.now }
 {
     match part {
         Part::Script { .. } => true,
         Part::Reply { moment, .. } => is_moment(*moment),
-        Part::Mail { number, .. } => is_given(head.next_copy, *number),
-        Part::Copy { number, .. } => is_given(head.next_copy, *number),
-        Part::Letter { id, .. } => is_given(head.next_out, *id),
+        Part::Mail { number, .. } => is_given(numbers.next_copy, *number),
+        Part::Copy { number, first, .. } => {
+            is_given(numbers.next_copy, *number) && is_given(numbers.next_copy, *first)
+        }
+        Part::Letter { id, .. } => is_given(numbers.next_out, *id),
         Part::Notice { number, moment, .. } => {
-            is_given(head.next_notice, *number) && is_moment(*moment)
+            is_given(numbers.next_notice, *number) && is_moment(*moment)
         }
     }
 }
@@ -133,10 +136,12 @@ fn is_counter(next: u64) -> bool
 }
 
 /// Whether the counters are such that a database can have them.
-pub(crate) fn is_head(head: &Head) -> bool
-    ensures { result ≡ is_head_of head.now }
+pub(crate) fn are_numbers(numbers: Numbers) -> bool
+    ensures { result ≡ are_numbers_in numbers }
 {
-    is_counter(head.next_copy) && is_counter(head.next_out) && is_counter(head.next_notice)
+    is_counter(numbers.next_copy)
+        && is_counter(numbers.next_out)
+        && is_counter(numbers.next_notice)
 }
 
 /// Whether the part is the script with the name.
@@ -149,12 +154,19 @@ fn is_script(name: &[u8], part: &Part) -> bool
     }
 }
 
-/// Whether the active script is one of the scripts.
-pub(crate) fn has_active(head: &Head, parts: &[Part]) -> bool
-    ensures { result ≡ has_active_in head.now.active parts.now }
+/// Whether the active script, if there is one, is one of the scripts.
+pub(crate) fn has_active(active: Option<&Octets>, parts: &[Part]) -> bool
+    ensures { result ≡ has_active_in (option_copied active.entry) parts.now }
 {
-    match &head.active {
-        Some(name) => parts.iter().any(|part| is_script(name.as_slice(), part)),
+    match active {
+        Some(name) => has_script(name.as_slice(), parts),
         None => true,
     }
+}
+
+/// Whether one of the parts is the script with the name.
+fn has_script(name: &[u8], parts: &[Part]) -> bool
+    ensures { result ≡ list_any (is_script_of name.now) parts.now }
+{
+    parts.iter().any(|part| is_script(name, part))
 }
