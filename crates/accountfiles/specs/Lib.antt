@@ -2,3 +2,4 @@ pub mod Fields
 pub mod Netstring
 pub mod Order
 pub mod Text
+pub mod Writing

@@ -27,9 +27,13 @@ pub record IsAccount (head : Head) (parts : List Part) : Type 0 where
 abbrev pub part_line : Part → List ℕ
 part_line part = line (part_fields part)
 
--- the version, what the account has once, and its parts
+-- the version, and what the account has once
+abbrev pub head_text : Head → List ℕ
+head_text head = line version_fields ++ (line (owner_fields head.owner) ++ line (numbers_fields head.numbers))
+
+-- and its parts
 abbrev pub body_of : Head → List Part → List ℕ
-body_of head parts = line version_fields ++ (line (owner_fields head.owner) ++ (line (numbers_fields head.numbers) ++ flat_map part_line parts))
+body_of head parts = head_text head ++ flat_map part_line parts
 
 -- the SHA-256 of all before it, in hexadecimal
 abbrev pub sum_line : List ℕ → List ℕ

@@ -8,8 +8,10 @@ mod line;
 mod netstring;
 mod order;
 mod part;
+mod writing;
 
 pub use account_file::{AccountFile, ReadError};
 pub use head::{Head, Numbers, Owner};
 pub use netstring::FIELD_LIMIT;
 pub use part::{LetterKind, Part};
+pub use writing::{Line, Writer};

@@ -1,5 +1,5 @@
 //! Texts with their lengths before them.
-ghost use Rattle.std.specs.Prelude.{◌≡◌, ◌≤◌, ◌++◌, ◌∷◌, ℕ, List, length, decimal, OnOk, IfSome, IfNone};
+ghost use Rattle.std.specs.Prelude.{◌≡◌, ◌≤◌, ◌++◌, ◌∷◌, [], ℕ, List, length, decimal, OnOk, IfSome, IfNone};
 ghost use Rattle.std.specs.List.{prefix_len};
 ghost use Rattle.accountfiles.specs.Netstring.{netstring, number_in, other, CutsAt, IsField};
 
@@ -10,13 +10,20 @@ use std::alloc::AllocError;
 /// How many octets a field has at most: a message's limit.
 pub const FIELD_LIMIT: u64 = 33_554_432;
 
+/// Appends what stands before a text of that many octets.
+pub(crate) fn push_length(out: &mut Octets, count: usize) -> Result<(), AllocError>
+    ensures { OnOk result (out.new ≡ out.old ++ (decimal count ++ 58 ∷ [])) }
+{
+    write_decimal(out, count as u64)?;
+    out.push(b':')
+}
+
 /// Appends a text with its length before it.
 #[tactic(auto, unfolding(crate::specs::Netstring::netstring))]
 pub(crate) fn push_netstring(out: &mut Octets, text: &[u8]) -> Result<(), AllocError>
     ensures { OnOk result (out.new ≡ out.old ++ netstring text.now) }
 {
-    write_decimal(out, text.len() as u64)?;
-    out.push(b':')?;
+    push_length(out, text.len())?;
     out.extend_from_slice(text)?;
     out.push(b',')
 }
