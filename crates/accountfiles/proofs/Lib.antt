@@ -1,3 +1,5 @@
 pub mod CutLemmas
 pub mod NumberLemmas
 pub mod NetstringLemmas
+pub mod FieldLemmas
+pub mod EntryLemmas

@@ -3,3 +3,4 @@ pub mod Netstring
 pub mod Order
 pub mod Text
 pub mod Writing
+pub mod Reading

@@ -2,6 +2,7 @@
 #![tactic(auto)]
 
 mod account_file;
+mod entry;
 mod fields;
 mod head;
 mod line;
