@@ -1,8 +1,11 @@
 -- What a line is read as.
-use Rattle.std.specs.Prelude.{◌≡◌, ◌<◌, ◌^◌, ◌++◌, ℕ, List, Option, Some, None, option_map, Result, IfOk, IfErr}
+use Rattle.std.specs.Prelude.{Bool, true, ◌&&◌, ◌==◌, ◌≡◌, length, ◌<◌, ◌^◌, ◌++◌, ℕ, List, Option, Some, None, option_map, Result, IfOk, IfErr}
 use Rattle.std.specs.Borrow.{Bor}
 use Rattle.accountfiles.specs.Netstring.{line, AreFields}
 use Rattle.accountfiles.specs.Fields.{part_fields, sum_fields, part_at, sum_at}
+use Rattle.accountfiles.specs.Order.{fits, follows, has_active}
+use Rattle.accountfiles.specs.Text.{has_sum}
+use Rattle.accountfiles.specs.declared.head.Head.{Head}
 use Rattle.accountfiles.specs.declared.account_file.ReadError.{ReadError}
 use Rattle.accountfiles.specs.declared.account_file.ReadError.TheVariants.{NotAnAccount}
 use Rattle.accountfiles.specs.declared.entry.Entry.{Entry}
@@ -42,6 +45,19 @@ entry_by None part = option_map entry.Part part
 -- the last line, or that of a part
 abbrev pub entry_at : List (List ℕ) → Option Entry
 entry_at fields = entry_by (sum_at fields) (part_at fields)
+
+-- whether what a line says may stand behind the last part
+abbrev pub stands : Numbers → Option Part → Entry → Bool
+stands numbers last (entry.Part part) = fits numbers part && follows last part
+stands numbers last (entry.Sum sum) = true
+
+pub record MayStand (numbers : Numbers) (last : Option Part) (e : Entry) : Type 0 where
+  pub is : IsEntry e
+  pub there : stands numbers last e ≡ true
+
+-- whether the parts end: nothing is behind the sum, which is that of the body, and the active script is one of them
+abbrev pub ends : Head → List Part → List ℕ → List ℕ → List ℕ → Bool
+ends head parts body sum behind = length behind == 0 && (has_active head.owner.active parts && has_sum sum body)
 
 -- a line that says this stands in front; or none that says such a thing does
 pub record ReadsLine {X : Type 0} (fields_of : X → List (List ℕ)) (Fits : X → Type 0) (octets : List ℕ) (result : Result (X × Bor (List ℕ)) ReadError) : Type 0 where

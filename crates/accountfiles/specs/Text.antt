@@ -1,9 +1,9 @@
 -- The text of an account.
-use Rattle.std.specs.Prelude.{◌≡◌, ◌<◌, ◌^◌, ℕ, true, List, [], ◌∷◌, ◌++◌, None}
+use Rattle.std.specs.Prelude.{◌≡◌, ◌<◌, ◌^◌, ℕ, Bool, true, List, [], ◌∷◌, ◌++◌, None}
 use Rattle.std.specs.List.{flat_map, AllByRecursion, list_all}
 use Rattle.sha2.specs.Sha256.{sha256}
 use Rattle.hex.specs.Hex.{encode_lower}
-use Rattle.accountfiles.specs.Netstring.{line, AreFields}
+use Rattle.accountfiles.specs.Netstring.{line, same_text, AreFields}
 use Rattle.accountfiles.specs.Fields.{version_fields, owner_fields, numbers_fields, part_fields, sum_fields}
 use Rattle.accountfiles.specs.Order.{are_numbers, fits, are_chained, has_active}
 use Rattle.accountfiles.specs.declared.head.Head.{Head}
@@ -11,16 +11,20 @@ use Rattle.accountfiles.specs.declared.part.Part.{Part}
 
 -- ---- an account that has a text
 
--- the counters are such that a database can have them, each part's numbers were given by them, the parts stand in their order, the active script
--- is one of them, and no field is longer than a message may be
-pub record IsAccount (head : Head) (parts : List Part) : Type 0 where
+-- the numbers are such that a database can have them, and no field is longer than a message may be
+pub record IsHead (head : Head) : Type 0 where
   pub rounds : head.numbers.rounds < 2 ^ 32
   pub counters : are_numbers head.numbers ≡ true
+  pub small : AreFields (owner_fields head.owner)
+
+-- what is had once is such, the numbers of each part were given, the parts stand in their order, the active script is one of them, and no field is
+-- longer than a message may be
+pub record IsAccount (head : Head) (parts : List Part) : Type 0 where
+  pub once : IsHead head
   pub given : list_all (fits head.numbers) parts ≡ true
   pub chained : are_chained None parts ≡ true
   pub active : has_active head.owner.active parts ≡ true
-  pub owner_small : AreFields (owner_fields head.owner)
-  pub parts_small : AllByRecursion (λ p. AreFields (part_fields p)) parts
+  pub small : AllByRecursion (λ p. AreFields (part_fields p)) parts
 
 -- ---- its spelling
 
@@ -41,6 +45,10 @@ sum_line body = line (sum_fields (encode_lower (sha256 body)))
 
 abbrev pub text_of : Head → List Part → List ℕ
 text_of head parts = body_of head parts ++ sum_line (body_of head parts)
+
+-- whether it is that SHA-256
+abbrev pub has_sum : List ℕ → List ℕ → Bool
+has_sum sum body = same_text sum (encode_lower (sha256 body))
 
 -- the text is that of this account
 pub record IsTextOf (text : List ℕ) (head : Head) (parts : List Part) : Type 0 where

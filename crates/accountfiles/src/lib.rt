@@ -9,10 +9,12 @@ mod line;
 mod netstring;
 mod order;
 mod part;
+mod reading;
 mod writing;
 
 pub use account_file::{AccountFile, ReadError};
 pub use head::{Head, Numbers, Owner};
 pub use netstring::FIELD_LIMIT;
 pub use part::{LetterKind, Part};
+pub use reading::read;
 pub use writing::{Line, Writer};
