@@ -192,7 +192,7 @@ kind_written : (word : List ℕ) (kind : LetterKind) → kind_at word ≡ Some k
 unfolding kind_at
 kind_written word kind is =
     elim (either (same_text word (codes "redirect")) (Some Redirect) (cond (same_text word (codes "answer")) (Some Answer) None) kind is) [
-      inl one ↦ same_is word (codes "redirect") one.0 ∙ ap letter_word (same_some Redirect kind one.1)
+      | inl one ↦ same_is word (codes "redirect") one.0 ∙ ap letter_word (same_some Redirect kind one.1)
       | inr more ↦ let two = passed (same_text word (codes "answer")) (Some Answer) kind more.1 in same_is word (codes "answer") two.0 ∙ ap letter_word (same_some Answer kind two.1)
     ]
 
@@ -208,11 +208,11 @@ four_written : (word a b c : List ℕ) (p : Part) → four_at word a b c ≡ Som
 unfolding four_at
 four_written word a b c p is =
     elim (either (same_text word (codes "mail")) (mail_at a b c) _ p is) [
-      inl one ↦ named (codes "mail") one.0 (mail_written a b c p one.1)
+      | inl one ↦ named (codes "mail") one.0 (mail_written a b c p one.1)
       | inr more ↦ elim (either (same_text word (codes "copy")) (copy_at a b c) _ p more.1) [
-        inl one ↦ named (codes "copy") one.0 (copy_written a b c p one.1)
+        | inl one ↦ named (codes "copy") one.0 (copy_written a b c p one.1)
         | inr more ↦ elim (either (same_text word (codes "reply")) (reply_at a b c) _ p more.1) [
-          inl one ↦ named (codes "reply") one.0 (reply_written a b c p one.1)
+          | inl one ↦ named (codes "reply") one.0 (reply_written a b c p one.1)
           | inr more ↦ let last = passed (same_text word (codes "notice")) (notice_at a b c) p more.1 in named (codes "notice") last.0 (notice_written a b c p last.1)
         ]
       ]

@@ -4,3 +4,4 @@ pub mod NetstringLemmas
 pub mod FieldLemmas
 pub mod EntryLemmas
 pub mod ReadLemmas
+mod Examples

@@ -108,9 +108,11 @@ module _ (octets : List ℕ) (taken : List (Bor (List ℕ))) (rest : List ℕ) (
     where
       flat_map-push : (fs : List (List ℕ)) (f : List ℕ) → flat_map netstring (fs ++ f ∷ []) ≡ flat_map netstring fs ++ netstring f
       flat_map-push fs f = flat_map-append netstring fs (f ∷ []) ∙ ap (λ t. flat_map netstring fs ++ t) (append-nil (netstring f))
+
       fields_push : (fs : List (List ℕ)) (f : List ℕ) → AreFields fs → IsField f → AreFields (fs ++ f ∷ [])
       fields_push [] f all one = (one, tt)
       fields_push (g ∷ fs) f all one = (all.0, fields_push fs f all.1 one)
+
       go : (behind : List ℕ) → (others : List (List ℕ)) × AreFields others × (rest ≡ line others ++ behind) → (others : List (List ℕ)) × AreFields others × (more ≡ line others ++ behind)
       go behind ([], smalls, spelled) = absurd (no_feed field.now more behind small (sym is ∙ spelled ∙ line_ends behind))
       go behind (o ∷ os, smalls, spelled) = (os, smalls.1, (one_netstring field.now o more (line os ++ behind) small smalls.0 (sym is ∙ spelled ∙ line_then o os behind)).1)

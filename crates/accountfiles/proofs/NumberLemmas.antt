@@ -39,9 +39,9 @@ digits_of : (n : ℕ) → n < 2 ^ 64 → AreDigitsOf n (decimal n)
 digits_of = decimal_by_steps AreDigitsOf (λ n small. record { pass = both_true _ _ (digit_is n small) refl; value = omega arith }) (λ n ds big are. record {
   pass = list_all-append is_digit ds ((48 + n % 10) ∷ []) ∙ both_true _ _ are.pass (both_true _ _ (digit_is (n % 10) (omega arith)) refl);
   value =
-    let one : number_of (ds ++ (48 + n % 10) ∷ []) ≡ number_of ds * 10 + (48 + n % 10 - 48) = fold-append with_digit 0 ds ((48 + n % 10) ∷ []) in
-    let was : number_of ds ≡ n / 10 = are.value in
-    omega (arith, one, was);
+      let one : number_of (ds ++ (48 + n % 10) ∷ []) ≡ number_of ds * 10 + (48 + n % 10 - 48) = fold-append with_digit 0 ds ((48 + n % 10) ∷ []) in
+      let was : number_of ds ≡ n / 10 = are.value in
+      omega (arith, one, was);
 })
 
 some_there : (ds : List ℕ) → 0 < length ds → ds ≢ []

@@ -1,7 +1,7 @@
 -- A text that is read line by line.
 use Rattle.std.proofs.Common.{◌≡◌, ◌≤◌, ◌<◌, ◌+◌, ◌-◌, ◌^◌, ◌*◌, ◌==◌, ◌&&◌, ℕ, suc, Bool, true, false, List, [], ◌∷◌, ◌++◌, length, take, drop, Option, Some, None, Result, Ok, Err, decimal, codes, refl, sym, ap, ◌∙◌, subst, arith, lit≤, append_assoc, slice_get}
 use Prim.Native.Nat.{zero}
-use Rattle.std.specs.Prelude.{IfOk, IfErr, option_to_list, slice_index}
+use Rattle.std.specs.Prelude.{IfOk, IfErr, option_to_list, slice_index, nat_le, nat_lt}
 use Rattle.std.specs.Borrow.{Bor}
 use Rattle.std.specs.Int.{w32, to_be_bytes}
 use Rattle.std.specs.List.{flat_map, AllByRecursion, list_all}
@@ -141,7 +141,7 @@ small_push [] p all one = (one, tt)
 small_push (q ∷ ps) p all one = (all.0, small_push ps p all.1 one)
 
 given_below : (next n : ℕ) → next < 2 ^ 63 → is_given next n ≡ true → n < 2 ^ 63
-given_below next n small is = let less : n < next = ltb-true n next (and_parts _ _ is).1 in omega (arith, less)
+given_below next n small is = let less : n < next = ltb-true n next (and_parts (nat_le 1 n) (nat_lt n next) is).1 in omega (arith, less)
 
 -- a database can have the numbers that were given
 pub part_numbers : (n : Numbers) → AreSmall n → (p : Part) → fits n p ≡ true → HasNumbers p
@@ -230,6 +230,7 @@ module _ (text : List ℕ) (head : Head) (parts : List Part) (rest : List ℕ) (
       pushed : body_of head parts ++ part_line p ≡ body_of head (parts ++ p ∷ [])
       pushed = append_assoc (head_text head) (flat_map part_line parts) (part_line p)
           ∙ ap (λ t. head_text head ++ t) (ap (λ t. flat_map part_line parts ++ t) (sym (append-nil (part_line p))) ∙ sym (flat_map-append part_line parts (p ∷ [])))
+
       go : (h : Head) (ps : List Part) → IsTextOf text h ps → (h ≡ head) × ((left : List Part) × (ps ≡ parts ++ left) × (rest ≡ flat_map part_line left ++ sum_line (body_of h ps)))
           → (h ≡ head) × ((left : List Part) × (ps ≡ (parts ++ p ∷ []) ++ left) × (more ≡ flat_map part_line left ++ sum_line (body_of h ps)))
       go h ps of (same, ([], is, behind)) =
@@ -238,7 +239,7 @@ module _ (text : List ℕ) (head : Head) (parts : List Part) (rest : List ℕ) (
       go h ps of (same, (q ∷ left, is, behind)) =
           let stands_there = part_may h ps of same q left is in
           let one = line_same entry_fields IsEntry _ entry_codec rest (entry.Part p) (entry.Part q) more (flat_map part_line left ++ sum_line (body_of h ps)) may.is stands_there.is small (part_small h ps of same q left is) found
-              (behind ∙ part_behind q left (sum_line (body_of h ps))) in
+          (behind ∙ part_behind q left (sum_line (body_of h ps))) in
           let part : p ≡ q = (let e = one.0 in cc) in
           (same, (left, is ∙ (ap (λ x. parts ++ x ∷ left) (sym part) ∙ sym (append_assoc parts (p ∷ []) left)), one.1))
 
@@ -248,8 +249,8 @@ module _ (text : List ℕ) (head : Head) (parts : List Part) (rest : List ℕ) (
     text_whole none active is = record {
       account = record { once = so_far.once; given = so_far.given; chained = so_far.chained; active = active; small = so_far.small };
       spelled =
-        so_far.spelled ∙ ap (λ r. body_of head parts ++ r)
-        (found ∙ (ap (λ m. line (sum_fields sum) ++ m) none ∙ (append-nil (line (sum_fields sum)) ∙ ap (λ s. line (sum_fields s)) (same_is sum (encode_lower (sha256 (body_of head parts))) is))));
+          so_far.spelled ∙ ap (λ r. body_of head parts ++ r)
+          (found ∙ (ap (λ m. line (sum_fields sum) ++ m) none ∙ (append-nil (line (sum_fields sum)) ∙ ap (λ s. line (sum_fields s)) (same_is sum (encode_lower (sha256 (body_of head parts))) is))));
     }
 
     -- a text of an account is the one of these parts, and has their sum
@@ -260,8 +261,7 @@ module _ (text : List ℕ) (head : Head) (parts : List Part) (rest : List ℕ) (
         go (same, ([], is, behind)) =
             let body : body_of h ps ≡ body_of head parts = ap (λ g. body_of g ps) same ∙ ap (body_of head) (is ∙ append-nil parts) in
             let one = line_same entry_fields IsEntry _ entry_codec rest (entry.Sum sum) (entry.Sum (encode_lower (sha256 (body_of h ps)))) more [] tt tt small (sum_small (body_of h ps)) found (behind ∙ sym (append-nil (sum_line (body_of h ps)))) in
-            let told : sum ≡ encode_lower (sha256 (body_of h ps)) = (let e = one.0 in cc) in
-            (
+            let told : sum ≡ encode_lower (sha256 (body_of h ps)) = (let e = one.0 in cc) in (
               one.1,
               (
                 ap (λ g. has_active g.owner.active parts) (sym same) ∙ (ap (has_active h.owner.active) (sym (is ∙ append-nil parts)) ∙ of.account.active),
@@ -271,7 +271,7 @@ module _ (text : List ℕ) (head : Head) (parts : List Part) (rest : List ℕ) (
         go (same, (q ∷ left, is, behind)) =
             let stands_there = part_may h ps of same q left is in
             let one = line_same entry_fields IsEntry _ entry_codec rest (entry.Sum sum) (entry.Part q) more (flat_map part_line left ++ sum_line (body_of h ps)) tt stands_there.is small (part_small h ps of same q left is) found
-                (behind ∙ part_behind q left (sum_line (body_of h ps))) in
+            (behind ∙ part_behind q left (sum_line (body_of h ps))) in
             absurd (let no = one.0 in cc)
 
     -- the last line ends the parts exactly where the text is of an account
@@ -301,3 +301,51 @@ line_shrinks rest fields more is = omega (arith, ap length is, length-append (fl
 
 pub text_head : (text : List ℕ) (h : Head) (ps : List Part) → IsTextOf text h ps → text ≡ head_text h ++ (flat_map part_line ps ++ sum_line (body_of h ps))
 text_head text h ps of = of.spelled ∙ append_assoc (head_text h) (flat_map part_line ps) (sum_line (body_of h ps))
+
+-- ---- a text is that of one account
+
+all_numbers : (n : Numbers) → AreSmall n → (ps : List Part) → list_all (fits n) ps ≡ true → AllByRecursion HasNumbers ps
+all_numbers n small [] is = tt
+all_numbers n small (p ∷ ps) is = let parts = and_parts (fits n p) (list_all (fits n) ps) is in (part_numbers n small p parts.0, all_numbers n small ps parts.1)
+
+abbrev AreFine : List Part → Type 0
+AreFine ps = AllByRecursion HasNumbers ps × AllByRecursion (λ p. AreFields (part_fields p)) ps
+
+fine_parts : (text : List ℕ) (h : Head) (ps : List Part) → IsTextOf text h ps → AreFine ps
+fine_parts text h ps of = (all_numbers h.numbers (head_numbers h of.account.once) ps of.account.given, of.account.small)
+
+later_parts : (p : Part) (ps : List Part) → AreFine (p ∷ ps) → AreFine ps
+later_parts p ps fine = (fine.0.1, fine.1.1)
+
+-- parts and a last line behind them are such in one way
+parts_same : (ps qs : List Part) (b c more last : List ℕ) → AreFine ps → AreFine qs → flat_map part_line ps ++ (sum_line b ++ more) ≡ flat_map part_line qs ++ (sum_line c ++ last) → (ps ≡ qs) × (sum_line b ++ more ≡ sum_line c ++ last)
+parts_same [] [] b c more last fp fq is = (refl, is)
+parts_same [] (q ∷ qs) b c more last fp fq is =
+    let behind = is ∙ append_assoc (part_line q) (flat_map part_line qs) (sum_line c ++ last) in
+    let one = line_same entry_fields IsEntry _ entry_codec (sum_line b ++ more) (entry.Sum (encode_lower (sha256 b))) (entry.Part q) more (flat_map part_line qs ++ (sum_line c ++ last)) tt fq.0.0 (sum_small b) fq.1.0 refl behind in
+    absurd (let never = one.0 in cc)
+parts_same (p ∷ ps) [] b c more last fp fq is =
+    let behind = sym is ∙ append_assoc (part_line p) (flat_map part_line ps) (sum_line b ++ more) in
+    let one = line_same entry_fields IsEntry _ entry_codec (sum_line c ++ last) (entry.Sum (encode_lower (sha256 c))) (entry.Part p) last (flat_map part_line ps ++ (sum_line b ++ more)) tt fp.0.0 (sum_small c) fp.1.0 refl behind in
+    absurd (let never = one.0 in cc)
+parts_same (p ∷ ps) (q ∷ qs) b c more last fp fq is =
+    let behind = sym (append_assoc (part_line p) (flat_map part_line ps) (sum_line b ++ more)) ∙ (is ∙ append_assoc (part_line q) (flat_map part_line qs) (sum_line c ++ last)) in
+    let one =
+    line_same entry_fields IsEntry _ entry_codec (part_line p ++ (flat_map part_line ps ++ (sum_line b ++ more))) (entry.Part p) (entry.Part q) (flat_map part_line ps ++ (sum_line b ++ more)) (flat_map part_line qs ++ (sum_line c ++ last)) fp.0.0 fq.0.0
+    fp.1.0 fq.1.0 refl behind in
+    let first : p ≡ q = (let e = one.0 in cc) in
+    let later = parts_same ps qs b c more last (later_parts p ps fp) (later_parts q qs fq) one.1 in
+    (ap (λ x. x ∷ ps) first ∙ ap (λ xs. q ∷ xs) later.0, later.1)
+
+pub texts_same : (text more : List ℕ) (h g : Head) (ps qs : List Part) → IsTextOf text h ps → IsTextOf (text ++ more) g qs → (more ≡ []) × ((h ≡ g) × (ps ≡ qs))
+texts_same text more h g ps qs one two =
+    let first : text ++ more ≡ head_text h ++ (flat_map part_line ps ++ (sum_line (body_of h ps) ++ more)) =
+    ap (λ t. t ++ more) (text_head text h ps one)
+    ∙ (append_assoc (head_text h) (flat_map part_line ps ++ sum_line (body_of h ps)) more ∙ ap (λ t. head_text h ++ t) (append_assoc (flat_map part_line ps) (sum_line (body_of h ps)) more)) in
+    let second : text ++ more ≡ head_text g ++ (flat_map part_line qs ++ (sum_line (body_of g qs) ++ [])) =
+    text_head (text ++ more) g qs two ∙ ap (λ t. head_text g ++ (flat_map part_line qs ++ t)) (sym (append-nil (sum_line (body_of g qs)))) in
+    let heads = head_same (text ++ more) (flat_map part_line qs ++ (sum_line (body_of g qs) ++ [])) (flat_map part_line ps ++ (sum_line (body_of h ps) ++ more)) g h two.account.once one.account.once second first in
+    let parts = parts_same ps qs (body_of h ps) (body_of g qs) more [] (fine_parts text h ps one) (fine_parts (text ++ more) g qs two) (sym heads.1) in
+    let body : body_of h ps ≡ body_of g qs = ap (λ x. body_of x ps) heads.0 ∙ ap (body_of g) parts.0 in
+    let last = append_cancel_left (sum_line (body_of g qs)) more [] (ap (λ b. sum_line b ++ more) (sym body) ∙ parts.1) in
+    (last, (heads.0, parts.0))

@@ -5,6 +5,7 @@ mod account_file;
 mod entry;
 mod fields;
 mod head;
+pub mod laws;
 mod line;
 mod netstring;
 mod order;

@@ -139,9 +139,7 @@ fn is_counter(next: u64) -> bool
 pub(crate) fn are_numbers(numbers: Numbers) -> bool
     ensures { result ≡ are_numbers_in numbers }
 {
-    is_counter(numbers.next_copy)
-        && is_counter(numbers.next_out)
-        && is_counter(numbers.next_notice)
+    is_counter(numbers.next_copy) && is_counter(numbers.next_out) && is_counter(numbers.next_notice)
 }
 
 /// Whether the part is the script with the name.

@@ -14,7 +14,10 @@ pub enum LetterKind {
 #[derive(Debug, Drop)]
 pub enum Part {
     /// A script, and its text.
-    Script { name: Octets, text: Octets },
+    Script {
+        name: Octets,
+        text: Octets,
+    },
     /// When the sender was last answered under a handle: the handle's key, any octets, the sender in lower case, and seconds since
     /// 1970-01-01 UTC.
     Reply {

@@ -10,7 +10,6 @@ use crate::entry::{Entry, take_entry, take_numbers, take_owner, take_version};
 use crate::head::{Head, Numbers};
 use crate::order::{are_numbers, fits, follows, has_active};
 use crate::part::Part;
-
 use sha2::{Digest, Sha256};
 use std::alloc::{AllocError, Global};
 

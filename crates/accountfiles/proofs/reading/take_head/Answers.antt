@@ -25,6 +25,6 @@ returns-in_err-numbers-clause-none c =
 pub returns-then-not-are_numbers-clause-none : goal.returns-then-not-are_numbers-clause-none
 returns-then-not-are_numbers-clause-none c = λ same head more is written.
     let one = numbers_same c.args.text.now c.in_ok-rest.rest.now c.in_ok-rest.ensures.found head more is written c.in_ok-owner.owner c.in_ok-owner.rest.now c.in_ok-owner.ensures.found c.in_ok-owner.ensures.small
-        c.in_ok-numbers.numbers c.in_ok-numbers.rest.now c.in_ok-numbers.ensures.found c.in_ok-numbers.ensures.fits c.in_ok-numbers.ensures.small in
+    c.in_ok-numbers.numbers c.in_ok-numbers.rest.now c.in_ok-numbers.ensures.found c.in_ok-numbers.ensures.fits c.in_ok-numbers.ensures.small in
     let no : false ≡ true = c.if-not-are_numbers.ensures ∙ (ap are_numbers one.0 ∙ is.counters) in
     cc
