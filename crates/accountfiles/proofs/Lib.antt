@@ -5,3 +5,4 @@ pub mod FieldLemmas
 pub mod EntryLemmas
 pub mod ReadLemmas
 mod Examples
+pub mod OrderLemmas
