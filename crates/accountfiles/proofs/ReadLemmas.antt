@@ -124,11 +124,11 @@ chained_push last (q ∷ ps) p is next =
     let parts = and_parts (follows last q) (are_chained (Some q) ps) is in
     both_true (follows last q) (are_chained (Some q) (ps ++ p ∷ [])) parts.0 (chained_push (Some q) ps p parts.1 next)
 
-chained_at : (last : Option Part) (ps more : List Part) (p : Part) → are_chained last (ps ++ p ∷ more) ≡ true → follows (last_of last ps) p ≡ true
+pub chained_at : (last : Option Part) (ps more : List Part) (p : Part) → are_chained last (ps ++ p ∷ more) ≡ true → follows (last_of last ps) p ≡ true
 chained_at last [] more p is = (and_parts (follows last p) (are_chained (Some p) more) is).0
 chained_at last (q ∷ ps) more p is = chained_at (Some q) ps more p (and_parts (follows last q) (are_chained (Some q) (ps ++ p ∷ more)) is).1
 
-given_at : (n : Numbers) (ps more : List Part) (p : Part) → list_all (fits n) (ps ++ p ∷ more) ≡ true → fits n p ≡ true
+pub given_at : (n : Numbers) (ps more : List Part) (p : Part) → list_all (fits n) (ps ++ p ∷ more) ≡ true → fits n p ≡ true
 given_at n [] more p is = (and_parts (fits n p) (list_all (fits n) more) is).0
 given_at n (q ∷ ps) more p is = given_at n ps more p (and_parts (fits n q) (list_all (fits n) (ps ++ p ∷ more)) is).1
 
