@@ -22,7 +22,7 @@ pub enum Table {
 }
 
 /// All of them, in the order in which they are tried.
-pub const TABLES: [Table; 26] = [
+pub const TABLES: [Table; 27] = [
     Table::Text(TextTable::Ascii),
     Table::Text(TextTable::Addresses),
     Table::Text(TextTable::Targets),
@@ -40,6 +40,7 @@ pub const TABLES: [Table; 26] = [
     Table::Text(TextTable::Logins),
     Table::Text(TextTable::Heads),
     Table::Text(TextTable::Dates),
+    Table::Text(TextTable::AccountFiles),
     Table::Scripts,
     Table::Tests,
     Table::Sessions,

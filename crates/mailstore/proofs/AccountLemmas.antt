@@ -18,10 +18,10 @@ use Rattle.mailtables.specs.Rows.{Tables, has_key, added, removed, set_in}
 use Rattle.mailtables.proofs.ListLemmas.{owner_key, pair_key, equal_itself}
 use Rattle.mailstore.specs.declared.queue.Outgoing.{Outgoing}
 use Rattle.mailtables.specs.Cells.{or_null}
-use Rattle.mailstore.specs.Account.{bytes_cmp, reply_cmp, Account, Replies, new_account, keeps_script, activates, deletes_script, renames_script, moved, other_name, takes_out}
+use Rattle.mailstore.specs.Account.{bytes_cmp, reply_cmp, Account, Replies, Scripts, new_account, keeps_script, activates, deletes_script, renames_script, moved, other_name, takes_out}
 use Rattle.mailtables.specs.AccountTable.{account_cells, with_active, account_tree}
 use Rattle.mailtables.specs.ScriptTable.{script_cells, script_tree}
-use Rattle.mailstore.specs.ScriptRows.{script_row}
+use Rattle.mailstore.specs.ScriptRows.{script_row, ShowsScripts}
 use Rattle.mailstore.specs.MessageRows.{Message, message_row}
 use Rattle.mailtables.specs.MessageTable.{message_key, message_tree}
 use Rattle.mailstore.specs.CopyRows.{copy_row}
@@ -101,13 +101,25 @@ module _ (user : List ℕ) (rows : List Row) (replies : Replies) (s : ShowsRepli
         apart = apart_put reply_cmp reply_total reply_antisymmetric s.entries key moment s.apart;
       }
 
-module _ (user : List ℕ) (own : Tables) (a : Account) (s : IsShown user own a) where
+-- a script in place of one with its name
+module _ (user : List ℕ) (rows : List Row) (scripts : Scripts) (s : ShowsScripts user rows scripts) (name : List ℕ) where
   -- the rows of the other names
-  others_left : (name : List ℕ) → delete_where (has_key (pair_key user name)) (own script_tree) ≡ map (script_row user) (delete_where (is_named name) s.scripts.entries)
-  others_left name =
-      ap (delete_where (has_key (pair_key user name))) s.scripts.rows_are ∙ filter-map (λ r. not (has_key (pair_key user name) r)) (script_row user) s.scripts.entries
-      ∙ ap (map (script_row user)) (filter_same _ (λ e. not (is_named name e)) (λ e. ap not (pair_is user name e.0 (Blob e.1 ∷ []))) s.scripts.entries)
+  scripts_left : delete_where (has_key (pair_key user name)) rows ≡ map (script_row user) (delete_where (is_named name) s.entries)
+  scripts_left =
+      ap (delete_where (has_key (pair_key user name))) s.rows_are ∙ filter-map (λ r. not (has_key (pair_key user name) r)) (script_row user) s.entries
+      ∙ ap (map (script_row user)) (filter_same _ (λ e. not (is_named name e)) (λ e. ap not (pair_is user name e.0 (Blob e.1 ∷ []))) s.entries)
 
+  pub scripts_put : (text : List ℕ) → ShowsScripts user (delete_where (has_key (pair_key user name)) rows ++ script_cells user name text ∷ []) (insert scripts name text)
+  scripts_put text =
+      let left = delete_where (is_named name) s.entries in
+      record {
+        entries = left ++ (name, text) ∷ [];
+        rows_are = ap (λ l. l ++ script_cells user name text ∷ []) scripts_left ∙ sym (map-append (script_row user) left ((name, text) ∷ []));
+        shown = shown_put bytes_cmp nat_list_cmp_total bytes_antisymmetric scripts s.entries name text s.shown;
+        apart = apart_put bytes_cmp nat_list_cmp_total bytes_antisymmetric s.entries name text s.apart;
+      }
+
+module _ (user : List ℕ) (own : Tables) (a : Account) (s : IsShown user own a) where
   pub script_gone : (name : List ℕ) → IsShown user (removed script_tree (pair_key user name) own) (deletes_script name a)
   script_gone name = record {
     next_copy = s.next_copy;
@@ -115,7 +127,7 @@ module _ (user : List ℕ) (own : Tables) (a : Account) (s : IsShown user own a)
     account_is = s.account_is;
     scripts = record {
       entries = delete_where (is_named name) s.scripts.entries;
-      rows_are = others_left name;
+      rows_are = scripts_left user (own script_tree) a.scripts s.scripts name;
       shown = shown_without bytes_cmp nat_list_cmp_total bytes_antisymmetric a.scripts s.scripts.entries name s.scripts.shown;
       apart = apart_without bytes_cmp nat_list_cmp_total bytes_antisymmetric s.scripts.entries name s.scripts.apart;
     };
@@ -126,23 +138,16 @@ module _ (user : List ℕ) (own : Tables) (a : Account) (s : IsShown user own a)
   }
 
   pub script_put : (name text : List ℕ) → IsShown user (added script_tree (script_cells user name text) (removed script_tree (pair_key user name) own)) (keeps_script name text a)
-  script_put name text =
-      let left = delete_where (is_named name) s.scripts.entries in
-      record {
-        next_copy = s.next_copy;
-        next_notice = s.next_notice;
-        account_is = s.account_is;
-        scripts = record {
-          entries = left ++ (name, text) ∷ [];
-          rows_are = ap (λ l. l ++ script_cells user name text ∷ []) (others_left name) ∙ sym (map-append (script_row user) left ((name, text) ∷ []));
-          shown = shown_put bytes_cmp nat_list_cmp_total bytes_antisymmetric a.scripts s.scripts.entries name text s.scripts.shown;
-          apart = apart_put bytes_cmp nat_list_cmp_total bytes_antisymmetric s.scripts.entries name text s.scripts.apart;
-        };
-        queue = s.queue;
-        replies = s.replies;
-        notices = s.notices;
-        copies = s.copies;
-      }
+  script_put name text = record {
+    next_copy = s.next_copy;
+    next_notice = s.next_notice;
+    account_is = s.account_is;
+    scripts = scripts_put user (own script_tree) a.scripts s.scripts name text;
+    queue = s.queue;
+    replies = s.replies;
+    notices = s.notices;
+    copies = s.copies;
+  }
 
   -- the row with the number is gone from the queue
   pub queue_gone : (id : ℕ) → IsShown user (removed outgoing_tree (queue_key user (pos id)) own) (takes_out id a)

@@ -132,14 +132,14 @@ record IsShownBelow (user : List ℕ) (last : Counters) (copy notice : ℕ) (a :
 used_still : (copies : List Copy) (messages : List Message) (c : Copy) → AreKept copies messages → AllByRecursion (HasCopy (copies ++ c ∷ [])) messages
 used_still copies messages c k = all_weaker (HasCopy copies) (HasCopy (copies ++ c ∷ [])) (λ m f. (f.0, has_left copies (c ∷ []) f.0 f.1, f.2)) messages k.used
 
-kept_push : (copies : List Copy) (messages : List Message) (c : Copy) → Has messages (message_of c) → c.id ≤ c.n → AreKept copies messages → AreKept (copies ++ c ∷ []) messages
+pub kept_push : (copies : List Copy) (messages : List Message) (c : Copy) → Has messages (message_of c) → c.id ≤ c.n → AreKept copies messages → AreKept (copies ++ c ∷ []) messages
 kept_push copies messages c there first k = record {
   present = all-append _ copies (c ∷ []) k.present (there, tt);
   used = used_still copies messages c k;
   first = all-append _ copies (c ∷ []) k.first (first, tt);
 }
 
-kept_first : (copies : List Copy) (messages : List Message) (c : Copy) → c.id ≡ c.n → AreKept copies messages → AreKept (copies ++ c ∷ []) (messages ++ message_of c ∷ [])
+pub kept_first : (copies : List Copy) (messages : List Message) (c : Copy) → c.id ≡ c.n → AreKept copies messages → AreKept (copies ++ c ∷ []) (messages ++ message_of c ∷ [])
 kept_first copies messages c same k = record {
   present = all-append _ copies (c ∷ []) (all_weaker (λ d. Has messages (message_of d)) (λ d. Has (messages ++ message_of c ∷ []) (message_of d)) (λ d h. has_left messages (message_of c ∷ []) (message_of d) h) copies k.present)
       (has_last (messages ++ message_of c ∷ []) messages (message_of c) refl, tt);

@@ -30,6 +30,7 @@ pub mod PlaceLemmas
 pub mod NextLemmas
 pub mod UserLemmas
 pub mod WalkLemmas
+pub mod WholeLemmas
 pub mod UserExamples
 pub mod ListedLemmas
 pub mod FirstLemmas

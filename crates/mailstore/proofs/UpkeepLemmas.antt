@@ -106,11 +106,11 @@ all_gone [] = refl
 all_gone (x ∷ xs) = all_gone xs
 
 -- rows that are all the owner's
-owned_gone : {X : Type 0} (user : List ℕ) (row : X → Row) → ((x : X) → has_key (owner_key user) (row x) ≡ true) → (xs : List X) → delete_where (has_key (owner_key user)) (map row xs) ≡ []
+pub owned_gone : {X : Type 0} (user : List ℕ) (row : X → Row) → ((x : X) → has_key (owner_key user) (row x) ≡ true) → (xs : List X) → delete_where (has_key (owner_key user)) (map row xs) ≡ []
 owned_gone user row owned [] = refl
 owned_gone user row owned (x ∷ xs) = rw (owned x) (owned_gone user row owned xs)
 
-numbered_gone : {X : Type 0} (number : X → ℕ) (row : X → Row) (user : List ℕ) → ((x : X) → has_key (owner_key user) (row x) ≡ true) → (rows : List Row) (entries : List X) (next : ℕ) → AreNumbered number row rows entries next
+pub numbered_gone : {X : Type 0} (number : X → ℕ) (row : X → Row) (user : List ℕ) → ((x : X) → has_key (owner_key user) (row x) ≡ true) → (rows : List Row) (entries : List X) (next : ℕ) → AreNumbered number row rows entries next
     → AreNumbered number row (delete_where (has_key (owner_key user)) rows) [] next
 numbered_gone number row user owned rows entries next h =
     subst (λ l. AreNumbered number row (delete_where (has_key (owner_key user)) rows) l next) (all_gone entries) (numbered_without number row (has_key (owner_key user)) (λ x. true) owned rows entries next h)

@@ -19,6 +19,8 @@ pub mod Shows
 pub mod Taking
 pub mod Tally
 pub mod Users
+pub mod Whole
+pub mod WholeRows
 pub use Rattle.mailtables.specs.Cells
 pub use Rattle.mailtables.specs.Connection
 pub use Rattle.mailtables.specs.Ours

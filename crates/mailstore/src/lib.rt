@@ -21,6 +21,7 @@ mod script;
 pub mod store;
 mod taking;
 mod users;
+mod whole;
 
 pub use folder::Folder;
 pub use head::Head;

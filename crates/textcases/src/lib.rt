@@ -2,6 +2,7 @@
 //! `vacation`, and what ManageSieve's clients send and are told.
 #![tactic(auto)]
 
+mod account_file;
 mod address;
 mod answering;
 mod ascii;

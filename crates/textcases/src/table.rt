@@ -1,6 +1,6 @@
 //! The files of cases whose answers need no store.
 use crate::{
-    address, ascii, comparison, date_part, fault, head, item, line, login, reply, token, vacation,
+    account_file, address, ascii, comparison, date_part, fault, head, item, line, login, reply, token, vacation,
     word,
 };
 use casefiles::{Answers, Tally, try_rows};
@@ -28,6 +28,7 @@ pub enum TextTable {
     Heads,
     Dates,
     Vacations,
+    AccountFiles,
 }
 
 impl TextTable {
@@ -52,6 +53,7 @@ impl TextTable {
             TextTable::Heads => "heads.cases",
             TextTable::Dates => "dates.cases",
             TextTable::Vacations => "vacations.cases",
+            TextTable::AccountFiles => "accountfiles.cases",
         }
     }
 
@@ -73,6 +75,7 @@ impl TextTable {
             TextTable::Texts => word::add_encoded(alloc, out, text),
             TextTable::Tokens => token::add_tokens(alloc, out, text),
             TextTable::Faults => fault::add_fault(alloc, out, text),
+            TextTable::AccountFiles => account_file::add_account(alloc, out, text),
             _ => out.extend_from_slice(b"not that many columns"),
         }
     }

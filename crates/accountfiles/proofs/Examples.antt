@@ -1,0 +1,67 @@
+-- Parts of a text at work, and some beside them that are none.
+use Rattle.std.proofs.Common.{◌≡◌, ◌<◌, ℕ, Bool, true, false, List, [], ◌∷◌, ◌++◌, codes, decimal, Option, Some, None, refl, arith}
+use Rattle.std.proofs.lemmas.Fmt.{decimal_digit}
+use Rattle.accountfiles.specs.Netstring.{netstring, line}
+use Rattle.accountfiles.specs.Fields.{part_fields, part_at, is_version, sum_fields, sum_at}
+use Rattle.accountfiles.specs.Order.{are_chained, follows, fits, has_active}
+use Rattle.accountfiles.specs.declared.head.Numbers.{Numbers}
+use Rattle.accountfiles.specs.declared.part.Part.{Part}
+use Rattle.accountfiles.specs.declared.part.Part.TheVariants.{Script, Reply, Mail, Copy, Letter, Notice}
+
+-- five octets, and a line of one field
+hello : netstring (codes "hello") ≡ codes "5:hello,"
+unfolding netstring
+hello = rw (decimal_digit 5 (omega arith)) refl
+
+one_field : line (codes "hello" ∷ []) ≡ codes "5:hello," ++ 10 ∷ []
+unfolding line
+one_field = rw hello refl
+
+-- scripts stand by their names, and none twice
+scripts : are_chained None (Script (codes "a") [] ∷ Script (codes "b") [] ∷ []) ≡ true
+scripts = refl
+
+scripts_back : are_chained None (Script (codes "b") [] ∷ Script (codes "a") [] ∷ []) ≡ false
+scripts_back = refl
+
+script_twice : are_chained None (Script (codes "a") [] ∷ Script (codes "a") [] ∷ []) ≡ false
+script_twice = refl
+
+-- and before what comes behind them
+late_script : are_chained None (Mail 1 (codes "INBOX") [] ∷ Script (codes "a") [] ∷ []) ≡ false
+late_script = refl
+
+-- a copy stands behind its message, or behind another copy of it
+copies : are_chained None (Mail 1 (codes "a") (codes "m") ∷ Copy 2 (codes "b") 1 ∷ Copy 3 (codes "INBOX") 1 ∷ []) ≡ true
+copies = refl
+
+copy_alone : are_chained None (Copy 2 (codes "b") 1 ∷ []) ≡ false
+copy_alone = refl
+
+copy_of_another : are_chained None (Mail 1 (codes "a") (codes "m") ∷ Mail 2 (codes "a") (codes "n") ∷ Copy 3 (codes "b") 1 ∷ []) ≡ false
+copy_of_another = refl
+
+-- a number that the account hasn't given
+abbrev numbers : Numbers
+numbers = record { rounds = 1; next_copy = 3; next_out = 1; next_notice = 1 }
+
+given : fits numbers (Mail 2 (codes "a") []) ≡ true
+given = refl
+
+not_given : fits numbers (Mail 3 (codes "a") []) ≡ false
+not_given = refl
+
+none_given : fits numbers (Mail 0 (codes "a") []) ≡ false
+none_given = refl
+
+-- the active script is one of them
+active : has_active (Some (codes "a")) (Script (codes "a") [] ∷ []) ≡ true
+active = refl
+
+no_active : has_active (Some (codes "b")) (Script (codes "a") [] ∷ []) ≡ false
+no_active = refl
+
+-- the first line of another version
+other_version : is_version (codes "sieved-account" ∷ codes "2" ∷ []) ≡ false
+unfolding is_version
+other_version = refl

@@ -1,0 +1,6 @@
+pub mod Fields
+pub mod Netstring
+pub mod Order
+pub mod Text
+pub mod Writing
+pub mod Reading

@@ -1,0 +1,92 @@
+-- In which order the parts of an account stand, and which may stand there.
+use Rattle.std.specs.Prelude.{ℕ, ◌==◌, ◌&&◌, ◌^◌, Bool, true, false, not, List, [], ◌∷◌, nat_lt, nat_le, Option, Some, None}
+use Rattle.std.specs.List.{list_all, list_any}
+use Rattle.std.specs.declared.cmp.Ordering.{Ordering}
+use Rattle.std.specs.Ordering.{nat_cmp, on, then_cmp, is_lt}
+use Rattle.std.specs.Cmp.Lexicographic.{slice_cmp}
+use Rattle.accountfiles.specs.Netstring.{same_text}
+use Rattle.accountfiles.specs.declared.head.Numbers.{Numbers}
+use Rattle.accountfiles.specs.declared.part.Part.{Part}
+use Rattle.accountfiles.specs.declared.part.Part.TheVariants.{Script, Reply, Mail, Copy, Letter, Notice}
+
+-- scripts come first, then moments, messages in folders, messages on their way out, notices
+abbrev pub rank_of : Part → ℕ
+rank_of (Script name text) = 0
+rank_of (Reply handle sender moment) = 1
+rank_of (Mail number folder message) = 2
+rank_of (Copy number folder first) = 2
+rank_of (Letter id kind sender target message) = 3
+rank_of (Notice number moment text) = 4
+
+abbrev pub number_of : Part → ℕ
+number_of (Script name text) = 0
+number_of (Reply handle sender moment) = 0
+number_of (Mail number folder message) = number
+number_of (Copy number folder first) = number
+number_of (Letter id kind sender target message) = id
+number_of (Notice number moment text) = number
+
+abbrev pub key_of : Part → List ℕ
+key_of (Script name text) = name
+key_of (Reply handle sender moment) = handle
+key_of part = []
+
+abbrev pub second_of : Part → List ℕ
+second_of (Reply handle sender moment) = sender
+second_of part = []
+
+-- by rank, by number, by the octets of the name or the handle, and by those of the sender
+abbrev pub part_cmp : Part → Part → Ordering
+part_cmp = then_cmp (on rank_of nat_cmp) (then_cmp (on number_of nat_cmp) (then_cmp (on key_of (slice_cmp nat_cmp)) (on second_of (slice_cmp nat_cmp))))
+
+-- the copy that the part before it is of the same message
+abbrev pub has_come : ℕ → Option Part → Bool
+has_come first (Some (Mail number folder message)) = number == first
+has_come first (Some (Copy number folder other)) = other == first
+has_come first part = false
+
+-- a copy stands behind its message or another copy of it
+abbrev pub joins : Option Part → Part → Bool
+joins last (Copy number folder first) = has_come first last
+joins last part = true
+
+abbrev pub comes_after : Option Part → Part → Bool
+comes_after None part = true
+comes_after (Some last) part = is_lt (part_cmp last part)
+
+abbrev pub follows : Option Part → Part → Bool
+follows last part = comes_after last part && joins last part
+
+-- the parts stand in this order behind the last one
+abbrev pub are_chained : Option Part → List Part → Bool
+are_chained last [] = true
+are_chained last (part ∷ parts) = follows last part && are_chained (Some part) parts
+
+-- a number that was given
+abbrev pub is_given : ℕ → ℕ → Bool
+is_given next number = nat_le 1 number && nat_lt number next
+
+-- a part's numbers were given by the account, and a database can have its moment
+abbrev pub fits : Numbers → Part → Bool
+fits n (Script name text) = true
+fits n (Reply handle sender moment) = nat_lt moment (2 ^ 63)
+fits n (Mail number folder message) = is_given n.next_copy number
+fits n (Copy number folder first) = is_given n.next_copy number && is_given n.next_copy first
+fits n (Letter id kind sender target message) = is_given n.next_out id
+fits n (Notice number moment text) = is_given n.next_notice number && nat_lt moment (2 ^ 63)
+
+abbrev pub is_counter : ℕ → Bool
+is_counter next = nat_le 1 next && nat_lt next (2 ^ 63)
+
+abbrev pub are_numbers : Numbers → Bool
+are_numbers n = is_counter n.next_copy && (is_counter n.next_out && is_counter n.next_notice)
+
+-- the part is the script with the name
+abbrev pub is_script : List ℕ → Part → Bool
+is_script name (Script other text) = same_text name other
+is_script name part = false
+
+-- the active script is one of the scripts
+abbrev pub has_active : Option (List ℕ) → List Part → Bool
+has_active None parts = true
+has_active (Some name) parts = list_any (is_script name) parts

@@ -1,0 +1,87 @@
+//! What the lines of a text say.
+ghost use Rattle.std.specs.Prelude.{◌≡◌, ◌++◌, ⊤, ℕ, List, IfOk, IfErr};
+ghost use Rattle.accountfiles.specs.Netstring.{line, texts};
+ghost use Rattle.accountfiles.specs.Fields.{version_fields, owner_fields, numbers_fields};
+ghost use Rattle.accountfiles.specs.Reading.{ReadsLine, entry_fields, IsEntry, AreSmall, entry_at};
+
+use crate::account_file::ReadError;
+use crate::fields::{are_version, numbers_of, owner_of, part_of, sum_of};
+use crate::head::{Numbers, Owner};
+use crate::line::take_line;
+use crate::part::Part;
+use octets::Octets;
+use std::alloc::{AllocError, Global};
+
+/// What a line behind the first ones says.
+#[derive(Drop)]
+pub(crate) enum Entry {
+    Part(Part),
+    /// The SHA-256 at the end, as it is written.
+    Sum(Octets),
+}
+
+/// What is behind the first line.
+pub(crate) fn take_version(alloc: Global, octets: &[u8]) -> Result<&[u8], ReadError>
+    ensures found { IfOk result (λ rest. octets.now ≡ line version_fields ++ rest.now) }
+    ensures none { IfErr result (λ e. e ≡ ReadError.NotAnAccount → (more : List ℕ) → octets.now ≡ line version_fields ++ more → ⊥) }
+{
+    let Some((fields, rest)) = take_line(alloc, octets)? else {
+        return Err(ReadError::NotAnAccount);
+    };
+    if !are_version(fields.as_slice()) {
+        return Err(ReadError::NotAnAccount);
+    }
+    Ok(rest)
+}
+
+/// Whose account it is, and what is behind that line.
+pub(crate) fn take_owner(alloc: Global, octets: &[u8]) -> Result<(Owner, &[u8]), ReadError>
+    ensures { ReadsLine owner_fields (λ _. ⊤) octets.now result }
+{
+    let Some((fields, rest)) = take_line(alloc, octets)? else {
+        return Err(ReadError::NotAnAccount);
+    };
+    let Some(owner) = owner_of(alloc, fields.as_slice())? else {
+        return Err(ReadError::NotAnAccount);
+    };
+    Ok((owner, rest))
+}
+
+/// The account's numbers, and what is behind that line.
+pub(crate) fn take_numbers(alloc: Global, octets: &[u8]) -> Result<(Numbers, &[u8]), ReadError>
+    ensures { ReadsLine numbers_fields AreSmall octets.now result }
+{
+    let Some((fields, rest)) = take_line(alloc, octets)? else {
+        return Err(ReadError::NotAnAccount);
+    };
+    let Some(numbers) = numbers_of(fields.as_slice()) else {
+        return Err(ReadError::NotAnAccount);
+    };
+    Ok((numbers, rest))
+}
+
+/// What the next line says, and what is behind it.
+pub(crate) fn take_entry(alloc: Global, octets: &[u8]) -> Result<(Entry, &[u8]), ReadError>
+    ensures { ReadsLine entry_fields IsEntry octets.now result }
+{
+    let Some((fields, rest)) = take_line(alloc, octets)? else {
+        return Err(ReadError::NotAnAccount);
+    };
+    let Some(entry) = entry_of(alloc, fields.as_slice())? else {
+        return Err(ReadError::NotAnAccount);
+    };
+    Ok((entry, rest))
+}
+
+/// What the fields say behind the first lines.
+fn entry_of(alloc: Global, fields: &[&[u8]]) -> Result<Option<Entry>, AllocError>
+    ensures { IfOk result (λ entry. entry ≡ entry_at (texts fields.now)) }
+{
+    if let Some(sum) = sum_of(fields) {
+        return Ok(Some(Entry::Sum(Octets::from_slice(alloc, sum)?)));
+    }
+    match part_of(alloc, fields)? {
+        Some(part) => Ok(Some(Entry::Part(part))),
+        None => Ok(None),
+    }
+}

@@ -1,0 +1,54 @@
+//! One of the things of which an account may have many.
+use octets::Octets;
+
+/// Where a message on its way out comes from.
+#[derive(Clone, Copy, Debug, PartialEq, Eq)]
+pub enum LetterKind {
+    /// A message that a script sends on (RFC 5228, section 4.2).
+    Redirect,
+    /// The answer of a `vacation` (RFC 5230).
+    Answer,
+}
+
+/// A script, a moment of an answer, a message in a folder, a message on its way out, or a notice.
+#[derive(Debug, Drop)]
+pub enum Part {
+    /// A script, and its text.
+    Script {
+        name: Octets,
+        text: Octets,
+    },
+    /// When the sender was last answered under a handle: the handle's key, any octets, the sender in lower case, and seconds since
+    /// 1970-01-01 UTC.
+    Reply {
+        handle: Octets,
+        sender: Octets,
+        moment: u64,
+    },
+    /// A message in a folder, with the number of its copy there.
+    Mail {
+        number: u64,
+        folder: Octets,
+        message: Octets,
+    },
+    /// Another copy of the message before it, which came as `Mail` with the number `first`.
+    Copy {
+        number: u64,
+        folder: Octets,
+        first: u64,
+    },
+    /// A message on its way out.
+    Letter {
+        id: u64,
+        kind: LetterKind,
+        sender: Octets,
+        target: Octets,
+        message: Octets,
+    },
+    /// A notice to the user, with its moment in seconds since 1970-01-01 UTC.
+    Notice {
+        number: u64,
+        moment: u64,
+        text: Octets,
+    },
+}

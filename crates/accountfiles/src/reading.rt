@@ -1,0 +1,107 @@
+//! What an account's text says.
+ghost use Rattle.std.specs.Prelude.{◌≡◌, ◌++◌, ⊤, ℕ, List, option_copied, IfOk, IfErr};
+ghost use Rattle.accountfiles.specs.declared.head.Head.{Head};
+ghost use Rattle.accountfiles.specs.declared.part.Part.{Part};
+ghost use Rattle.accountfiles.specs.Text.{IsTextOf, IsHead, head_text};
+ghost use Rattle.accountfiles.specs.Reading.{ReadsLine, entry_fields, MayStand, stands, ends};
+
+use crate::account_file::{AccountFile, ReadError};
+use crate::entry::{Entry, take_entry, take_numbers, take_owner, take_version};
+use crate::head::{Head, Numbers};
+use crate::order::{are_numbers, fits, follows, has_active};
+use crate::part::Part;
+use sha2::{Digest, Sha256};
+use std::alloc::{AllocError, Global};
+
+/// The account of which this is the text, a part at a time.
+///
+/// A text that is cut or changed, one with octets behind its end and one of another version are that of no account. That nothing was
+/// changed is told by the SHA-256 at the end: it shows damage, and no forgery. Time is linear in the text, and memory too: a copy of
+/// each part is made.
+///
+/// # Errors
+///
+/// `NotAnAccount` where it is the text of none, and `Memory`.
+pub fn read(alloc: Global, text: &[u8]) -> Result<AccountFile, ReadError>
+    ensures found { IfOk result (λ file. IsTextOf text.now file.head file.parts) }
+    ensures none { IfErr result (λ e. e ≡ ReadError.NotAnAccount → (head : Head) (parts : List Part) → IsTextOf text.now head parts → ⊥) }
+{
+    let (head, mut rest) = take_head(alloc, text)?;
+    let mut parts = octets::List::new(alloc);
+    'parts: loop {
+        let (entry, more) = take_next(alloc, &head.numbers, parts.as_slice().last(), rest)?;
+        match entry {
+            Entry::Part(part) => {
+                parts.push(part)?;
+                rest = more;
+            }
+            Entry::Sum(sum) => {
+                let body = &text[..text.len() - rest.len()];
+                let ends = is_end(alloc, &head, parts.as_slice(), body, sum.as_slice(), more)?;
+                if !ends {
+                    return Err(ReadError::NotAnAccount);
+                }
+                return Ok(AccountFile { head, parts });
+            }
+        }
+    }
+}
+
+/// Whether the parts are those of an account, with nothing behind the last line, and that has the SHA-256 of what is before it.
+fn is_end(
+    alloc: Global,
+    head: &Head,
+    parts: &[Part],
+    body: &[u8],
+    sum: &[u8],
+    behind: &[u8],
+) -> Result<bool, AllocError>
+    ensures { IfOk result (λ is. is ≡ ends head.now parts.now body.now sum.now behind.now) }
+{
+    if !behind.is_empty() || !has_active(head.owner.active.as_ref(), parts) {
+        return Ok(false);
+    }
+    let digest = hex::encode(alloc, Sha256::digest(body))?;
+    Ok(sum == digest.as_bytes())
+}
+
+/// What the account has once, and what is behind it.
+fn take_head(alloc: Global, text: &[u8]) -> Result<(Head, &[u8]), ReadError>
+    ensures found { IfOk result (λ taken. text.now ≡ head_text taken.0 ++ taken.1.now) }
+    ensures head { IfOk result (λ taken. IsHead taken.0) }
+    ensures none { IfErr result (λ e. e ≡ ReadError.NotAnAccount → (head : Head) (more : List ℕ) → IsHead head → text.now ≡ head_text head ++ more → ⊥) }
+{
+    let rest = take_version(alloc, text)?;
+    let (owner, rest) = take_owner(alloc, rest)?;
+    let (numbers, rest) = take_numbers(alloc, rest)?;
+    if !are_numbers(numbers) {
+        return Err(ReadError::NotAnAccount);
+    }
+    Ok((Head { owner, numbers }, rest))
+}
+
+/// What the next line says, which may stand behind the last part, and what is behind it.
+fn take_next<'a>(
+    alloc: Global,
+    numbers: &Numbers,
+    last: Option<&Part>,
+    octets: &'a [u8],
+) -> Result<(Entry, &'a [u8]), ReadError>
+    ensures { ReadsLine entry_fields (MayStand numbers.now (option_copied last.entry)) octets.now result }
+{
+    let (entry, rest) = take_entry(alloc, octets)?;
+    if !may_stand(numbers, last, &entry) {
+        return Err(ReadError::NotAnAccount);
+    }
+    Ok((entry, rest))
+}
+
+/// Whether what a line says may stand behind the last part.
+fn may_stand(numbers: &Numbers, last: Option<&Part>, entry: &Entry) -> bool
+    ensures { result ≡ stands numbers.now (option_copied last.entry) entry.now }
+{
+    match entry {
+        Entry::Part(part) => fits(numbers, part) && follows(last, part),
+        Entry::Sum(_) => true,
+    }
+}

@@ -1,0 +1,218 @@
+//! The text of an account, a part at a time.
+ghost use Rattle.std.specs.Prelude.{◌≡◌, ◌++◌, ℕ, List, [], ◌∷◌, codes, decimal, IfOk, OnOk, option_copied, option_to_list};
+ghost use Rattle.std.specs.List.{flat_map};
+ghost use Rattle.sha2.specs.Sha256.{sha256};
+ghost use Rattle.hex.specs.Hex.{encode_lower};
+ghost use Rattle.accountfiles.specs.Netstring.{netstring, line};
+ghost use Rattle.accountfiles.specs.Fields.{version_fields, owner_fields, numbers_fields, part_fields, letter_word, sum_fields};
+ghost use Rattle.accountfiles.specs.Text.{head_text, part_line, sum_line};
+ghost use Rattle.accountfiles.specs.Writing.{HasWritten, text_in};
+
+use crate::head::{Head, Numbers, Owner};
+use crate::netstring::{push_length, push_netstring, push_number};
+use crate::part::{LetterKind, Part};
+use octets::Octets;
+use sha2::{Digest, Sha256};
+use std::alloc::{AllocError, Global};
+
+/// Writes the text of an account, a part at a time: what it hands out is to be written in that order. It keeps nothing but a hash of
+/// what it has handed out. That the parts make an account (`IsAccount`) is for the caller to see.
+#[derive(Drop)]
+pub struct Writer {
+    hasher: Sha256,
+}
+
+/// A line: its front, a text of the part that isn't copied, and what is behind that.
+#[derive(Drop)]
+pub struct Line<'a> {
+    pub front: Octets,
+    pub last: &'a [u8],
+    pub back: &'static [u8],
+}
+
+impl Writer {
+    /// The first lines of the text: its version, and what the account has once.
+    pub fn begin(alloc: Global, head: &Head) -> Result<(Writer, Octets), AllocError>
+        ensures { IfOk result (λ begun. (begun.1 ≡ head_text head.now) × HasWritten begun.0 begun.1) }
+    {
+        let mut text = Octets::new(alloc);
+        push_pair(&mut text, b"sieved-account", b"1")?;
+        push_owner(&mut text, &head.owner)?;
+        push_numbers(&mut text, head.numbers)?;
+        let mut hasher = Sha256::new();
+        hasher.update(text.as_slice());
+        Ok((Writer { hasher }, text))
+    }
+
+    /// The line of the next part. Without memory nothing was written.
+    pub fn part<'a>(&mut self, alloc: Global, part: &'a Part) -> Result<Line<'a>, AllocError>
+        ensures line { IfOk result (λ line. text_in line ≡ part_line part.now) }
+        ensures written { IfOk result (λ line. (text : List ℕ) → HasWritten self.old text → HasWritten self.new (text ++ part_line part.now)) }
+    {
+        let line = line_of(alloc, part)?;
+        self.hasher.update(line.front.as_slice());
+        self.hasher.update(line.last);
+        self.hasher.update(line.back);
+        Ok(line)
+    }
+
+    /// The last line, with the SHA-256 of all before it.
+    pub fn end(self, alloc: Global) -> Result<Octets, AllocError>
+        ensures { IfOk result (λ line. (text : List ℕ) → HasWritten self text → line ≡ sum_line text) }
+    {
+        let Writer { hasher } = self;
+        let sum = hex::encode(alloc, hasher.finalize())?;
+        let mut line = Octets::new(alloc);
+        push_pair(&mut line, b"sum", sum.as_bytes())?;
+        Ok(line)
+    }
+}
+
+/// A line of two fields.
+#[tactic(auto, unfolding(crate::specs::Netstring::line))]
+fn push_pair(out: &mut Octets, word: &[u8], value: &[u8]) -> Result<(), AllocError>
+    ensures { OnOk result (out.new ≡ out.old ++ line (word.now ∷ value.now ∷ [])) }
+{
+    push_netstring(out, word)?;
+    push_netstring(out, value)?;
+    out.push(b'\n')
+}
+
+#[tactic(auto, unfolding(crate::specs::Netstring::line))]
+fn push_owner(out: &mut Octets, owner: &Owner) -> Result<(), AllocError>
+    ensures { OnOk result (out.new ≡ out.old ++ line (owner_fields owner.now)) }
+{
+    push_netstring(out, b"account")?;
+    push_netstring(out, owner.name.as_slice())?;
+    push_netstring(out, owner.address.as_slice())?;
+    push_netstring(out, owner.salt.as_slice())?;
+    push_netstring(out, owner.digest.as_slice())?;
+    push_name(out, owner.active.as_ref())?;
+    out.push(b'\n')
+}
+
+/// The name, if there is one.
+fn push_name(out: &mut Octets, name: Option<&Octets>) -> Result<(), AllocError>
+    ensures { OnOk result (out.new ≡ out.old ++ flat_map netstring (option_to_list (option_copied name.entry))) }
+{
+    match name {
+        Some(name) => push_netstring(out, name.as_slice()),
+        None => Ok(()),
+    }
+}
+
+#[tactic(auto, unfolding(crate::specs::Netstring::line))]
+fn push_numbers(out: &mut Octets, numbers: Numbers) -> Result<(), AllocError>
+    ensures { OnOk result (out.new ≡ out.old ++ line (numbers_fields numbers)) }
+{
+    push_netstring(out, b"numbers")?;
+    push_number(out, numbers.rounds as u64)?;
+    push_number(out, numbers.next_copy)?;
+    push_number(out, numbers.next_out)?;
+    push_number(out, numbers.next_notice)?;
+    out.push(b'\n')
+}
+
+/// A line that ends with this text behind other fields.
+#[tactic(auto, unfolding(crate::specs::Netstring::netstring))]
+fn ended(mut front: Octets, last: &[u8]) -> Result<Line<'_>, AllocError>
+    ensures { IfOk result (λ line. text_in line ≡ front ++ (netstring last.now ++ 10 ∷ [])) }
+{
+    push_length(&mut front, last.len())?;
+    Ok(Line {
+        front,
+        last,
+        back: b",\n",
+    })
+}
+
+/// A line that ends with this number behind other fields.
+#[tactic(auto, unfolding(crate::specs::Netstring::netstring))]
+fn counted<'a>(mut front: Octets, last: u64) -> Result<Line<'a>, AllocError>
+    ensures { IfOk result (λ line. text_in line ≡ front ++ (netstring (decimal last) ++ 10 ∷ [])) }
+{
+    push_number(&mut front, last)?;
+    front.push(b'\n')?;
+    Ok(Line {
+        front,
+        last: b"",
+        back: b"",
+    })
+}
+
+fn word_of(kind: LetterKind) -> &'static [u8]
+    ensures { result.now ≡ letter_word kind }
+{
+    match kind {
+        LetterKind::Redirect => b"redirect",
+        LetterKind::Answer => b"answer",
+    }
+}
+
+/// The line of a part.
+#[tactic(auto, unfolding(crate::specs::Netstring::line))]
+fn line_of(alloc: Global, part: &Part) -> Result<Line<'_>, AllocError>
+    ensures { IfOk result (λ line. text_in line ≡ part_line part.now) }
+{
+    let mut front = Octets::new(alloc);
+    match part {
+        Part::Script { name, text } => {
+            push_netstring(&mut front, b"script")?;
+            push_netstring(&mut front, name.as_slice())?;
+            ended(front, text.as_slice())
+        }
+        Part::Reply {
+            handle,
+            sender,
+            moment,
+        } => {
+            push_netstring(&mut front, b"reply")?;
+            push_netstring(&mut front, handle.as_slice())?;
+            push_netstring(&mut front, sender.as_slice())?;
+            counted(front, *moment)
+        }
+        Part::Mail {
+            number,
+            folder,
+            message,
+        } => {
+            push_netstring(&mut front, b"mail")?;
+            push_number(&mut front, *number)?;
+            push_netstring(&mut front, folder.as_slice())?;
+            ended(front, message.as_slice())
+        }
+        Part::Copy {
+            number,
+            folder,
+            first,
+        } => {
+            push_netstring(&mut front, b"copy")?;
+            push_number(&mut front, *number)?;
+            push_netstring(&mut front, folder.as_slice())?;
+            counted(front, *first)
+        }
+        Part::Letter {
+            id,
+            kind,
+            sender,
+            target,
+            message,
+        } => {
+            push_netstring(&mut front, word_of(*kind))?;
+            push_number(&mut front, *id)?;
+            push_netstring(&mut front, sender.as_slice())?;
+            push_netstring(&mut front, target.as_slice())?;
+            ended(front, message.as_slice())
+        }
+        Part::Notice {
+            number,
+            moment,
+            text,
+        } => {
+            push_netstring(&mut front, b"notice")?;
+            push_number(&mut front, *number)?;
+            push_number(&mut front, *moment)?;
+            ended(front, text.as_slice())
+        }
+    }
+}

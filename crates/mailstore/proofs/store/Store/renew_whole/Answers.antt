@@ -1,0 +1,17 @@
+-- The changes carry the whole account.
+use Rattle.std.proofs.Common.{sym, subst}
+use Rattle.std.specs.FinMap.{empty, insert}
+use Rattle.sqlite.specs.Held.{state}
+use Rattle.mailstore.specs.Account.{with_user}
+use Rattle.mailstore.specs.Promises.{HasUser, IsFree}
+use Rattle.mailstore.specs.Whole.{whole, takes_whole}
+use Rattle.mailstore.specs.WholeRows.{account_made, emptied_by, IsMaking}
+use Rattle.mailstore.proofs.KeepLemmas.{writes}
+use Rattle.mailstore.proofs.WholeLemmas.{carries_renewed}
+use Rattle.mailstore.proofs.store.Store.renew_whole.Goals as goal
+
+pub returns : goal.returns
+returns g c =
+    writes c.apply.result (state g.S.Store c.args.self.now) (state g.S.Store c.apply.new.self) c.deref.result.now (HasUser c.args.head.now.owner.name) (λ all. with_user all c.args.head.now.owner.name (takes_whole c.args.head.now c.args.parts.now))
+    (carries_renewed c.args.head.now c.args.parts.now c.deref.result.now c.requires (subst (IsMaking c.args.head.now.owner.name (emptied_by c.args.head.now.owner.name) c.args.head.now c.args.parts.now) (sym c.deref.ensures.value) c.in_ok-changes.ensures.made))
+    c.apply.ensures.made c.apply.ensures.settled c.apply.ensures.same c.apply.ensures.crash c.apply.ensures.named

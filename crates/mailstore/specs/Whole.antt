@@ -1,0 +1,82 @@
+-- An account that is written whole: what the parts of its text make of it.
+use Rattle.std.specs.Prelude.{◌++◌, ℕ, List, [], ◌∷◌, fold, map, Option, None}
+use Rattle.std.specs.List.{flat_map}
+use Rattle.std.specs.FinMap.{empty, insert}
+use Rattle.accountfiles.specs.declared.head.Head.{Head}
+use Rattle.accountfiles.specs.declared.part.LetterKind.{LetterKind}
+use Rattle.accountfiles.specs.declared.part.LetterKind.TheVariants.{Redirect, Answer}
+use Rattle.accountfiles.specs.declared.part.Part.{Part}
+use Rattle.accountfiles.specs.declared.part.Part.TheVariants.{Script, Reply, Mail, Copy, Letter, Notice}
+use Rattle.mailtables.specs.declared.queue.Kind.{Kind}
+use Rattle.mailtables.specs.declared.queue.Kind.TheVariants as kind
+use Rattle.mailstore.specs.declared.notice.Notice.{Notice as KeptNotice}
+use Rattle.mailstore.specs.declared.queue.Outgoing.{Outgoing}
+use Rattle.mailstore.specs.Account.{Account, Password, Replies, Scripts}
+use Rattle.mailstore.specs.CopyRows.{Copy as KeptCopy, folders_from}
+use Rattle.mailstore.specs.MessageRows.{Message}
+
+-- ---- what each part makes
+
+abbrev pub scripts_with : Scripts → Part → Scripts
+scripts_with scripts (Script name text) = insert scripts name text
+scripts_with scripts part = scripts
+
+-- in place of a moment that is there
+abbrev pub replies_with : Replies → Part → Replies
+replies_with replies (Reply handle sender moment) = insert replies (handle, sender) moment
+replies_with replies part = replies
+
+abbrev pub kind_of : LetterKind → Kind
+kind_of Redirect = kind.Redirect
+kind_of Answer = kind.Reply
+
+abbrev pub letters_in : Part → List Outgoing
+letters_in (Letter id way sender target message) = record { id = id; kind = kind_of way; sender = sender; target = target; message = message } ∷ []
+letters_in part = []
+
+abbrev pub notices_in : Part → List (ℕ × KeptNotice)
+notices_in (Notice number moment text) = (number, record { moment = moment; text = text }) ∷ []
+notices_in part = []
+
+-- a message is kept with the number of its first copy
+abbrev pub messages_in_part : Part → List Message
+messages_in_part (Mail number folder message) = record { id = number; bytes = message } ∷ []
+messages_in_part part = []
+
+-- the octets of the last message that came
+abbrev pub octets_after : List ℕ → Part → List ℕ
+octets_after last (Mail number folder message) = message
+octets_after last part = last
+
+-- a copy has the octets of the last message that came
+abbrev pub copies_in_part : List ℕ → Part → List KeptCopy
+copies_in_part last (Mail number folder message) = record { folder = folder; n = number; id = number; message = message } ∷ []
+copies_in_part last (Copy number folder first) = record { folder = folder; n = number; id = first; message = last } ∷ []
+copies_in_part last part = []
+
+abbrev pub copies_of : List ℕ → List Part → List KeptCopy
+copies_of last [] = []
+copies_of last (part ∷ parts) = copies_in_part last part ++ copies_of (octets_after last part) parts
+
+-- ---- the account
+
+abbrev pub password_of : Head → Password
+password_of head = record { salt = head.owner.salt; rounds = head.numbers.rounds; digest = head.owner.digest }
+
+-- the account that a text tells, over moments of replies that are there
+abbrev pub whole : Head → List Part → Replies → Account
+whole head parts replies = record {
+  address = head.owner.address;
+  password = password_of head;
+  scripts = fold scripts_with empty parts;
+  active = head.owner.active;
+  folders = folders_from (copies_of [] parts);
+  queue = flat_map letters_in parts;
+  replies = fold replies_with replies parts;
+  notices = map (λ e. e.1) (flat_map notices_in parts);
+  next_out = head.numbers.next_out;
+}
+
+-- the same in place of an account that is there: of that the moments of replies stay
+abbrev pub takes_whole : Head → List Part → Account → Account
+takes_whole head parts a = whole head parts a.replies

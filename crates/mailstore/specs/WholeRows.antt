@@ -1,0 +1,60 @@
+-- What the row changes of an account that is written whole make of its user's rows.
+use Rattle.std.specs.Prelude.{◌≡◌, ℕ, pos, List, [], ◌∷◌, fold, None}
+use Rattle.mailtables.specs.Rows.{Tables}
+use Rattle.mailtables.specs.AccountTable.{account_tree}
+use Rattle.mailtables.specs.ScriptTable.{script_tree}
+use Rattle.mailtables.specs.QueueTable.{outgoing_tree}
+use Rattle.mailtables.specs.NoticeTable.{notice_tree}
+use Rattle.mailtables.specs.CopyTable.{copy_tree}
+use Rattle.mailtables.specs.MessageTable.{message_tree}
+use Rattle.mailtables.specs.declared.change.Change.{Change}
+use Rattle.mailtables.specs.Changes.{AreOf, made, account_added, active_set, address_set, counters_set, password_set, script_added, script_removed, reply_added, reply_removed, message_added, copy_added, outgoing_added, notice_added, owned_removed}
+use Rattle.accountfiles.specs.declared.head.Head.{Head}
+use Rattle.accountfiles.specs.declared.part.Part.{Part}
+use Rattle.accountfiles.specs.declared.part.Part.TheVariants.{Script, Reply, Mail, Copy, Letter, Notice}
+use Rattle.mailstore.specs.Whole.{kind_of}
+
+abbrev pub script_put : List ℕ → List ℕ → List ℕ → Tables → Tables
+script_put user name text own = script_added user name text (script_removed user name own)
+
+abbrev pub moment_put : List ℕ → List ℕ → List ℕ → ℕ → Tables → Tables
+moment_put user handle sender moment own = reply_added user handle sender (pos moment) (reply_removed user handle sender own)
+
+abbrev pub mail_put : List ℕ → List ℕ → ℕ → List ℕ → Tables → Tables
+mail_put user folder n message own = copy_added user folder (pos n) (pos n) (message_added user (pos n) message own)
+
+abbrev pub part_made : List ℕ → Part → Tables → Tables
+part_made user (Script name text) = script_put user name text
+part_made user (Reply handle sender moment) = moment_put user handle sender moment
+part_made user (Mail number folder message) = mail_put user folder number message
+part_made user (Copy number folder first) = copy_added user folder (pos number) (pos first)
+part_made user (Letter id way sender target message) = outgoing_added user (pos id) (kind_of way) sender target message
+part_made user (Notice number moment text) = notice_added user (pos number) (pos moment) text
+
+-- one part after the other
+abbrev pub parts_made : List ℕ → List Part → Tables → Tables
+parts_made user parts own = fold (λ rows part. part_made user part rows) own parts
+
+abbrev pub numbers_made : Head → Tables → Tables
+numbers_made head = counters_set head.owner.name (pos head.numbers.next_copy) (pos head.numbers.next_out) (pos head.numbers.next_notice)
+
+abbrev pub owner_made : Head → Tables → Tables
+owner_made head own = password_set head.owner.name head.owner.salt head.numbers.rounds head.owner.digest (address_set head.owner.name head.owner.address own)
+
+-- what is had once, in the account's row
+abbrev pub head_made : Head → Tables → Tables
+head_made head own = active_set head.owner.name head.owner.active (numbers_made head (owner_made head own))
+
+-- a new account's row
+abbrev pub account_made : Head → Tables → Tables
+account_made head = account_added head.owner.name head.owner.address head.owner.salt head.numbers.rounds head.owner.digest
+
+-- scripts, queue, notices, copies and messages are gone, and no script is active
+abbrev pub emptied_by : List ℕ → Tables → Tables
+emptied_by user own =
+    active_set user None (owned_removed message_tree user (owned_removed copy_tree user (owned_removed notice_tree user (owned_removed outgoing_tree user (owned_removed script_tree user own)))))
+
+-- the changes are one user's: first these, then what is had once, then the parts
+pub record IsMaking (user : List ℕ) (first : Tables → Tables) (head : Head) (parts : List Part) (changes : List Change) : Type 0 where
+  pub owned : AreOf user changes
+  pub makes : (own : Tables) → made own changes ≡ parts_made user parts (head_made head (first own))
