@@ -1,6 +1,6 @@
 #!/usr/bin/env python3
-"""Clicks in Roundcube over the program: 'Forwarding' with a copy that is kept, and 'Out of office' for a minute; then delivers messages.
-The same for an account whose password and address were changed.
+"""Clicks in Roundcube over the program: 'Forwarding' with a copy that is kept, and 'Out of office' for a minute and for some days; then
+delivers messages. The same for an account whose password and address were changed. Counts what the form of a filter offers.
 
   tests/webmail.py [--sieved SIEVED] [TRIAL ..]       SIEVED: the program, crates/sieved/out/sieved where none is named
 
@@ -8,7 +8,7 @@ Prints a line for each trial, a last one that counts them, and ends with 1 where
 roundcube-core, roundcube-plugins, roundcube-sqlite3, php-cli, sqlite3, dovecot-imapd, chromium and chromium-driver, else its trials are left
 out. The lines of docs/OPERATING.md for Roundcube's plugin are those that it takes. All files are in a folder that goes with the trial.
 """
-import json, os, re, shutil, subprocess, tempfile, time, urllib.request
+import calendar, json, os, re, shutil, subprocess, tempfile, time, urllib.request
 import managesieve, scripts, trials
 from contextlib import contextmanager, suppress
 from postfix import free_port, wait_for
@@ -134,9 +134,12 @@ class Browser:
         self.ask("POST", f"{self.find(place)}/clear", {})
         self.ask("POST", f"{self.find(place)}/value", {"text": text})
 
+    def run(self, script, *words):
+        return self.ask("POST", "/execute/sync", {"script": script, "args": words})
+
     def said(self):
         """What Roundcube says at the page's foot."""
-        return self.ask("POST", "/execute/sync", {"script": "return document.querySelector('#messagestack').innerText", "args": []})
+        return self.run("return document.querySelector('#messagestack').innerText")
 
     def save(self):
         self.click(".formbuttons button")
@@ -196,6 +199,23 @@ def be_away_for_a_minute(browser):
     browser.save()
 
 
+def be_away_for_days(browser, first, last):
+    browser.open("?_task=settings&_action=plugin.managesieve-vacation")
+    browser.type("#vacation_subject", "Away")
+    browser.type("#vacation_reason", "Back in May.")
+    for field, day in ("from", first), ("to", last):
+        browser.find(f"#vacation_date{field}")
+        browser.run(f"document.querySelector('#vacation_date{field}').value = arguments[0]", day)
+    browser.choose("#vacation_status", "on")
+    browser.save()
+
+
+def offered(browser, name):
+    """What a list of the form of a new filter offers."""
+    browser.find(f"select[name='{name}']")
+    return browser.run("return Array.from(document.querySelector(`select[name='${arguments[0]}']`).options, option => option.value)", name)
+
+
 def forwarding_and_absence():
     with a_browser() as (host, browser):
         log_in(browser)
@@ -223,7 +243,27 @@ def changed_account():
     return "Roundcube logs in with the new password, and the answer comes from the new address"
 
 
-TRIALS = {trial.__name__: trial for trial in (forwarding_and_absence, changed_account)}
+def days_of_absence():
+    with a_browser() as (host, browser):
+        log_in(browser)
+        be_away_for_days(browser, "2027-08-01", "2027-08-14")
+        moment = lambda month, day: calendar.timegm((2027, month, day, 12, 0, 0))
+        answers = {(7, 31): [], (8, 1): ["vacation sent"], (8, 7): ["vacation quiet 9"], (8, 14): ["vacation sent"], (8, 15): [], (9, 1): []}
+        for (month, day), answer in answers.items():
+            assert deliver(host, moment(month, day)) == ["file INBOX", *answer], (month, day)
+    return "answered on the first and the last day, and on none before or after"
+
+
+def offers():
+    with a_browser() as (host, browser):
+        log_in(browser)
+        browser.open("?_task=settings&_action=plugin.managesieve-action&_framed=1")
+        counts = {name: len(offered(browser, name)) for name in ("_action_type[0]", "_rule_op[0]", "_header[0]", "_rule_mod_type[0]", "_rule_comp[0]")}
+        assert list(counts.values()) == [8, 20, 7, 5, 4], counts
+    return "8 actions, 20 comparisons, 7 things to compare, 5 parts of an address, 4 comparators"
+
+
+TRIALS = {trial.__name__: trial for trial in (forwarding_and_absence, changed_account, days_of_absence, offers)}
 
 if __name__ == "__main__":
     trials.main(TRIALS, lambda program: scripts.PROGRAM.__setitem__(0, program))
