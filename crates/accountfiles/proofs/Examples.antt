@@ -1,12 +1,11 @@
 -- Parts of a text at work, and some beside them that are none.
-use Rattle.std.proofs.Common.{◌≡◌, ◌<◌, ℕ, Bool, true, false, List, [], ◌∷◌, ◌++◌, codes, decimal, Option, Some, None, refl, arith}
+use Rattle.std.proofs.Common.{◌≡◌, true, false, [], ◌∷◌, ◌++◌, codes, Some, None, refl, arith}
 use Rattle.std.proofs.lemmas.Fmt.{decimal_digit}
 use Rattle.accountfiles.specs.Netstring.{netstring, line}
-use Rattle.accountfiles.specs.Fields.{part_fields, part_at, is_version, sum_fields, sum_at}
-use Rattle.accountfiles.specs.Order.{are_chained, follows, fits, has_active}
+use Rattle.accountfiles.specs.Fields.{is_version}
+use Rattle.accountfiles.specs.Order.{are_chained, fits, has_active}
 use Rattle.accountfiles.specs.declared.head.Numbers.{Numbers}
-use Rattle.accountfiles.specs.declared.part.Part.{Part}
-use Rattle.accountfiles.specs.declared.part.Part.TheVariants.{Script, Reply, Mail, Copy, Letter, Notice}
+use Rattle.accountfiles.specs.declared.part.Part.TheVariants.{Script, Mail, Copy}
 
 -- five octets, and a line of one field
 hello : netstring (codes "hello") ≡ codes "5:hello,"

@@ -1,7 +1,7 @@
 -- A text that is read line by line.
-use Rattle.std.proofs.Common.{◌≡◌, ◌≤◌, ◌<◌, ◌+◌, ◌-◌, ◌^◌, ◌*◌, ◌==◌, ◌&&◌, ℕ, suc, Bool, true, false, List, [], ◌∷◌, ◌++◌, length, take, drop, Option, Some, None, Result, Ok, Err, decimal, codes, refl, sym, ap, ◌∙◌, subst, arith, lit≤, append_assoc, slice_get}
+use Rattle.std.proofs.Common.{◌≡◌, ◌≤◌, ◌<◌, ◌-◌, ◌^◌, ◌*◌, ◌==◌, ℕ, suc, true, false, List, [], ◌∷◌, ◌++◌, length, take, Option, Some, None, Ok, Err, decimal, refl, sym, ap, ◌∙◌, subst, arith, lit≤, append_assoc, slice_get}
 use Prim.Native.Nat.{zero}
-use Rattle.std.specs.Prelude.{IfOk, IfErr, option_to_list, slice_index, nat_le, nat_lt}
+use Rattle.std.specs.Prelude.{slice_index, nat_le, nat_lt}
 use Rattle.std.specs.Borrow.{Bor}
 use Rattle.std.specs.Int.{w32, to_be_bytes}
 use Rattle.std.specs.List.{flat_map, AllByRecursion, list_all}
@@ -15,10 +15,9 @@ use Rattle.hex.specs.Hex.{encode_lower, lower_digits}
 use Rattle.hex.proofs.HexLemmas.{length-encode_with}
 use Rattle.accountfiles.specs.Netstring.{netstring, line, IsField, AreFields, same_text}
 use Rattle.accountfiles.specs.Fields.{version_fields, owner_fields, numbers_fields, part_fields, sum_fields}
-use Rattle.accountfiles.specs.Order.{is_counter, are_numbers, is_given, fits, follows, are_chained, has_active, joins, comes_after}
+use Rattle.accountfiles.specs.Order.{is_counter, are_numbers, is_given, fits, follows, are_chained, has_active}
 use Rattle.accountfiles.specs.Reading.{ReadsLine, HasNumbers, AreSmall, entry_fields, IsEntry, MayStand, stands, ends}
-use Rattle.accountfiles.specs.Text.{IsHead, IsAccount, IsTextOf, head_text, body_of, part_line, sum_line, text_of, has_sum}
-use Rattle.accountfiles.specs.declared.account_file.ReadError.{ReadError}
+use Rattle.accountfiles.specs.Text.{IsHead, IsTextOf, head_text, body_of, part_line, sum_line, has_sum}
 use Rattle.accountfiles.specs.declared.account_file.ReadError.TheVariants.{NotAnAccount}
 use Rattle.accountfiles.specs.declared.entry.Entry.{Entry}
 use Rattle.accountfiles.specs.declared.entry.Entry.TheVariants as entry

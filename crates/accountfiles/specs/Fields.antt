@@ -1,5 +1,5 @@
 -- The fields of a line: what an account has once, one of its parts, and the sum at the end.
-use Rattle.std.specs.Prelude.{Bool, true, false, ◌&&◌, ℕ, ◌<◌, ◌≤◌, ◌^◌, ◌==◌, List, [], ◌∷◌, codes, decimal, cond, nat_lt, Option, Some, None, option_and_then, option_map, option_to_list}
+use Rattle.std.specs.Prelude.{Bool, false, ◌&&◌, ℕ, ◌^◌, List, [], ◌∷◌, codes, decimal, cond, nat_lt, Option, Some, None, option_and_then, option_map, option_to_list}
 use Rattle.accountfiles.specs.Netstring.{same_text, number_in}
 use Rattle.accountfiles.specs.declared.head.Owner.{Owner}
 use Rattle.accountfiles.specs.declared.head.Numbers.{Numbers}

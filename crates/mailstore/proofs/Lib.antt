@@ -30,6 +30,7 @@ pub mod PlaceLemmas
 pub mod NextLemmas
 pub mod UserLemmas
 pub mod WalkLemmas
+mod WholeExamples
 pub mod WholeLemmas
 pub mod UserExamples
 pub mod ListedLemmas

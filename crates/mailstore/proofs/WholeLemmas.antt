@@ -112,10 +112,10 @@ bare_head head b copy notice replies own is =
     let row = account_row user b copy notice in
     record {
       account_is =
-        ap (λ rows. up four (up three (up two (up one rows)))) is.account_is
-        ∙ (ap (λ rows. up four (up three (up two rows))) (row_set user (drop 1 row) one)
-        ∙ (ap (λ rows. up four (up three rows)) (row_set user (drop 1 (one row)) two)
-        ∙ (ap (up four) (row_set user (drop 1 (two (one row))) three) ∙ row_set user (drop 1 (three (two (one row)))) four)));
+          ap (λ rows. up four (up three (up two (up one rows)))) is.account_is
+          ∙ (ap (λ rows. up four (up three (up two rows))) (row_set user (drop 1 row) one)
+          ∙ (ap (λ rows. up four (up three rows)) (row_set user (drop 1 (one row)) two)
+          ∙ (ap (up four) (row_set user (drop 1 (two (one row))) three) ∙ row_set user (drop 1 (three (two (one row)))) four)));
       scripts = is.scripts;
       queue = is.queue;
       replies_are = is.replies_are;

@@ -120,7 +120,13 @@ fn push_part<'a>(
             number,
             folder,
             message,
-        } => push_mail(changes, user, folder.as_slice(), *number, message.as_slice()),
+        } => push_mail(
+            changes,
+            user,
+            folder.as_slice(),
+            *number,
+            message.as_slice(),
+        ),
         Part::Copy {
             number: n,
             folder,
@@ -286,11 +292,7 @@ fn push_emptying<'a>(changes: &mut Vec<Change<'a>>, user: &'a [u8]) -> Result<()
 }
 
 /// All changes of a new account.
-fn added<'a>(
-    alloc: Global,
-    head: &'a Head,
-    parts: &'a [Part],
-) -> Result<Vec<Change<'a>>, Refusal>
+fn added<'a>(alloc: Global, head: &'a Head, parts: &'a [Part]) -> Result<Vec<Change<'a>>, Refusal>
     ensures made { IfOk result (λ changes. IsMaking head.now.owner.name (account_made head.now) head.now parts.now changes.items) }
     ensures named { IfErr result IsTransient }
 {
@@ -302,11 +304,7 @@ fn added<'a>(
 }
 
 /// All changes of an account in place of one that is there.
-fn renewed<'a>(
-    alloc: Global,
-    head: &'a Head,
-    parts: &'a [Part],
-) -> Result<Vec<Change<'a>>, Refusal>
+fn renewed<'a>(alloc: Global, head: &'a Head, parts: &'a [Part]) -> Result<Vec<Change<'a>>, Refusal>
     ensures made { IfOk result (λ changes. IsMaking head.now.owner.name (emptied_by head.now.owner.name) head.now parts.now changes.items) }
     ensures named { IfErr result IsTransient }
 {

@@ -1,5 +1,4 @@
 -- What the line's fields say, and where they say none.
-use Rattle.std.proofs.Common.{sym, ◌∙◌}
 use Rattle.accountfiles.proofs.FieldLemmas.{numbers_codec}
 use Rattle.accountfiles.proofs.EntryLemmas.{line_says, line_says_none}
 use Rattle.accountfiles.proofs.entry.take_numbers.Goals as goal

@@ -1,4 +1,4 @@
-use Rattle.std.proofs.Common.{◌≡◌, List, [], sym, ◌∙◌, ap, subst}
+use Rattle.std.proofs.Common.{sym, ◌∙◌, subst}
 use Rattle.accountfiles.specs.Netstring.{CutsAt}
 use Rattle.accountfiles.proofs.CutLemmas.{cut_there, none_there, no_octets}
 use Rattle.accountfiles.proofs.netstring.cut_at_colon.Goals as goal

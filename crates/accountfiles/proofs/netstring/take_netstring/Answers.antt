@@ -1,6 +1,5 @@
 -- What is cut at the first colon is the length; the text of that length is the netstring's, and no other.
-use Rattle.std.proofs.Common.{◌≡◌, ℕ, List, ◌++◌, length, Option, Some, None, sym, ◌∙◌, ap, arith}
-use Rattle.accountfiles.specs.Netstring.{netstring, IsField}
+use Rattle.std.proofs.Common.{◌≡◌, length, Some, None, ◌∙◌, arith}
 use Rattle.accountfiles.proofs.NetstringLemmas.{netstring_then, length_found, taken_made, taken_none}
 use Rattle.accountfiles.proofs.netstring.take_netstring.Goals as goal
 

@@ -1,5 +1,5 @@
 -- Part after part is read, and the text ends where that of an account does.
-use Rattle.std.proofs.Common.{◌≡◌, ◌∙◌, ◌-◌, ◌++◌, List, Option, None, length, take, slice_get, sym, ap, subst}
+use Rattle.std.proofs.Common.{◌≡◌, ◌∙◌, ◌-◌, ◌++◌, None, length, take, slice_get, sym, ap, subst}
 use Rattle.std.specs.Prelude.{option_copied}
 use Rattle.std.proofs.lemmas.Result.{err_from_is_err_and}
 use Rattle.accountfiles.specs.Netstring.{line, AreFields}

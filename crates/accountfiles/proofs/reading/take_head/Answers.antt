@@ -1,5 +1,5 @@
 -- A text with other lines in front has other things once.
-use Rattle.std.proofs.Common.{◌≡◌, ◌∙◌, sym, ap, true, false}
+use Rattle.std.proofs.Common.{◌≡◌, ◌∙◌, ap, true, false}
 use Rattle.std.proofs.lemmas.Result.{err_from_is_err_and}
 use Rattle.accountfiles.specs.Order.{are_numbers}
 use Rattle.accountfiles.proofs.ReadLemmas.{head_then, owner_next, numbers_next, numbers_same, numbers_fields_small, head_numbers}

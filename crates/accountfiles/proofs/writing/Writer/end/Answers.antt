@@ -1,5 +1,5 @@
 -- The hash is that of all that was handed out.
-use Rattle.std.proofs.Common.{◌≡◌, List, [], ◌∷◌, ◌++◌, ℕ, codes, ap, ◌∙◌}
+use Rattle.std.proofs.Common.{[], ◌∷◌, ◌++◌, codes, ap, ◌∙◌}
 use Rattle.hex.specs.Hex.{encode_lower}
 use Rattle.accountfiles.specs.Netstring.{line}
 use Rattle.accountfiles.proofs.writing.Writer.end.Goals as goal
