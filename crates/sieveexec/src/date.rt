@@ -51,12 +51,7 @@ pub(crate) fn current_holds(
     ensures { IfOk result (λ holds. holds ≡ truth.current_holds mail.now test.now) }
 {
     if is_count(test.matching) {
-        return Ok(count_matches(
-            test.comparator,
-            test.matching,
-            test.keys.as_slice(),
-            1,
-        ));
+        return Ok(count_matches(test.comparator, test.matching, test.keys.as_slice(), 1));
     }
     let zone = test.zone.unwrap_or(mail.zone());
     match at_moment(mail.moment(), zone) {
@@ -154,11 +149,7 @@ fn at_moment(moment: u64, zone: i16) -> Option<DateTime>
 }
 
 /// The date in the first field of a name, whose ASCII case is ignored. Linear in its value.
-fn field_date(
-    alloc: Global,
-    mail: &Mail<'_>,
-    name: &[u8],
-) -> Result<Option<DateTime>, AllocError>
+fn field_date(alloc: Global, mail: &Mail<'_>, name: &[u8]) -> Result<Option<DateTime>, AllocError>
     ensures is { IfOk result (λ found. found ≡ dates.field_date mail.now name.now) }
     ensures valid { IfOk result (λ found. IfSome found IsDateTime) }
 {

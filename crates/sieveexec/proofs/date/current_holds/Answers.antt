@@ -35,5 +35,5 @@ returns-in-None c =
     let host = to_z-of_z w16 c.zone.result near ∙ c.zone.ensures.zone in
     let clock = to_z-of_z w16 c.unwrap_or-zone.result fits ∙ (c.unwrap_or-zone.ensures ∙ ap (unwrap_or test.zone) host) in
     let none : (date : DateTime) → IsMoment mail.moment zone date → ⊥ =
-        λ date is. c.in-None.ensures date (moment_as _ _ _ _ date (sym c.moment.ensures) (sym clock) is) in
+    λ date is. c.in-None.ensures date (moment_as _ _ _ _ date (sym c.moment.ensures) (sym clock) is) in
     other_asked (is_count test.matching) _ _ _ (sym c.is_count.ensures ∙ c.if-is_count.false) (moment_nowhere mail.moment zone passes none)
