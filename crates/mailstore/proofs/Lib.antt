@@ -30,7 +30,6 @@ pub mod PlaceLemmas
 pub mod NextLemmas
 pub mod UserLemmas
 pub mod WalkLemmas
-mod WholeExamples
 pub mod WholeLemmas
 pub mod UserExamples
 pub mod ListedLemmas
