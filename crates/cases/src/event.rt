@@ -31,7 +31,11 @@ impl<'a> Post<'a> {
         match section.name {
             "from" => next.from = text,
             "zone" => next.zone = text,
-            "default" => next.default = if section.note == "none" { None } else { Some(section.text) },
+            "default" => next.default = if section.note == "none" {
+                None
+            } else {
+                Some(section.text)
+            },
             _ => next.moment = number(text),
         }
         next

@@ -56,7 +56,15 @@ impl Shelf for MemShelf {
                 password,
             } => {
                 let (name, address) = (name.as_slice(), address.as_slice());
-                add_user(alloc, &mut self.store, name, address, *salt, password.as_slice()).is_ok()
+                add_user(
+                    alloc,
+                    &mut self.store,
+                    name,
+                    address,
+                    *salt,
+                    password.as_slice(),
+                )
+                .is_ok()
             }
             Event::TakeOut { user, id } => {
                 take_out(&mut self.store, user.as_slice(), *id).is_ok()

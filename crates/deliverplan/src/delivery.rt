@@ -61,11 +61,7 @@ pub fn plan<'m>(
 }
 
 /// The message joins INBOX, and the user is left a notice.
-fn leave_notice<'m>(
-    alloc: Global,
-    mail: &'m Mail<'_>,
-    text: &[u8],
-) -> Result<Plan<'m>, AllocError>
+fn leave_notice<'m>(alloc: Global, mail: &'m Mail<'_>, text: &[u8]) -> Result<Plan<'m>, AllocError>
     ensures { IfOk result (IsNoticePlan mail.now.moment mail.now text.now) }
 {
     let filed = inbox(alloc)?;

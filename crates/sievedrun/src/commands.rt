@@ -20,8 +20,8 @@ use crate::values::{decimal, envelope_of, first_line, given_salt, when_of};
 use keepers::Keeper;
 use mailengine::{Envelope, Report, add_user, deliver};
 use mailstore::Store;
-use sieveexec::When;
 use sievedwords::{AddUser, Deliver, Init, Show, StoreLocation};
+use sieveexec::When;
 use std::alloc::Global;
 use std::io::{Read, Write};
 
@@ -116,7 +116,7 @@ pub fn run_deliver<R: Read, W: Write, K: Keeper>(
     ensures does { IsTrue K.tells → DoesEvent (PostFailed (option_copied asked.entry.at) clock) (HasNoWhen (option_copied asked.entry.at) (option_copied asked.entry.zone))
         (DeniedAtEnd (HasDenied K.refuses K.will_wait asked.entry.location) (R.remaining input.new))
         (Posts asked.entry.from.now asked.entry.to.now (option_copied asked.entry.at) (option_copied asked.entry.zone) asked.entry.user.now clock (contents default.entry)
-            (R.remaining input.old))
+        (R.remaining input.old))
         (W.contents output.old) (W.contents output.new) result (K.holds keeper.old) (K.holds keeper.new) }
     ensures given { OnOk result (HasGiven K.gives K.will_wait asked.entry.location) }
 {

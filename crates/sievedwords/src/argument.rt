@@ -218,7 +218,8 @@ impl Argument {
             Argument::AnyTo => "The envelope's recipient [default: none]",
             Argument::At => "Seconds since 1970 [default: the clock]",
             Argument::TrialAt => "Seconds since 1970 [default: 0]",
-            Argument::Zone => "The zone: +HHMM, or a rule as CET-1CEST,M3.5.0,M10.5.0/3 [default: +0000]",
+            Argument::Zone =>
+                "The zone: +HHMM, or a rule as CET-1CEST,M3.5.0,M10.5.0/3 [default: +0000]",
             Argument::Default => "The script for accounts without an active one",
             Argument::Salt => "16 random octets in hexadecimal [default: the system's]",
             Argument::Name => "1 to 64 of letters, digits and . _ - @",

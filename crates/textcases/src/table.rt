@@ -1,7 +1,7 @@
 //! The files of cases whose answers need no store.
 use crate::{
-    account_file, address, ascii, comparison, date_part, fault, head, item, line, login, reply, token, vacation,
-    word,
+    account_file, address, ascii, comparison, date_part, fault, head, item, line, login, reply,
+    token, vacation, word,
 };
 use casefiles::{Answers, Tally, try_rows};
 use octets::Octets;

@@ -14,12 +14,13 @@ pub returns-in-Some : goal.returns-in-Some
 returns-in-Some g c =
     let view = view_of g.K.S.Store g.K.Keeper.tells g.K.Keeper.holds in
     let when = c.when_in-when.result in
-    let same : contents c.slice_of.result ≡ c.args.self.now.default = c.slice_of.ensures ∙ c.reach.ensures.default ∙ c.may_ask.ensures.default in
-    (when,
-    subst (λ default. (kept : Kept) → Brings g.K.S.Store g.K.Keeper.tells g.K.Keeper.holds (delivery_of c.args.parcel.now (terms when default)) (Some c.told_as.result) c.args.self.now.held kept c.deliver.new.self kept) same
-    (λ kept clean. told_done view c.args.parcel.now (terms_of when c.slice_of.result) c.in-Some.answer c.told_as.result _ c.args.self.now.held _ kept c.told_as.ensures
-        (done_behind view c.args.self.now.held c.reach.new.self.held c.deliver.new.self (delivery_of c.args.parcel.now (terms_of when c.slice_of.result)) c.in-Some.answer kept kept
-        (still_then view c.args.self.now.held c.may_ask.new.self.held c.reach.new.self.held c.may_ask.ensures.shown c.reach.ensures.shown) (c.in-Some.ensures kept clean))))
+    let same : contents c.slice_of.result ≡ c.args.self.now.default = c.slice_of.ensures ∙ c.reach.ensures.default ∙ c.may_ask.ensures.default in (
+      when,
+      subst (λ default. (kept : Kept) → Brings g.K.S.Store g.K.Keeper.tells g.K.Keeper.holds (delivery_of c.args.parcel.now (terms when default)) (Some c.told_as.result) c.args.self.now.held kept c.deliver.new.self kept) same
+          (λ kept clean. told_done view c.args.parcel.now (terms_of when c.slice_of.result) c.in-Some.answer c.told_as.result _ c.args.self.now.held _ kept c.told_as.ensures
+          (done_behind view c.args.self.now.held c.reach.new.self.held c.deliver.new.self (delivery_of c.args.parcel.now (terms_of when c.slice_of.result)) c.in-Some.answer kept kept
+          (still_then view c.args.self.now.held c.may_ask.new.self.held c.reach.new.self.held c.may_ask.ensures.shown c.reach.ensures.shown) (c.in-Some.ensures kept clean))),
+    )
 
 pub returns-in-None : goal.returns-in-None
 returns-in-None g c = (
