@@ -2,7 +2,7 @@
 use casefiles::Part::{Number, Text};
 use casefiles::add_parts;
 use octets::Octets;
-use sievelex::{Content, Mark, ScriptError, Token, tokens};
+use sievelex::{Content, Mark, Said, ScriptError, Token, tokens};
 use std::alloc::{AllocError, Global};
 use std::format;
 
@@ -21,7 +21,7 @@ fn add_error(alloc: Global, out: &mut Octets, error: &ScriptError) -> Result<(),
     }
 }
 
-fn add_all(out: &mut Octets, found: &[Token]) -> Result<(), AllocError> {
+fn add_all(out: &mut Octets, found: &[Token<'_>]) -> Result<(), AllocError> {
     let mut between: &[u8] = b"";
     for token in found {
         add(out, between, token)?;
@@ -30,13 +30,13 @@ fn add_all(out: &mut Octets, found: &[Token]) -> Result<(), AllocError> {
     Ok(())
 }
 
-fn add(out: &mut Octets, between: &[u8], token: &Token) -> Result<(), AllocError> {
+fn add(out: &mut Octets, between: &[u8], token: &Token<'_>) -> Result<(), AllocError> {
     out.extend_from_slice(between)?;
     add_content(out, &token.content)?;
     add_place(out, token)
 }
 
-fn add_content(out: &mut Octets, content: &Content) -> Result<(), AllocError> {
+fn add_content(out: &mut Octets, content: &Content<'_>) -> Result<(), AllocError> {
     match content {
         Content::Identifier(name) => add_said(out, b"Identifier", name),
         Content::Tag(name) => add_said(out, b"Tag", name),
@@ -46,14 +46,14 @@ fn add_content(out: &mut Octets, content: &Content) -> Result<(), AllocError> {
     }
 }
 
-fn add_said<'a>(out: &mut Octets, kind: &'a [u8], said: &'a Octets) -> Result<(), AllocError> {
+fn add_said<'a>(out: &mut Octets, kind: &'a [u8], said: &'a Said<'_>) -> Result<(), AllocError> {
     add_parts(
         out,
         &[Text(kind), Text(b" <"), Text(said.as_slice()), Text(b"> ")],
     )
 }
 
-fn add_place(out: &mut Octets, token: &Token) -> Result<(), AllocError> {
+fn add_place(out: &mut Octets, token: &Token<'_>) -> Result<(), AllocError> {
     let (start, end) = (token.start as u64, token.end as u64);
     add_parts(
         out,
