@@ -54,6 +54,16 @@ def says():
         assert told_of(store, *db, *port, "--memory", size, "--check") == (64, "", "sieved: bad argument\n"), size
     for size in "1", "064", "65536":
         assert told_of(store, *db, *port, "--memory", size, "--check") == (0, "", ""), size
+    for zone in "+2400", "-0060", "Europe/Berlin", "ABC24", "":
+        assert told_of(store, *db, *port, "--zone", zone, "--check") == (64, "", "sieved: bad argument\n"), zone
+    script = f"{store.folder.name}/default.sieve"
+    assert told_of(store, *db, *port, "--default", script) == (75, "", f"{script}: no such file\n")
+    open(script, "w").write("keep;\nfrob;\n")
+    assert told_of(store, *db, *port, "--default", script) == (65, f"{script}:2: unknown command\n", "")
+    open(script, "w").write(" " * 262140 + "keep;")
+    assert told_of(store, *db, *port, "--default", script, "--check") == (65, "", f"{script}: script too large\n")
+    open(script, "w").write(" " * 262139 + "keep;")
+    assert told_of(store, *db, *port, "--default", script, "--zone", "CET-1CEST,M3.5.0,M10.5.0/3", "--check") == (0, "", "")
     for file in absent, foreign:
         assert told_of(store, "--db", file, *port) == (65, "", "sieved: not a sieved database\n"), told_of(store, "--db", file, *port)
         assert told_of(store, "--db", file, *port, "--check") == (65, "", "sieved: not a sieved database\n")

@@ -210,6 +210,30 @@ def scripts():
     return "a script that is put and set works for the next message; replies tell what was done, one a recipient"
 
 
+def default():
+    """A host's default script, for accounts without an active one alone, and a daemon that doesn't begin with a wrong one."""
+    store = new_store("alice", "bob")
+    script = f"{store.folder.name}/default.sieve"
+    open(script, "w").write('require ["fileinto", "vacation"];\nfileinto "Junk";\nvacation "Away";\n')
+    words = "--managesieve", "0", "--lmtp", "0", "--default", script, "--zone", "CET-1CEST,M3.5.0,M10.5.0/3"
+    server, sieve, port = daemon(store, *words)
+    client = connect(sieve)
+    client.log_in("alice")
+    peer = Peer(port)
+    greet(peer)
+    text = b"From: bob@example.net\r\nTo: alice@example.org, bob@example.org\r\nSubject: Lunch\r\n\r\nHi\r\n"
+    told = peer.deliver(text, b"alice@example.org", b"bob@example.org", sender=b"bob@example.net")
+    assert told == [b"250 2.1.5 file Junk, vacation sent\r\n"] * 2, told
+    assert client.put(b"main", b"keep;\r\n").startswith(b"OK")
+    told = peer.deliver(text, b"alice@example.org", sender=b"bob@example.net")
+    assert told == [b"250 2.1.5 file Junk, vacation quiet 9\r\n"], told
+    assert client.ask(b'SETACTIVE "main"')[-1].startswith(b"OK")
+    told = peer.deliver(text, b"alice@example.org", b"bob@example.org", sender=b"dana@example.net")
+    assert told == [b"250 2.1.5 file INBOX\r\n", b"250 2.1.5 file Junk, vacation sent\r\n"], told
+    end(server)
+    return "filed and answered by it without an active script, and with one that isn't active; never with an active one"
+
+
 def circles():
     """A message that was delivered to the recipient before, and Return-Path lines that it came with."""
     store = new_store("alice")
@@ -408,7 +432,7 @@ def killed():
     return done.stdout.strip()
 
 
-TRIALS = {"dialogues": dialogues, "names": names, "scripts": scripts, "circles": circles, "thousand": thousand, "room": room, "little_room": little_room, "broken_off": broken_off, "away": away,
+TRIALS = {"dialogues": dialogues, "names": names, "scripts": scripts, "default": default, "circles": circles, "thousand": thousand, "room": room, "little_room": little_room, "broken_off": broken_off, "away": away,
           "sockets": sockets, "killed": killed}
 
 
