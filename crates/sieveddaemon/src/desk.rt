@@ -1,5 +1,5 @@
 //! The store, as the daemon sees it.
-ghost use Rattle.std.specs.Prelude.{List, IsTrue, IfSome};
+ghost use Rattle.std.specs.Prelude.{ℕ, List, Option, IsTrue, IfSome};
 ghost use Rattle.mailposts.specs.Posts.{IsFound};
 ghost use Rattle.mailengine.specs.Hosts.{IsGivenUp};
 ghost use Rattle.wires.specs.declared.act.Act.TheVariants.{Noted};
