@@ -1,2 +1,37 @@
 -- The script was tried with the envelope, or there was no memory for one; or a value of the words is none.
+use Rattle.std.proofs.Common.{◌≡◌, None, Some, Err, inl, inr, refl, sym, ap, ◌∙◌, subst}
+use Rattle.sievedrun.specs.Faults.{memory, status_of, line_of}
+use Rattle.sievedrun.specs.Streams.{IsWritten}
+use Rattle.sievedrun.specs.TryScript.{Runs}
+use Rattle.sievedrun.specs.declared.fault.Fault.{Fault}
+use Rattle.sievedrun.proofs.WordLemmas.{kept_same}
 use Rattle.sievedrun.proofs.drive.try_script.Goals as goal
+
+pub returns-in-Err-clause-runs : goal.returns-in-Err-clause-runs
+returns-in-Err-clause-runs g c =
+    elim c.in-Err.ensures.fault [
+      | inl bad ↦ inr (
+        bad.1,
+        c.refuse.ensures.status ∙ ap status_of bad.0,
+        refl,
+        subst (λ (fault : Fault). IsWritten (g.E.Write.contents c.args.errors.now) (g.E.Write.contents c.refuse.new.errors) (line_of fault)) bad.0 c.refuse.ensures.line
+      )
+      | inr clock ↦ let no : Some 0 ≡ None = clock.2 in absurd (cc)
+    ]
+
+pub returns-in-Ok-envelope_of-clause-runs : goal.returns-in-Ok-envelope_of-clause-runs
+returns-in-Ok-envelope_of-clause-runs g c =
+    inl (
+      c.in-Ok.when,
+      c.in-Ok.ensures.ok,
+      subst (λ envelope. Runs envelope c.in-Ok.when (g.R.Read.remaining c.args.input.now) (g.W.Write.contents c.args.output.now) (g.W.Write.contents c.try_run.new.output) (g.E.Write.contents c.args.errors.now) (g.E.Write.contents c.try_run.new.errors) c.try_run.result)
+      c.in-Ok-envelope_of.ensures c.try_run.ensures.runs
+    )
+
+pub returns-in-Err-envelope_of-clause-runs : goal.returns-in-Err-envelope_of-clause-runs
+returns-in-Err-envelope_of-clause-runs g c =
+    inl (
+      c.in-Ok.when,
+      c.in-Ok.ensures.ok,
+      record { ending = Err memory; told = c.refuse-in-Err-envelope_of.ensures.status; output = kept_same (g.W.Write.contents c.args.output.now); errors = c.refuse-in-Err-envelope_of.ensures.line }
+    )
