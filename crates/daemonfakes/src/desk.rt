@@ -1,5 +1,5 @@
 //! The outside of the daemon, in memory.
-ghost use Rattle.std.specs.Prelude.{◌≡◌, [], ◌∷◌, ◌++◌, true, false, IsTrue, IfSome, not};
+ghost use Rattle.std.specs.Prelude.{◌≡◌, [], ◌∷◌, ◌++◌, true, false, IsTrue, IfSome, not, None};
 ghost use Rattle.wires.specs.Told.{IsOwn, TellsIf};
 ghost use Rattle.wires.specs.declared.act.Act.TheVariants.{Noted};
 ghost use Rattle.mailengine.specs.Hosts.{Kept, IsGivenUp};

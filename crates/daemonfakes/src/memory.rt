@@ -1,6 +1,7 @@
 //! Accounts in a store in memory.
 ghost use Rattle.std.specs.Prelude.{◌≡◌};
 ghost use Rattle.mailengine.specs.declared.event.Event.TheVariants.{Deliver};
+ghost use Rattle.mailstore.specs.Cells.{contents};
 ghost use Rattle.daemonfakes.specs.Shelves.{IsLet};
 ghost use Rattle.daemonfakes.specs.Memory.{memory_view_of};
 
@@ -12,7 +13,9 @@ use mailengine::{
 use mailmoves::{Moving, Route, move_next};
 use mailsinks::MemorySink;
 use mailstore::Store;
+use octets::Octets;
 use sieveddaemon::account::find_account;
+use sieveexec::When;
 use sqlite::MemStore;
 use std::alloc::{AllocError, Global};
 
@@ -44,10 +47,19 @@ impl Shelf for MemShelf {
                 user,
                 envelope,
                 message,
-                moment,
+                when,
+                default,
             } => {
                 let (user, message) = (user.as_slice(), message.as_slice());
-                let_delivery(alloc, &mut self.store, user, envelope, message, *moment)
+                let_delivery(
+                    alloc,
+                    &mut self.store,
+                    user,
+                    envelope,
+                    message,
+                    *when,
+                    default,
+                )
             }
             Event::AddUser {
                 name,
@@ -95,12 +107,24 @@ fn let_delivery(
     user: &[u8],
     envelope: &Envelope,
     message: &[u8],
-    moment: u64,
+    when: When,
+    default: &Option<Octets>,
 ) -> bool
-    ensures { IsLet memory_view_of (Deliver user.now envelope.now message.now moment) result store.old store.new }
+    ensures { IsLet memory_view_of (Deliver user.now envelope.now message.now when default.now) result store.old store.new }
 {
     let Ok(envelope) = envelope.try_clone(alloc) else {
         return false;
     };
-    deliver(alloc, store, user, envelope, message, moment).is_ok()
+    let default = slice_of(default);
+    deliver(alloc, store, user, envelope, message, when, default).is_ok()
+}
+
+/// The text's octets, if there is one.
+fn slice_of(text: &Option<Octets>) -> Option<&[u8]>
+    ensures { contents result ≡ text.now }
+{
+    match text {
+        Some(text) => Some(text.as_slice()),
+        None => None,
+    }
 }

@@ -6,6 +6,7 @@ use Rattle.mailengine.specs.AccountEvents.{Delivery}
 use Rattle.mailengine.specs.Hosts.{ActsDelivery, MayRefuseDelivery}
 use Rattle.mailengine.specs.declared.answer.Answer.TheVariants.{Delivered}
 use Rattle.mailengine.specs.declared.event.Event.TheVariants.{Deliver}
+use Rattle.mailengine.specs.Terms.{terms}
 use Rattle.mailengine.proofs.HostLemmas.{delivery_may}
 use Rattle.daemonfakes.proofs.MemoryLemmas.{lets_by}
 use Rattle.daemonfakes.proofs.memory.let_delivery.Goals as goal
@@ -15,7 +16,12 @@ returns c =
     let user = c.args.user.now in
     let envelope = c.args.envelope.now in
     let message = c.args.message.now in
+    let when = c.args.when in
+    let default = c.args.default.now in
+    let old = state over_memory c.args.store.now in
+    let new = state over_memory c.deliver.new.store in
     let is : c.is_ok.result ≡ is_ok c.deliver.result = search rules in
-    let acts = subst (λ e. ActsDelivery user e message c.args.moment (state over_memory c.args.store.now) (state over_memory c.deliver.new.store) c.deliver.result) c.in-Ok.ensures c.deliver.ensures.acts in
-    lets_by (Deliver user envelope message c.args.moment) (λ accounts. Delivery accounts user envelope message c.args.moment) (MayRefuseDelivery envelope message c.args.moment) (delivery_may user message envelope c.args.moment)
+    let told = subst (λ d. ActsDelivery user c.in-Ok.envelope message (terms when d) old new c.deliver.result) c.slice_of-default.ensures c.deliver.ensures.acts in
+    let acts = subst (λ e. ActsDelivery user e message (terms when default) old new c.deliver.result) c.in-Ok.ensures told in
+    lets_by (Deliver user envelope message when default) (λ accounts. Delivery accounts user envelope message (terms when default)) (MayRefuseDelivery envelope message when.moment) (delivery_may user message envelope when default)
     (λ w answer later row. (later, row, refl)) c.args.store.now c.deliver.new.store Delivered c.deliver.result c.is_ok.result is acts
