@@ -157,15 +157,14 @@ fn add_messages(out: &mut Octets, messages: &[KeptMail]) -> Result<(), AllocErro
 }
 
 /// Appends what comes of a row that any keeper can have: `run`, `full`, `write N`, `default TEXT`, `timeless` and `said` are runs of the
-/// program, `send` is a
-/// command, and `greet`, `talk`, `gone` and `deaf` are sessions.
-pub fn answer<K: Keeper, T: MailSink>(
+/// program, `send` is a command, and `greet`, `talk`, `gone` and `deaf` are sessions.
+pub fn answer<'a, K: Keeper, T: MailSink>(
     alloc: Global,
     out: &mut Octets,
     keeper: &mut K,
     sink: &mut T,
-    path: &str,
-    given: &[Octets],
+    path: &'a str,
+    given: &'a [Octets],
 ) -> Result<(), AllocError> {
     let [call, text, input] = given else {
         return out.extend_from_slice(b"not that many columns");
