@@ -50,7 +50,7 @@ module _ (accounts later : Accounts) (user : List ℕ) (terms : Terms) (envelope
   never_in None it = of_store (absence (get accounts user)) (absence_seen (get accounts user)) it.refused
   never_in (Some a) it = let is = it.reported in let no : ⊥ = cc in absurd no
 
-  never_under : (o : Option Refusal) → ((e : Refusal) → o ≡ Some e → is_seen e ≡ true) → DeliversUnder o accounts user moment envelope message (Refused Store) later → C
+  never_under : (o : Option Refusal) → ((e : Refusal) → o ≡ Some e → is_seen e ≡ true) → DeliversUnder o accounts user terms envelope message (Refused Store) later → C
   never_under None seen it = never_in (open_of accounts user) it
   never_under (Some e) seen it = of_store e (seen e refl) it.refused
 

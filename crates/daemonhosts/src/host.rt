@@ -137,6 +137,13 @@ impl<'a, N: Net + time::Clock, E: Write + Drop, K: Keeper + Drop, T: MailSink + 
         awaited
     }
 
+    /// Whether the store is to be given back: it failed, or somebody waits for it.
+    fn is_wanted(&mut self) -> bool
+        ensures { StillShown K.S.Store K.tells K.holds self.old.held self.new.held }
+    {
+        self.news.has_failed() || self.is_awaited()
+    }
+
     /// Brings an event to the store, where that may be asked and is to be had.
     fn ask(&mut self, id: u32, clients: &mut Clients, event: &Event) -> Option<Answer>
         requires { ¬ IsGivenUp event.now }
@@ -172,12 +179,12 @@ impl<'a, N: Net + time::Clock, E: Write + Drop, K: Keeper + Drop, T: MailSink + 
         ensures { (when : When) × ((kept : Kept) → Brings K.S.Store K.tells K.holds (delivery_of parcel.now (terms when self.old.default)) result
             self.old.held kept self.new.held kept) }
     {
+        let when = when_in(self.system, &self.zone);
         if !self.may_ask(id) {
             return None;
         }
         let begun = start(self.system);
         self.reach();
-        let when = when_in(self.system, &self.zone);
         match self
             .held
             .deliver(self.alloc, parcel, when, slice_of(&self.default))
@@ -492,7 +499,7 @@ impl<N: Net + time::Clock, E: Write + Drop, K: Keeper + Drop, T: MailSink + Drop
     }
 
     fn look(&mut self, rests: bool) -> bool {
-        let wanted = self.news.has_failed() || self.is_awaited();
+        let wanted = self.is_wanted();
         let gives = rests || wanted;
         if gives {
             self.give_back();
