@@ -14,7 +14,7 @@ returns-in-Err-clause-runs g c =
         bad.1,
         c.refuse.ensures.status ∙ ap status_of bad.0,
         refl,
-        subst (λ (fault : Fault). IsWritten (g.E.Write.contents c.args.errors.now) (g.E.Write.contents c.refuse.new.errors) (line_of fault)) bad.0 c.refuse.ensures.line
+        subst (λ (fault : Fault). IsWritten (g.E.Write.contents c.args.errors.now) (g.E.Write.contents c.refuse.new.errors) (line_of fault)) bad.0 c.refuse.ensures.line,
       )
       | inr clock ↦ let no : Some 0 ≡ None = clock.2 in absurd (cc)
     ]
@@ -25,7 +25,7 @@ returns-in-Ok-envelope_of-clause-runs g c =
       c.in-Ok.when,
       c.in-Ok.ensures.ok,
       subst (λ envelope. Runs envelope c.in-Ok.when (g.R.Read.remaining c.args.input.now) (g.W.Write.contents c.args.output.now) (g.W.Write.contents c.try_run.new.output) (g.E.Write.contents c.args.errors.now) (g.E.Write.contents c.try_run.new.errors) c.try_run.result)
-      c.in-Ok-envelope_of.ensures c.try_run.ensures.runs
+          c.in-Ok-envelope_of.ensures c.try_run.ensures.runs,
     )
 
 pub returns-in-Err-envelope_of-clause-runs : goal.returns-in-Err-envelope_of-clause-runs
@@ -33,5 +33,5 @@ returns-in-Err-envelope_of-clause-runs g c =
     inl (
       c.in-Ok.when,
       c.in-Ok.ensures.ok,
-      record { ending = Err memory; told = c.refuse-in-Err-envelope_of.ensures.status; output = kept_same (g.W.Write.contents c.args.output.now); errors = c.refuse-in-Err-envelope_of.ensures.line }
+      record { ending = Err memory; told = c.refuse-in-Err-envelope_of.ensures.status; output = kept_same (g.W.Write.contents c.args.output.now); errors = c.refuse-in-Err-envelope_of.ensures.line },
     )

@@ -8,5 +8,5 @@ pub returns-in-Ok-clause-delivers : goal.returns-in-Ok-clause-delivers
 returns-in-Ok-clause-delivers g c = (
   c.in_utc-when.result,
   subst (λ e. Carries (is_told {S = g.row.S.Denot}) (told_by {S = g.row.S.Denot}) (shelf_of {S = g.row.S.Denot}) g.S.Shelf.view (λ x. Unit {0}) c.args.id e c.args.self.now c.args.clients.now.sessions c.bring.result c.bring.new.self c.bring.new.clients.sessions)
-  c.in-Ok.ensures c.bring.ensures.brings,
+      c.in-Ok.ensures c.bring.ensures.brings,
 )
