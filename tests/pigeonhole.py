@@ -6,8 +6,9 @@
 A script has six rules, each of which files into a folder of its own where its test holds; the tests, their keys and the messages
 are drawn with a fixed seed, so that keys are near to what the messages have. 20,000 scripts are tried, with --quick 2,000. What
 DECISIONS explains, and what `sieve-test` can't be given, isn't drawn: a null sender, one part of the envelope named twice, dates
-that only one of the two reads, zones that are none. A script at which sieve-test itself breaks off (some patterns of `:matches`) is
-passed over. The moment is that of the run, the host's zone UTC. It needs root and dovecot-sieve; sieve-test runs as nobody.
+that only one of the two reads, zones that are none, `:count` of parts of addresses, keys that are no number with
+`i;ascii-numeric`, `:value` with `i;ascii-casemap`, `?` in patterns. A script at which sieve-test itself breaks off is passed over.
+The moment is that of the run, the host's zone UTC. It needs root and dovecot-sieve; sieve-test runs as nobody.
 """
 import base64, os, random, re, subprocess, sys, tempfile, time
 from datetime import datetime, timedelta, timezone
@@ -132,17 +133,18 @@ def strings(draw, make, most=3):
 
 
 def pattern(draw):
-    return "".join(draw.choice(["*", "?", "l", "a", "lunch", "@", "example", ".", "org", " ", "\\*", "\\?", "\\\\", "1"]) for _ in range(draw.randint(0, 5)))
+    return "".join(draw.choice(["*", "l", "a", "lunch", "@", "example", ".", "org", " ", "\\*", "\\\\", "1"]) for _ in range(draw.randint(0, 5)))
 
 
 def number(draw):
-    return draw.choice(["0", "1", "2", "3", "9", "10", "010", "", "x", "2x", "18446744073709551616", "99999999999999999999"])
+    return draw.choice(["0", "1", "2", "3", "9", "10", "010", "2x"])
+
 
 
 def matching(draw, key):
     """The tags of a comparator and a match type, in either order, and what draws keys for them."""
     kind = draw.choice(["", ":is", ":contains", ":matches", ":value", ":count"])
-    comparator = draw.choice(["", "i;octet", "i;ascii-casemap"] + ["i;ascii-numeric"] * (kind not in (":contains", ":matches")))
+    comparator = draw.choice((["i;octet"] if kind == ":value" else ["", "i;octet", "i;ascii-casemap"]) + ["i;ascii-numeric"] * (kind not in (":contains", ":matches")))
     tags = []
     if kind:
         tags.append(kind + (f' "{draw.choice(RELATIONS)}"' if kind in (":value", ":count") else ""))
@@ -175,7 +177,7 @@ def test(draw, size, depth=0):
     if kind in ("header", "address", "envelope"):
         tags, key = matching(draw, word if kind == "header" else address_key)
         if kind != "header":
-            tags += part(draw)
+            tags += [] if any(":count" in tag for tag in tags) else part(draw)
             draw.shuffle(tags)
         what = {"header": names, "address": lambda draw: strings(draw, lambda draw: draw.choice(ADDRESS_NAMES)),
                 "envelope": lambda draw: draw.choice(['"from"', '"to"', '["From"]', '["from", "to"]', '["to", "FROM"]'])}[kind](draw)
