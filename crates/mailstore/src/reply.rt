@@ -2,6 +2,7 @@
 ghost use Rattle.std.specs.Prelude.{◌≡◌, false, pos, option_map, slice_get, IfOk, IfErr};
 ghost use Rattle.sqlite_value.specs.declared.value.Value.TheVariants.{Int};
 ghost use Rattle.sqlite_value.specs.Order.{column};
+ghost use Rattle.mailstore.specs.Account as accounts;
 ghost use Rattle.mailstore.specs.Promises.{Finds, Reads, ReadsEntered};
 ghost use Rattle.mailtables.specs.Connection.{Queries};
 ghost use Rattle.mailstore.specs.Refusals.{IsTransient};
@@ -25,8 +26,18 @@ pub struct KeptReply {
     pub moment: u64,
 }
 
+/// The later one of a moment and the one that is kept, if one is.
+pub fn latest(last: Option<u64>, moment: u64) -> u64
+    ensures { result ≡ accounts.latest last moment }
+{
+    match last {
+        Some(last) => last.max(moment),
+        None => moment,
+    }
+}
+
 /// The moment that is kept under the handle's key and the sender.
-fn find_moment<S: Alter>(
+pub(crate) fn find_moment<S: Alter>(
     conn: &mut Connection<S>,
     owner: &[u8],
     handle: &[u8],
@@ -43,7 +54,7 @@ fn find_moment<S: Alter>(
 }
 
 /// The moment in the first row, if there is a row.
-fn first_moment(rows: &[Row]) -> Result<Option<u64>, Refusal>
+pub(crate) fn first_moment(rows: &[Row]) -> Result<Option<u64>, Refusal>
     ensures ok { IfOk result (λ moment. option_map (λ m. Int (pos m)) moment ≡ option_map (λ r. column r 0) (slice_get rows.now 0)) }
     ensures named { IfErr result IsTransient }
 {
