@@ -25,6 +25,17 @@ pub struct KeptReply {
     pub moment: u64,
 }
 
+/// The moment of the last reply to a sender under a handle.
+#[derive(Debug, Drop)]
+pub struct ReplyMoment {
+    /// The key of the handle, any octets.
+    pub handle: Octets,
+    /// In lower case.
+    pub sender: Octets,
+    /// In seconds since 1970-01-01 UTC.
+    pub moment: u64,
+}
+
 /// The moment that is kept under the handle's key and the sender.
 fn find_moment<S: Alter>(
     conn: &mut Connection<S>,
