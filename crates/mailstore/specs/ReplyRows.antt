@@ -7,6 +7,7 @@ use Rattle.sqlite_value.specs.declared.value.Value.TheVariants.{Int, Blob}
 use Rattle.sqlite_value.specs.Order.{Row}
 use Rattle.mailtables.specs.ReplyTable.{reply_cells}
 use Rattle.mailstore.specs.declared.reply.KeptReply.{KeptReply}
+use Rattle.mailstore.specs.declared.reply.ReplyMoment.{ReplyMoment}
 use Rattle.mailstore.specs.Account.{bytes_cmp, Account, Replies}
 use Rattle.mailstore.specs.ScriptRows.{AreApart}
 
@@ -51,3 +52,16 @@ AreReplies sender replies a = replies ≡ map kept_reply (replies_to (lowered se
 -- the rows are the replies to the sender, in that order
 abbrev pub AreReplyRows : List ℕ → List Row → Account → Type 0
 AreReplyRows sender rows a = rows ≡ map kept_cells (map kept_reply (replies_to sender a.replies))
+
+-- ---- all of them
+
+abbrev pub moment_of : (List ℕ × List ℕ) × ℕ → ReplyMoment
+moment_of e = record { handle = e.0.0; sender = e.0.1; moment = e.1 }
+
+-- what the query for them shows of one
+abbrev pub moment_cells : ReplyMoment → Row
+moment_cells m = Blob m.handle ∷ Blob m.sender ∷ Int (pos m.moment) ∷ []
+
+-- the rows are all that are kept, in the order of the octets of the handles' keys, and of those of the senders
+abbrev pub AreMomentRows : List Row → Account → Type 0
+AreMomentRows rows a = rows ≡ map moment_cells (map moment_of (entries a.replies))

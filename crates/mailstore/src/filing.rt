@@ -15,7 +15,7 @@ use octets::Octets;
 use sqlite::{Alter, Connection, Error, Row, params};
 
 /// A copy in a folder, without its message.
-#[derive(Drop)]
+#[derive(Debug, Drop)]
 pub struct Filing {
     /// The folder's name.
     pub folder: Octets,

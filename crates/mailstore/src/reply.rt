@@ -36,6 +36,17 @@ pub fn latest(last: Option<u64>, moment: u64) -> u64
     }
 }
 
+/// The moment of the last reply to a sender under a handle.
+#[derive(Debug, Drop)]
+pub struct ReplyMoment {
+    /// The key of the handle, any octets.
+    pub handle: Octets,
+    /// In lower case.
+    pub sender: Octets,
+    /// In seconds since 1970-01-01 UTC.
+    pub moment: u64,
+}
+
 /// The moment that is kept under the handle's key and the sender.
 pub(crate) fn find_moment<S: Alter>(
     conn: &mut Connection<S>,
