@@ -7,6 +7,7 @@ use Rattle.std.specs.Io.KnownBytes.{Appends}
 use Rattle.std.specs.List.{flat_map}
 use Rattle.accountfiles.specs.Text.{body_of, head_text, part_line, sum_line, text_of}
 use Rattle.accountfiles.specs.declared.part.Part.{Part}
+use Rattle.accountcopies.proofs.LawLemmas.{parts_to_come, whole_copy}
 use Rattle.accountcopies.specs.Reading.{AreRead}
 use Rattle.accountcopies.specs.declared.contents.Contents.{Contents}
 use Rattle.sqlite.specs.Effect.{Database}
