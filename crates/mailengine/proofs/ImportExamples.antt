@@ -1,5 +1,6 @@
 -- An account that comes whole, on small cases: what is right, and beside it what nearly is.
 use Rattle.std.proofs.Common.{◌≡◌, ◌≢◌, ℕ, Bool, true, false, cond, List, [], ◌∷◌, codes, fold, Some, None, MatchBool, refl, sym, ap, ◌∙◌, subst, inl, inr}
+use Rattle.std.specs.Prelude.{unwrap_or}
 use Rattle.std.specs.FinMap.{empty, get, insert, get-empty, get-insert}
 use Rattle.std.specs.Ordering.{is_eq}
 use Rattle.std.proofs.lemmas.Cmp.{nat_list_cmp_total}
@@ -52,7 +53,7 @@ later_was_there a has = kept_after a 9 5 has
 
 -- near miss: the text's moment goes over a later one
 earlier_wins : (a : Account) → get a.replies place ≡ Some 9 → get (takes_whole her_head (moment_at 5 ∷ []) a).replies place ≡ Some 5 → ⊥
-earlier_wins a has is = let no : ◌≡◌ {A = ℕ} 9 5 = (let same : Some 9 ≡ Some 5 = sym (later_was_there a has) ∙ is in cc) in cc
+earlier_wins a has is = let no : ◌≡◌ {A = ℕ} 9 5 = ap (λ o. unwrap_or o 0) (sym (later_was_there a has) ∙ is) in cc
 
 module _ (parts : List Part) where
   -- ---- under a free name

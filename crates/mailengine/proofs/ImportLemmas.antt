@@ -9,7 +9,7 @@ use Rattle.std.specs.FinMap.{empty, get, insert, len, contains_key, get-empty, g
 use Rattle.std.proofs.lemmas.Bool.{and_parts}
 use Rattle.std.proofs.lemmas.Cmp.{nat_list_cmp_total}
 use Rattle.std.proofs.lemmas.List.{take_more, take-append-drop}
-use Rattle.std.proofs.lemmas.List.Sums.{fold-append, count_by_more_yes, count_by_more_no, sum_by-take-drop}
+use Rattle.std.proofs.lemmas.List.Sums.{fold-append, count_by_more_yes, count_by_more_no, sum_by-cons, sum_by-take-drop}
 use Rattle.sqlite_typed.proofs.TestLemmas.{bytes_eq_refl, same_bytes}
 use Rattle.sqlite_keyed.proofs.ListLemmas.{all-append, all_weaker}
 use Rattle.accountfiles.specs.Netstring.{same_text}
@@ -19,17 +19,16 @@ use Rattle.accountfiles.specs.declared.head.Head.{Head}
 use Rattle.accountfiles.specs.declared.part.Part.{Part}
 use Rattle.accountfiles.specs.declared.part.Part.TheVariants.{Script, Reply, Mail, Copy, Letter, Notice}
 use Rattle.accountfiles.proofs.OrderLemmas.{Before, all_before}
-use Rattle.mailstore.specs.Account.{bytes_cmp, Account, Scripts, messages_in}
-use Rattle.mailstore.specs.CopyRows.{folders_from}
-use Rattle.mailstore.specs.Whole.{scripts_with, copies_of, whole, takes_whole}
+use Rattle.mailstore.specs.Account.{bytes_cmp, Folders, Scripts, filed}
+use Rattle.mailstore.specs.CopyRows.{Copy as KeptCopy}
+use Rattle.mailstore.specs.Whole.{scripts_with, copies_of}
 use Rattle.mailstore.proofs.MapLemmas.{tied_is}
-use Rattle.mailstore.proofs.TakingLemmas.{unless_none, folders_full}
 use Rattle.sessions.specs.Limits.{scripts_limit}
 use Rattle.mailengine.specs.Limits.{IsOwnAddress, is_user_name}
 use Rattle.mailengine.specs.AccountEvents.{IsImportable}
 use Rattle.mailengine.specs.Importable.{IsSoundPart, is_a_script, HasSoundScripts}
 use Rattle.mailengine.specs.Sound.{IsSoundScript, IsSound}
-use Rattle.mailengine.proofs.SoundLemmas.{inserted, still_there}
+use Rattle.mailengine.proofs.SoundLemmas.{inserted, still_there, filled_in}
 
 -- ---- the parts so far, and one more
 
@@ -98,21 +97,25 @@ put_there scripts name text = get-insert nat_list_cmp_total scripts name text na
 -- the name of a part is there
 named_there : (parts : List Part) (scripts : Scripts) (name : List ℕ) → list_any (is_script name) parts ≡ true → IsSome (get (fold scripts_with scripts parts) name)
 named_there [] scripts name is = absurd (let never = is in cc)
-named_there (Script n t ∷ parts) scripts name is = go (same_text name n) refl is
+named_there (Script n t ∷ parts) scripts name is = go (same_text name n) refl is (named_there parts (insert scripts n t) name)
   where
-    go : (b : Bool) → same_text name n ≡ b → (b || list_any (is_script name) parts) ≡ true → IsSome (get (fold scripts_with (insert scripts n t) parts) name)
-    go true same h = stays parts (insert scripts n t) name (subst IsSome (sym (ap (get (insert scripts n t)) (texts_same name n (sym same)) ∙ put_there scripts n t)) refl)
-    go false apart h = named_there parts (insert scripts n t) name h
+    go : (b : Bool) → same_text name n ≡ b → (b || list_any (is_script name) parts) ≡ true → (list_any (is_script name) parts ≡ true → IsSome (get (fold scripts_with (insert scripts n t) parts) name))
+        → IsSome (get (fold scripts_with (insert scripts n t) parts) name)
+    go true same h more = stays parts (insert scripts n t) name (subst IsSome (sym (ap (get (insert scripts n t)) (texts_same name n (sym same)) ∙ put_there scripts n t)) refl)
+    go false apart h more = more h
 named_there (Reply a b c ∷ parts) scripts name is = named_there parts scripts name is
 named_there (Mail a b c ∷ parts) scripts name is = named_there parts scripts name is
 named_there (Copy a b c ∷ parts) scripts name is = named_there parts scripts name is
 named_there (Letter a b c d e ∷ parts) scripts name is = named_there parts scripts name is
 named_there (Notice a b c ∷ parts) scripts name is = named_there parts scripts name is
 
+counted : (part : Part) (parts : List Part) → count_by is_a_script (part ∷ parts) ≡ cond (is_a_script part) 1 0 + count_by is_a_script parts
+counted part parts = sum_by-cons (λ p. cond (is_a_script p) 1 0) part parts
+
 -- there are no more scripts than parts that are some
 few_parts : (parts : List Part) (scripts : Scripts) → len (fold scripts_with scripts parts) ≤ len scripts + count_by is_a_script parts
 few_parts [] scripts = omega arith
-few_parts (Script n t ∷ parts) scripts = let more = few_parts parts (insert scripts n t) in let one = len_put scripts n t in omega (arith, more, one)
+few_parts (Script n t ∷ parts) scripts = let more = few_parts parts (insert scripts n t) in let one = len_put scripts n t in let all = counted (Script n t) parts in omega (arith, more, one, all)
   where
     len_put : (m : Scripts) (k v : List ℕ) → len (insert m k v) ≤ len m + 1
     len_put m k v = subst (λ l. l ≤ len m + 1) (sym (len-insert nat_list_cmp_total m k v)) (go (contains_key m k))
@@ -120,11 +123,11 @@ few_parts (Script n t ∷ parts) scripts = let more = few_parts parts (insert sc
         go : (b : Bool) → cond b (len m) (len m + 1) ≤ len m + 1
         go true = omega arith
         go false = omega arith
-few_parts (Reply a b c ∷ parts) scripts = few_parts parts scripts
-few_parts (Mail a b c ∷ parts) scripts = few_parts parts scripts
-few_parts (Copy a b c ∷ parts) scripts = few_parts parts scripts
-few_parts (Letter a b c d e ∷ parts) scripts = few_parts parts scripts
-few_parts (Notice a b c ∷ parts) scripts = few_parts parts scripts
+few_parts (Reply a b c ∷ parts) scripts = let more = few_parts parts scripts in let all = counted (Reply a b c) parts in omega (arith, more, all)
+few_parts (Mail a b c ∷ parts) scripts = let more = few_parts parts scripts in let all = counted (Mail a b c) parts in omega (arith, more, all)
+few_parts (Copy a b c ∷ parts) scripts = let more = few_parts parts scripts in let all = counted (Copy a b c) parts in omega (arith, more, all)
+few_parts (Letter a b c d e ∷ parts) scripts = let more = few_parts parts scripts in let all = counted (Letter a b c d e) parts in omega (arith, more, all)
+few_parts (Notice a b c ∷ parts) scripts = let more = few_parts parts scripts in let all = counted (Notice a b c) parts in omega (arith, more, all)
 
 -- ---- each script of a text has a name of its own
 
@@ -211,14 +214,20 @@ as_many [] scripts new = omega arith
 as_many (Script n t ∷ parts) scripts new =
     let more = as_many parts (insert scripts n t) new.1 in
     let one : len (insert scripts n t) ≡ len scripts + 1 = len-insert nat_list_cmp_total scripts n t ∙ ap (λ b. cond b (len scripts) (len scripts + 1)) (ap is_some new.0) in
-    omega (arith, more, one)
-as_many (Reply a b c ∷ parts) scripts new = as_many parts scripts new
-as_many (Mail a b c ∷ parts) scripts new = as_many parts scripts new
-as_many (Copy a b c ∷ parts) scripts new = as_many parts scripts new
-as_many (Letter a b c d e ∷ parts) scripts new = as_many parts scripts new
-as_many (Notice a b c ∷ parts) scripts new = as_many parts scripts new
+    let all = counted (Script n t) parts in
+    omega (arith, more, one, all)
+as_many (Reply a b c ∷ parts) scripts new = let more = as_many parts scripts new in let all = counted (Reply a b c) parts in omega (arith, more, all)
+as_many (Mail a b c ∷ parts) scripts new = let more = as_many parts scripts new in let all = counted (Mail a b c) parts in omega (arith, more, all)
+as_many (Copy a b c ∷ parts) scripts new = let more = as_many parts scripts new in let all = counted (Copy a b c) parts in omega (arith, more, all)
+as_many (Letter a b c d e ∷ parts) scripts new = let more = as_many parts scripts new in let all = counted (Letter a b c d e) parts in omega (arith, more, all)
+as_many (Notice a b c ∷ parts) scripts new = let more = as_many parts scripts new in let all = counted (Notice a b c) parts in omega (arith, more, all)
 
 -- ---- the account
+
+-- each copy fills its folder
+all_filled : (copies : List KeptCopy) (folders : Folders) → ((f : List ℕ) → get folders f ≢ Some []) → (f : List ℕ) → get (fold (λ all copy. filed all copy.folder copy.message) folders copies) f ≢ Some []
+all_filled [] folders full = full
+all_filled (copy ∷ copies) folders full = all_filled copies (filed folders copy.folder copy.message) (filled_in copy.message (copy.folder ∷ []) folders full)
 
 module _ (head : Head) (parts : List Part) (is : IsAccount head parts) where
   active_there : (o : Option (List ℕ)) → has_active o parts ≡ true → IfSome o (λ name. IsSome (get (fold scripts_with empty parts) name))
@@ -231,23 +240,16 @@ module _ (head : Head) (parts : List Part) (is : IsAccount head parts) where
     sound = record {
       address = addressed;
       scripts = from_parts parts empty scripts.each (λ name text there. absurd (let never : None ≡ Some text = sym (get-empty bytes_cmp name) ∙ there in cc));
-      few = let most = few_parts parts empty in let none : len (empty {R = bytes_cmp} {X = List ℕ}) ≡ 0 = len-empty bytes_cmp (List ℕ) in let few = scripts.few in omega (arith, most, none, few);
+      few = let most = few_parts parts empty in let none = len-empty bytes_cmp (List ℕ) in let few = scripts.few in omega (arith, most, none, few);
       active = active_there head.owner.active is.active;
-      filled = λ folder none. no_empty folder none;
+      filled = all_filled (copies_of [] parts) empty (λ folder none. absurd (let never : None ≡ Some [] = sym (get-empty bytes_cmp folder) ∙ none in cc));
     };
   }
-    where
-      no_empty : (folder : List ℕ) → get (folders_from (copies_of [] parts)) folder ≡ Some [] → ⊥
-      no_empty folder none = go (messages_in (folders_from (copies_of [] parts)) folder) (sym (folders_full (copies_of [] parts) folder) ∙ none)
-        where
-          go : (xs : List (List ℕ)) → unless_none xs ≡ Some [] → ⊥
-          go [] e = let no = e in cc
-          go (x ∷ xs) e = let no : x ∷ xs ≡ [] = cc in let never = no in cc
 
   pub sound_scripts : IsImportable head parts → HasSoundScripts parts
   sound_scripts importable =
       let new = new_from [] parts is.chained in
       let count = as_many parts empty new in
-      let none : len (empty {R = bytes_cmp} {X = List ℕ}) ≡ 0 = len-empty bytes_cmp (List ℕ) in
+      let none = len-empty bytes_cmp (List ℕ) in
       let few = importable.sound.few in
       record { each = each_sound parts empty new importable.sound.scripts; few = omega (arith, count, none, few) }

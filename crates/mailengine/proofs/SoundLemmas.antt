@@ -112,7 +112,7 @@ not_empty [] x e = cc
 not_empty (y ∷ ys) x e = cc
 
 -- where no folder is empty, none is after a message has joined some
-filled_in : (message : List ℕ) (names : List (List ℕ)) (folders : Folders) → ((f : List ℕ) → get folders f ≢ Some []) → (f : List ℕ) → get (filed_in message folders names) f ≢ Some []
+pub filled_in : (message : List ℕ) (names : List (List ℕ)) (folders : Folders) → ((f : List ℕ) → get folders f ≢ Some []) → (f : List ℕ) → get (filed_in message folders names) f ≢ Some []
 filled_in message [] folders full = full
 filled_in message (name ∷ names) folders full = filled_in message names (filed folders name message) (λ f is. go f (inserted folders name (messages_in folders name ++ message ∷ []) f [] is))
   where

@@ -60,7 +60,10 @@ fn is_importable(alloc: Global, file: &AccountFile) -> Result<bool, AllocError>
     ensures { IfOk result (λ holds. MatchBool holds (IsImportable file.now.head file.now.parts) (IsImportable file.now.head file.now.parts → ⊥)) }
 {
     let owner = &file.head.owner;
-    if !is_user_name(owner.name.as_slice()) || !is_own_address(alloc, owner.address.as_slice())? {
+    if !is_user_name(owner.name.as_slice()) {
+        return Ok(false);
+    }
+    if !is_own_address(alloc, owner.address.as_slice())? {
         return Ok(false);
     }
     has_sound_scripts(alloc, file.parts.as_slice())
@@ -75,7 +78,10 @@ fn has_sound_scripts(alloc: Global, parts: &[Part]) -> Result<bool, AllocError>
         let Part::Script { name, text } = part else {
             continue;
         };
-        if count == MAX_SCRIPTS || !is_sound_script(alloc, name.as_slice(), text.as_slice())? {
+        if count == MAX_SCRIPTS {
+            return Ok(false);
+        }
+        if !is_sound_script(alloc, name.as_slice(), text.as_slice())? {
             return Ok(false);
         }
         count += 1;
