@@ -6,7 +6,7 @@ ghost use Rattle.mailstore.specs.Account as accounts;
 ghost use Rattle.mailstore.specs.Promises.{Finds, Reads, ReadsEntered};
 ghost use Rattle.mailtables.specs.Connection.{Queries};
 ghost use Rattle.mailstore.specs.Refusals.{IsTransient};
-ghost use Rattle.mailstore.specs.ReplyRows.{AreReplies, HasMomentRow, IsLastReply};
+ghost use Rattle.mailstore.specs.ReplyRows.{AreReplies, HasMomentRow, IsLastReply, IsMoment};
 ghost use Rattle.sqlite.specs.Held.{state};
 
 use crate::cell::text_at;
@@ -48,7 +48,7 @@ pub struct ReplyMoment {
 }
 
 /// The moment that is kept under the handle's key and the sender.
-pub(crate) fn find_moment<S: Alter>(
+fn find_moment<S: Alter>(
     conn: &mut Connection<S>,
     owner: &[u8],
     handle: &[u8],
@@ -65,7 +65,7 @@ pub(crate) fn find_moment<S: Alter>(
 }
 
 /// The moment in the first row, if there is a row.
-pub(crate) fn first_moment(rows: &[Row]) -> Result<Option<u64>, Refusal>
+fn first_moment(rows: &[Row]) -> Result<Option<u64>, Refusal>
     ensures ok { IfOk result (λ moment. option_map (λ m. Int (pos m)) moment ≡ option_map (λ r. column r 0) (slice_get rows.now 0)) }
     ensures named { IfErr result IsTransient }
 {
@@ -118,7 +118,20 @@ impl<S: Alter> Store<S> {
         ensures { ReadsEntered user.now (IsLastReply handle.now sender.now) (state S.Store self.old) (state S.Store self.new) result }
     {
         let sender = octets::lowered(self.alloc, sender)?;
-        let rows = find_moment(&mut self.conn, user, handle, sender.as_slice())?;
+        self.moment_of(user, handle, sender.as_slice())
+    }
+
+    /// The moment that is kept under the handle's key and just this sender, if one is, of an account that was entered. It is found by
+    /// its key.
+    pub(crate) fn moment_of(
+        &mut self,
+        user: &[u8],
+        handle: &[u8],
+        sender: &[u8],
+    ) -> Result<Option<u64>, Refusal>
+        ensures { ReadsEntered user.now (IsMoment handle.now sender.now) (state S.Store self.old) (state S.Store self.new) result }
+    {
+        let rows = find_moment(&mut self.conn, user, handle, sender)?;
         first_moment(&rows)
     }
 
