@@ -33,6 +33,9 @@ pub mod WalkLemmas
 pub mod WholeLemmas
 pub mod UserExamples
 pub mod ListedLemmas
+pub mod FilingLemmas
+pub mod NoticeLemmas
+pub mod ReplyKeyLemmas
 pub mod FirstLemmas
 pub mod NumberLemmas
 pub mod OneLemmas
