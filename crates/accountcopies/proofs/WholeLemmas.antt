@@ -15,7 +15,7 @@ use Rattle.accountfiles.specs.declared.head.Numbers.{Numbers}
 use Rattle.accountfiles.specs.declared.part.Part.{Part}
 use Rattle.mailtables.specs.Rows.{Tables}
 use Rattle.mailstore.specs.Account.{Account, Accounts}
-use Rattle.mailstore.specs.AccountText.{IsCopyOf}
+use Rattle.mailstore.specs.Whole.{IsCopyOf}
 use Rattle.mailstore.specs.Shows.{rows_of, IsShown, IsShownOrAbsent, Presents}
 use Rattle.mailstore.specs.Whole.{whole}
 use Rattle.accountcopies.specs.declared.contents.Contents.{Contents}

@@ -25,7 +25,7 @@ use Rattle.vacreply.specs.declared.reason.Reason.{Reason}
 use Rattle.vacreply.specs.declared.reason.Reason.TheVariants as R
 use Rattle.vacreply.specs.declared.reason.Decision.{Decision}
 use Rattle.vacreply.specs.declared.reason.Decision.TheVariants as D
-use Rattle.mailstore.specs.Account.{bytes_cmp, reply_cmp, Account, Accounts, Replies, is_closed, open_one, open_of, has_mail, files_copies, remembers, queues, messages_in}
+use Rattle.mailstore.specs.Account.{latest, bytes_cmp, reply_cmp, Account, Accounts, Replies, is_closed, open_one, open_of, has_mail, files_copies, remembers, queues, messages_in}
 use Rattle.mailstore.proofs.StandingLemmas.{open_there}
 use Rattle.mailtables.specs.declared.queue.Kind.TheVariants as kind
 use Rattle.mailstore.specs.declared.report.Report.{Report}
@@ -34,7 +34,7 @@ use Rattle.mailstore.specs.declared.report.VacationReport.TheVariants as V
 use Rattle.mailstore.specs.declared.refusal.Refusal.{Refusal}
 use Rattle.sessions.specs.Scripts.{carried_out, obeyed}
 use Rattle.deliverplan.specs.Views.{last_reply}
-use Rattle.deliverplan.specs.Delivered.{Disposition, Acts, Tells, Response, Silent, Quiet, Sent, latest, Follows, Responds, acts, redirects, responds, vacation_report, DeliversAs}
+use Rattle.deliverplan.specs.Delivered.{Disposition, Acts, Tells, Response, Silent, Quiet, Sent, Follows, Responds, acts, redirects, responds, vacation_report, DeliversAs}
 use Rattle.mailengine.specs.declared.event.Event.{Event}
 use Rattle.mailengine.specs.declared.event.Event.TheVariants.{Open, Give, Step, GiveUp, Close, Deliver, AddUser, TakeOut, TakeMail, Keep}
 use Rattle.mailengine.specs.declared.answer.Answer.{Answer}

@@ -1,6 +1,5 @@
 pub mod Account
 pub mod AccountRows
-pub mod AccountText
 pub mod CopyRows
 pub mod Delivery
 pub mod EachRow

@@ -33,7 +33,7 @@ pub use notice::Notice;
 pub use profile::Profile;
 pub use queue::Outgoing;
 pub use refusal::Refusal;
-pub use reply::{KeptReply, ReplyKey};
+pub use reply::{KeptReply, ReplyKey, latest};
 pub use report::{Plan, Report, VacationReply, VacationReport};
 pub use store::Store;
 pub use taking::NumberedMessage;

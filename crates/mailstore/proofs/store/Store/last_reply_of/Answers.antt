@@ -1,8 +1,9 @@
-use Rattle.std.proofs.Common.{◌≡◌, OnOk, IfErr, rules}
+use Rattle.std.proofs.Common.{◌≡◌, OnOk, IfErr, subst, rules}
 use Rattle.octets.specs.Ascii.{lowered}
 use Rattle.sqlite.specs.Held.{state}
+use Rattle.mailstore.specs.Promises.{ReadsEntered}
 use Rattle.mailstore.specs.Refusals.{IsTransient}
-use Rattle.mailstore.specs.ReplyRows.{IsLastReply}
+use Rattle.mailstore.specs.ReplyRows.{IsMoment, IsLastReply}
 use Rattle.mailstore.proofs.EnterLemmas.{entered_unasked}
 use Rattle.mailstore.proofs.store.Store.last_reply_of.Goals as goal
 
@@ -13,4 +14,6 @@ returns-in_err-sender g c =
     entered_unasked c.args.user.now (IsLastReply c.args.handle.now c.args.sender.now) (state g.S.Store c.args.self.now) c.from_residual.result none transient
 
 pub returns : goal.returns
-returns g c = let folded : c.as_slice.result.now ≡ lowered c.args.sender.now = search rules in rw folded at c.moment_of.ensures
+returns g c =
+    let folded : c.as_slice.result.now ≡ lowered c.args.sender.now = search rules in
+    subst (λ s. ReadsEntered c.args.user.now (IsMoment c.args.handle.now s) (state g.S.Store c.args.self.now) (state g.S.Store c.moment_of.new.self) c.moment_of.result) folded c.moment_of.ensures
