@@ -10,6 +10,8 @@ use Rattle.accountfiles.specs.declared.part.Part.{Part}
 use Rattle.accountfiles.specs.declared.part.Part.TheVariants.{Script, Reply, Mail, Copy, Letter, Notice}
 use Rattle.mailtables.specs.declared.queue.Kind.{Kind}
 use Rattle.mailtables.specs.declared.queue.Kind.TheVariants as kind
+use Rattle.mailstore.specs.declared.account.Counters.{Counters}
+use Rattle.mailstore.specs.declared.profile.Profile.{Profile}
 use Rattle.mailstore.specs.declared.notice.Notice.{Notice as KeptNotice}
 use Rattle.mailstore.specs.declared.queue.Outgoing.{Outgoing}
 use Rattle.mailstore.specs.Account.{Account}
@@ -27,6 +29,13 @@ numbers_of a next_copy next_notice = record { rounds = a.password.rounds; next_c
 
 abbrev pub head_of : List ℕ → Account → ℕ → ℕ → Head
 head_of user a next_copy next_notice = record { owner = owner_of user a; numbers = numbers_of a next_copy next_notice }
+
+-- the same by what is read of it
+abbrev pub head_by : List ℕ → Profile → Counters → Head
+head_by user profile counters = record {
+  owner = record { name = user; address = profile.address; salt = profile.salt; digest = profile.digest; active = profile.active };
+  numbers = record { rounds = profile.rounds; next_copy = counters.copy; next_out = counters.out; next_notice = counters.notice };
+}
 
 -- ---- copies of one message that stand one behind another
 

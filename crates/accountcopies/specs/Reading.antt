@@ -1,34 +1,16 @@
 -- What was read of an account so far.
-use Rattle.std.specs.Prelude.{◌≡◌, ◌++◌, ℕ, Bool, true, false, List, [], ◌∷◌, length, take, Option, Some, None}
-use Rattle.std.specs.List.{AllByRecursion, list_any}
+use Rattle.std.specs.Prelude.{◌≡◌, ◌++◌, ℕ, true, List, [], ◌∷◌, length, take}
+use Rattle.std.specs.List.{AllByRecursion}
 use Rattle.sqlite.specs.Effect.{Database}
 use Rattle.accountfiles.specs.Limits.{MayHave}
-use Rattle.accountfiles.specs.Netstring.{same_text}
 use Rattle.accountfiles.specs.Text.{IsHead}
 use Rattle.accountfiles.specs.declared.part.Part.{Part}
-use Rattle.mailtables.specs.Rows.{Tables, HoldsTables}
-use Rattle.mailtables.specs.Schema.{mail_schema}
+use Rattle.mailtables.specs.Rows.{Tables}
 use Rattle.mailstore.specs.Account.{Account}
-use Rattle.mailstore.specs.Shows.{rows_of, IsShown}
+use Rattle.mailstore.specs.Shows.{IsShown}
 use Rattle.accountcopies.specs.declared.contents.Contents.{Contents}
-use Rattle.accountcopies.specs.declared.contents.Place.{Place}
-use Rattle.accountcopies.specs.declared.contents.Place.TheVariants as place
 use Rattle.accountcopies.specs.Parts.{head_of, parts_of}
-use Rattle.accountcopies.specs.Places.{places_of}
-
--- whatever rows of our tables the database has, where the user's show the account, this holds of them
-abbrev pub OfShown : Database → (user : List ℕ) (a : Account) → ((own : Tables) → IsShown user own a → Type 0) → Type 0
-OfShown db user a P = (tables : Tables) → HoldsTables mail_schema db tables → (s : IsShown user (rows_of user tables) a) → P (rows_of user tables) s
-
--- the place is that of the script with the name
-abbrev pub is_script : List ℕ → Place → Bool
-is_script name (place.Script other) = same_text name other
-is_script name other = false
-
--- the active script, if there is one, has a place
-abbrev pub has_active : Option (List ℕ) → List Place → Bool
-has_active None places = true
-has_active (Some name) places = list_any (is_script name) places
+use Rattle.accountcopies.specs.Places.{places_of, has_active, OfShown}
 
 -- this is what the account has, as the rows show it
 pub record IsListOf (contents : Contents) (a : Account) (own : Tables) (s : IsShown contents.head.owner.name own a) : Type 0 where

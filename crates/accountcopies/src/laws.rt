@@ -5,7 +5,7 @@ ghost use Rattle.sqlite.specs.Effect.{Database};
 ghost use Rattle.accountfiles.specs.declared.part.Part.{Part};
 ghost use Rattle.accountfiles.specs.Text.{text_of};
 ghost use Rattle.mailstore.specs.Account.{Account, Accounts};
-ghost use Rattle.mailstore.specs.AccountText.{IsCopyOf};
+ghost use Rattle.mailstore.specs.Whole.{IsCopyOf};
 ghost use Rattle.mailstore.specs.Shows.{Presents};
 ghost use Rattle.accountcopies.specs.Reading.{AreRead};
 ghost use Rattle.accountcopies.specs.declared.contents.Contents.{Contents};

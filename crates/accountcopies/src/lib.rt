@@ -4,7 +4,9 @@
 mod contents;
 pub mod laws;
 mod part;
+mod place;
 mod run;
 
-pub use contents::{Contents, Place, list_contents};
+pub use contents::{Contents, list_contents};
 pub use part::read_part;
+pub use place::Place;

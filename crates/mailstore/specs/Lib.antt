@@ -1,6 +1,5 @@
 pub mod Account
 pub mod AccountRows
-pub mod AccountText
 pub mod CopyRows
 pub mod Delivery
 pub mod EachRow
@@ -12,6 +11,7 @@ pub mod Numbers
 pub mod Promises
 pub mod FolderNumbers
 pub mod HeadRows
+pub mod Listing
 pub mod QueueRows
 pub mod Refusals
 pub mod ReplyRows

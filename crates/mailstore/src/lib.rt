@@ -23,6 +23,7 @@ mod taking;
 mod users;
 mod whole;
 
+pub use account::Counters;
 pub use filing::Filing;
 pub use folder::Folder;
 pub use head::Head;
@@ -32,7 +33,7 @@ pub use notice::Notice;
 pub use profile::Profile;
 pub use queue::Outgoing;
 pub use refusal::Refusal;
-pub use reply::{KeptReply, ReplyMoment, latest};
+pub use reply::{KeptReply, ReplyKey, latest};
 pub use report::{Plan, Report, VacationReply, VacationReport};
 pub use store::Store;
 pub use taking::NumberedMessage;

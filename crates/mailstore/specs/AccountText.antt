@@ -1,2 +1,0 @@
--- The text of an account that leaves the store.
-pub use Rattle.mailstore.specs.Whole.{IsCopyOf}
