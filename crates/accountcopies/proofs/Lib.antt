@@ -5,3 +5,4 @@ pub mod KeptLemmas
 pub mod PlaceLemmas
 pub mod PartLemmas
 pub mod WholeLemmas
+pub mod CutLemmas

@@ -7,7 +7,8 @@ use Rattle.std.specs.Io.KnownBytes.{Appends}
 use Rattle.std.specs.List.{flat_map}
 use Rattle.accountfiles.specs.Text.{body_of, head_text, part_line, sum_line, text_of}
 use Rattle.accountfiles.specs.declared.part.Part.{Part}
-use Rattle.accountcopies.proofs.LawLemmas.{parts_to_come, whole_copy}
+use Rattle.accountcopies.proofs.CutLemmas.{parts_to_come}
+use Rattle.accountcopies.proofs.WholeLemmas.{copy_whole}
 use Rattle.accountcopies.specs.Reading.{AreRead}
 use Rattle.accountcopies.specs.declared.contents.Contents.{Contents}
 use Rattle.sqlite.specs.Effect.{Database}
@@ -169,7 +170,7 @@ module _ (user : List ℕ) (s0 s1 : State) (q : Result Contents Refusal) (reads 
               let there = listed (before clean) accounts p in
               let many : length put.parts ≡ length contents.places = subst (λ o. OnOk o (0 + length put.parts ≡ count)) ok put.all ∙ all in
               by r (printed_then o0 o2 o3 (body_of contents.head put.parts) (sum_line (body_of contents.head put.parts)) r body_put last) accounts there.0 there.1
-              (subst (λ n. IsCopyOf (text_of contents.head put.parts) n there.0) named (whole_copy contents put.parts s0.now accounts there.0 p (has_it accounts there) (parts_read clean accounts p) many));
+              (subst (λ n. IsCopyOf (text_of contents.head put.parts) n there.0) named (copy_whole contents put.parts s0.now accounts there.0 p (has_it accounts there) (parts_read clean accounts p) many));
         }
           where
             by : (r : Result (Unit {0}) Fault) → IsPrinted r o0 o3 (text_of contents.head put.parts) → (accounts : Accounts) (a : Account) → open_of accounts user ≡ Some a → IsCopyOf (text_of contents.head put.parts) user a → Told user o0 o3 accounts r
