@@ -8,4 +8,4 @@ pub mod ListingLemmas
 pub mod PlaceLemmas
 pub mod PartLemmas
 pub mod WholeLemmas
-pub mod CutLemmas
+mod Examples

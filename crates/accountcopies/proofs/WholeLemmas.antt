@@ -30,7 +30,7 @@ each_given n [] all = refl
 each_given n (p ∷ ps) all = and_from (fits n p) (list_all (fits n) ps) all.0.given (each_given n ps all.1)
 
 module _ (contents : Contents) (parts : List Part) (a : Account) (own : Tables) (s : IsShown contents.head.owner.name own a) (listed : IsListOf contents a own s) (all : parts ≡ parts_of a s.copies.entries s.notices.entries) where
-  pub makes_again : whole contents.head parts empty ≡ a
+  makes_again : whole contents.head parts empty ≡ a
   makes_again =
       ap (λ h. whole h parts empty) listed.head ∙ ap (λ ps. whole (head_of contents.head.owner.name a s.next_copy s.next_notice) ps empty) all
       ∙ account_again a s.copies.entries s.notices.entries contents.head.owner.name s.next_copy s.next_notice (alike s.copies.messages s.copies.stored.rise s.copies.entries s.copies.kept.present) s.copies.shown s.notices.shown

@@ -7,8 +7,7 @@ use Rattle.std.specs.Io.KnownBytes.{Appends}
 use Rattle.std.specs.List.{flat_map}
 use Rattle.accountfiles.specs.Text.{body_of, head_text, part_line, sum_line, text_of}
 use Rattle.accountfiles.specs.declared.part.Part.{Part}
-use Rattle.accountcopies.proofs.CutLemmas.{parts_to_come}
-use Rattle.accountcopies.proofs.WholeLemmas.{copy_whole}
+use Rattle.accountcopies.proofs.WholeLemmas.{copy_front, copy_whole}
 use Rattle.accountcopies.specs.Reading.{AreRead}
 use Rattle.accountcopies.specs.declared.contents.Contents.{Contents}
 use Rattle.sqlite.specs.Effect.{Database}
@@ -64,7 +63,7 @@ whole_front old new text put = (length text, subst (Appends old new) (sym (take-
 module _ (contents : Contents) (user : List ℕ) (named : contents.head.owner.name ≡ user) (db : Database) (accounts : Accounts) (a : Account) (p : Presents db accounts) (has : get accounts contents.head.owner.name ≡ Some a) (parts : List Part) (are : AreRead contents parts db a) where
   cut_in : (old new : Option (List ℕ)) (fault : Fault) → Breaks old new fault (body_of contents.head parts) → IsCutOff user old new fault a
   cut_in old new fault breaks =
-      let (all, front, makes) = parts_to_come contents parts db accounts a p has are in
+      let (all, front, makes) = copy_front contents parts db accounts a p has are in
       let rest = drop (length parts) all in
       let joined : parts ++ rest ≡ all = ap (λ l. l ++ rest) front ∙ take-append-drop (length parts) all in
       let body : body_of contents.head parts ++ flat_map part_line rest ≡ body_of contents.head all =
