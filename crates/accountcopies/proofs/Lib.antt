@@ -8,3 +8,4 @@ pub mod ListingLemmas
 pub mod PlaceLemmas
 pub mod PartLemmas
 pub mod WholeLemmas
+mod Examples
