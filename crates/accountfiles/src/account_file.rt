@@ -1,14 +1,19 @@
 //! What an account's text says.
+ghost use Rattle.std.proofs.Props.{props};
+ghost use Rattle.accountfiles.specs.Text.{IsAccount};
+
 use crate::head::Head;
 use crate::part::Part;
 use octets::List;
 use std::alloc::{AllocError, AllocFailed};
 
-/// What an account's text says: what the account has once, and its parts in their order.
+/// What an account's text says: what the account has once, and its parts. They are those of an account: in their order, each number
+/// given, no field too long, and the active script among them. So whoever holds one may write it.
 #[derive(Debug, Drop)]
 pub struct AccountFile {
     pub head: Head,
     pub parts: List<Part>,
+    pub ghost is_account: { IsAccount head parts } by { Prim.hlevel props },
 }
 
 /// Why a text isn't read.

@@ -6,7 +6,7 @@ use Rattle.mailengine.specs.Hosts.{Kept, HasClients}
 use Rattle.mailengine.specs.World.{World, Clients, Next}
 use Rattle.mailengine.specs.declared.answer.Answer.{Answer}
 use Rattle.mailengine.specs.declared.event.Event.{Event}
-use Rattle.mailengine.specs.declared.event.Event.TheVariants.{Deliver, AddUser, TakeOut, TakeMail, Keep}
+use Rattle.mailengine.specs.declared.event.Event.TheVariants.{Deliver, AddUser, Import, TakeOut, TakeMail, Keep}
 use Rattle.sieveddaemon.specs.Desk.{View, StillShows, IsOthers, AreOthers, IsDone, IsAsked}
 use Rattle.sieveddaemon.proofs.EventLemmas.{runs_then, runs_one}
 use Rattle.mailmoves.specs.Enduring.{MayLeave, ShowsTried, none_tried}
@@ -26,6 +26,7 @@ lets_none view s = λ w shown. (w, record { strangers = tt; told = []; runs = re
 stranger : (sessions : Clients) (event : Event) → is_of_accounts event ≡ true → IsOthers sessions event
 stranger sessions (Deliver user envelope message when default) is = tt
 stranger sessions (AddUser name address salt password) is = tt
+stranger sessions (Import file) is = tt
 stranger sessions (TakeOut user id) is = tt
 stranger sessions (TakeMail user folder) is = tt
 stranger sessions (Keep user upkeep) is = tt

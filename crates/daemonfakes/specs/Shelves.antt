@@ -10,7 +10,7 @@ use Rattle.mailmoves.specs.declared.moving.Moving.{Moving}
 use Rattle.mailengine.specs.World.{World, Next, Runs}
 use Rattle.mailengine.specs.declared.answer.Answer.{Answer}
 use Rattle.mailengine.specs.declared.event.Event.{Event}
-use Rattle.mailengine.specs.declared.event.Event.TheVariants.{Deliver, AddUser, TakeOut, TakeMail, Keep}
+use Rattle.mailengine.specs.declared.event.Event.TheVariants.{Deliver, AddUser, Import, TakeOut, TakeMail, Keep}
 use Rattle.sieveddaemon.specs.Desk.{View, StillShows, IsWorld, ComesTo, AreOthers, IsFoundIn}
 
 -- whatever accounts were had, the event with this answer leads from them to those that are had; where it was refused it was tried
@@ -63,6 +63,7 @@ LetsMore {S} view others t more u = (s : S) → LetsOthers view others s t → L
 abbrev pub is_of_accounts : Event → Bool
 is_of_accounts (Deliver user envelope message when default) = true
 is_of_accounts (AddUser name address salt password) = true
+is_of_accounts (Import file) = true
 is_of_accounts (TakeOut user id) = true
 is_of_accounts (TakeMail user folder) = true
 is_of_accounts (Keep user upkeep) = true

@@ -90,6 +90,7 @@ pub fn is_of_accounts(event: &Event) -> bool
     match event {
         Event::Deliver { .. } => true,
         Event::AddUser { .. } => true,
+        Event::Import(_) => true,
         Event::TakeOut { .. } => true,
         Event::TakeMail { .. } => true,
         Event::Keep { .. } => true,

@@ -8,7 +8,8 @@ ghost use Rattle.daemonfakes.specs.Memory.{memory_view_of};
 use crate::shelf::Shelf;
 use lmtp::Lookup;
 use mailengine::{
-    Answer, Clients, Envelope, Event, Refusal, add_user, apply, deliver, keep, take_mail, take_out,
+    Answer, Clients, Envelope, Event, Refusal, add_user, apply, deliver, import, keep, take_mail,
+    take_out,
 };
 use mailmoves::{Moving, Route, move_next};
 use mailsinks::MemorySink;
@@ -78,6 +79,7 @@ impl Shelf for MemShelf {
                 )
                 .is_ok()
             }
+            Event::Import(file) => import(alloc, &mut self.store, file).is_ok(),
             Event::TakeOut { user, id } => {
                 take_out(&mut self.store, user.as_slice(), *id).is_ok()
             }

@@ -11,10 +11,10 @@ use Rattle.vacreply.specs.Reasons.{decision_of}
 use Rattle.vacreply.specs.declared.reason.Decision.{Decision}
 use Rattle.vacreply.specs.declared.reason.Decision.TheVariants as D
 use Rattle.vacreply.proofs.ReplyLaws.{one_reply}
-use Rattle.mailstore.specs.Account.{Account}
+use Rattle.mailstore.specs.Account.{Account, latest}
 use Rattle.mailstore.specs.declared.report.Report.{Report}
 use Rattle.deliverplan.specs.Views.{last_reply}
-use Rattle.deliverplan.specs.Delivered.{Disposition, Acts, Tells, DisposesIf, disposition_of, is_looping, Response, Sent, latest, Follows, Responds, acts, responds, report_of, CarriesOut, DeliversAs, Delivers}
+use Rattle.deliverplan.specs.Delivered.{Disposition, Acts, Tells, DisposesIf, disposition_of, is_looping, Response, Sent, Follows, Responds, acts, responds, report_of, CarriesOut, DeliversAs, Delivers}
 
 -- a message comes to one disposition
 one_disposition : (looping : Bool) (text : Option (List ℕ)) (mail : MailSpec) (one two : Disposition)

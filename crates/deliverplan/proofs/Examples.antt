@@ -8,11 +8,11 @@ use Rattle.sievesyntax.specs.Meaning.{Failed}
 use Rattle.sievesyntax.specs.declared.tree.vacation.VacArgs.{VacArgs}
 use Rattle.sieveexec.specs.Mails.{MailSpec}
 use Rattle.vacreply.specs.declared.reason.Reason.TheVariants as R
-use Rattle.mailstore.specs.Account.{Account, files_copies, notes, remembers}
+use Rattle.mailstore.specs.Account.{Account, latest, files_copies, notes, remembers}
 use Rattle.mailtables.specs.declared.queue.Kind.TheVariants.{Redirect, Reply}
 use Rattle.mailstore.specs.declared.report.VacationReport.TheVariants as V
 use Rattle.deliverplan.specs.Views.{moment_under}
-use Rattle.deliverplan.specs.Delivered.{Acts, Tells, Disposes, disposition_of, invalid_text, is_looping, is_received, kept, loop_text, Silent, Quiet, Sent, latest, Responds, responds, redirects, report_of, notice_report, Delivers}
+use Rattle.deliverplan.specs.Delivered.{Acts, Tells, Disposes, disposition_of, invalid_text, is_looping, is_received, kept, loop_text, Silent, Quiet, Sent, Responds, responds, redirects, report_of, notice_report, Delivers}
 use Rattle.deliverplan.proofs.DeliveryLaws.{one_delivery}
 
 abbrev alice : Addr

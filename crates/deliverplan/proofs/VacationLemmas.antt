@@ -8,9 +8,10 @@ use Rattle.vacreply.specs.Reasons.{decision_of, number_of}
 use Rattle.vacreply.specs.declared.reason.Reason.{Reason}
 use Rattle.vacreply.specs.declared.reason.Decision.{Decision}
 use Rattle.vacreply.specs.declared.reason.Decision.TheVariants as D
+use Rattle.mailstore.specs.Account.{latest}
 use Rattle.mailstore.specs.declared.report.VacationReport.TheVariants as V
 use Rattle.deliverplan.specs.declared.vacation.VacationPlan.{VacationPlan}
-use Rattle.deliverplan.specs.Delivered.{Response, Quiet, Sent, latest, Responds, Follows}
+use Rattle.deliverplan.specs.Delivered.{Response, Quiet, Sent, Responds, Follows}
 use Rattle.deliverplan.specs.Plans.{SendsReply, IsVacationPlan, unsent_plan}
 
 module _ (own : Addr) (moment : ℕ) (mail : MailSpec) (last : List ℕ → Option ℕ) (reply : Option VacArgs) (args : VacArgs) (there : reply ≡ Some args) where

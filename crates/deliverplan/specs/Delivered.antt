@@ -1,5 +1,5 @@
 -- What a delivery makes of an account, and what it reports (RFC 5228, 2.10; RFC 5230).
-use Rattle.std.specs.Prelude.{◌≡◌, ℕ, ◌⊎◌, max, nat_lt, Bool, true, false, List, [], ◌∷◌, map, codes, count_by, Option, None, Some}
+use Rattle.std.specs.Prelude.{◌≡◌, ℕ, ◌⊎◌, nat_lt, Bool, true, false, List, [], ◌∷◌, map, codes, count_by, Option, None, Some}
 use Rattle.std.specs.List.{fold}
 use Rattle.mailhead.specs.Fields.{FieldText}
 use Rattle.addrparts.specs.declared.address.Addr.{Addr}
@@ -18,7 +18,7 @@ use Rattle.vacreply.specs.Reasons.{decision_of, number_of}
 use Rattle.vacreply.specs.declared.reason.Reason.{Reason}
 use Rattle.vacreply.specs.declared.reason.Decision.{Decision}
 use Rattle.vacreply.specs.declared.reason.Decision.TheVariants as D
-use Rattle.mailstore.specs.Account.{Account, files_copies, queues, remembers, notes}
+use Rattle.mailstore.specs.Account.{Account, latest, files_copies, queues, remembers, notes}
 use Rattle.mailtables.specs.declared.queue.Kind.TheVariants as kind
 use Rattle.mailstore.specs.declared.report.Report.{Report}
 use Rattle.mailstore.specs.declared.report.VacationReport.{VacationReport}
@@ -88,11 +88,6 @@ pub data Response : Type 0 where
   Silent : Response
   Quiet : Reason → Response
   Sent : (key octets : List ℕ) → (kept : ℕ) → Response
-
--- the later one of this moment and the one that is kept, if one is: a moment that is kept never goes back
-abbrev pub latest : Option ℕ → ℕ → ℕ
-latest None moment = moment
-latest (Some last) moment = max last moment
 
 -- what is answered where the decision on a response is made; last is the moment that is kept under its key
 abbrev pub Follows : Addr → ℕ → MailSpec → VacArgs → Option ℕ → Decision → Response → Type 0

@@ -5,11 +5,12 @@ use Rattle.sievesyntax.specs.Meaning.{Actions}
 use Rattle.sievesyntax.specs.declared.tree.vacation.VacArgs.{VacArgs}
 use Rattle.sieveexec.specs.Mails.{MailSpec}
 use Rattle.vacreply.specs.Layout.{IsReply}
+use Rattle.mailstore.specs.Account.{latest}
 use Rattle.mailstore.specs.declared.report.VacationReply.{VacationReply}
 use Rattle.mailstore.specs.declared.report.Plan.{Plan}
 use Rattle.mailstore.specs.declared.report.VacationReport.{VacationReport}
 use Rattle.deliverplan.specs.declared.vacation.VacationPlan.{VacationPlan}
-use Rattle.deliverplan.specs.Delivered.{Response, Silent, Quiet, Sent, latest, Responds, vacation_report, report_of, notice_report}
+use Rattle.deliverplan.specs.Delivered.{Response, Silent, Quiet, Sent, Responds, vacation_report, report_of, notice_report}
 
 -- what is queued and remembered of a response, if one is sent
 abbrev pub reply_of : Response → Option VacationReply

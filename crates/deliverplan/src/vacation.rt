@@ -1,11 +1,10 @@
 //! What is done about `vacation` (RFC 5230).
 ghost use Rattle.std.specs.Prelude.{◌≡◌, ◌≤◌, IfOk, option_copied};
 ghost use Rattle.deliverplan.specs.Plans.{IsVacationPlan, SendsReply, unsent_plan};
-ghost use Rattle.deliverplan.specs.Delivered as delivered;
 ghost use Rattle.deliverplan.specs.Views.{moment_under};
 
 use crate::view::View;
-use mailstore::{VacationReply, VacationReport};
+use mailstore::{VacationReply, VacationReport, latest};
 use octets::Octets;
 use sieveexec::Mail;
 use sievesyntax::VacArgs;
@@ -83,14 +82,4 @@ fn send(
             moment: latest(last, moment),
         }),
     })
-}
-
-/// The later one of this moment and the one that is kept, if one is.
-fn latest(last: Option<u64>, moment: u64) -> u64
-    ensures { result ≡ delivered.latest last moment }
-{
-    match last {
-        Some(last) => last.max(moment),
-        None => moment,
-    }
 }

@@ -25,7 +25,7 @@ use Rattle.mailengine.proofs.UpkeepLemmas.{keeps_one}
 use Rattle.mailstore.specs.declared.refusal.Refusal.TheVariants.{UserExists, UserHasMail}
 use Rattle.mailengine.specs.OwnActs as own
 use Rattle.mailengine.specs.Terms.{Terms}
-use Rattle.mailengine.specs.OwnActs.{Act, ActsAlone, Alone, CommandsAlone, RepliesAlone, ReceivesOpen, ReceivesIn, RenewsAlone, JoinsIn, TakesRowAlone, TakesOpen, TakesFirstAlone, TakesMailOpen}
+use Rattle.mailengine.specs.OwnActs.{Act, ActsAlone, Alone, CommandsAlone, RepliesAlone, ReceivesOpen, ReceivesIn, RenewsAlone, JoinsIn, ReplacesAlone, ImportsIn, TakesRowAlone, TakesOpen, TakesFirstAlone, TakesMailOpen}
 
 -- any two replies that a row allows agree in whether the word is OK
 AreAlike : (Reply → Type 0) → Type 0
@@ -159,6 +159,20 @@ act_one user account (own.Joins address salt password answer) one two (inl (new,
 act_one user account (own.Joins address salt password answer) one two (inr (bad, is)) (inr (too, was)) = is.stays ∙ sym was.stays
 act_one user account (own.Joins address salt password answer) one two (inl (new, is)) (inr (bad, was)) = absurd (bad new)
 act_one user account (own.Joins address salt password answer) one two (inr (bad, is)) (inl (new, was)) = absurd (bad new)
+act_one user account (own.IsImported head parts answer) one two (inl (fit, is)) (inl (too, was)) = go account is was
+  where
+    over : (a : Account) (closed full : Bool) → MatchBool closed (MatchBool full (Refuses UserHasMail (Some a) answer one) (ReplacesAlone a head parts answer one)) (Refuses UserExists (Some a) answer one)
+        → MatchBool closed (MatchBool full (Refuses UserHasMail (Some a) answer two) (ReplacesAlone a head parts answer two)) (Refuses UserExists (Some a) answer two) → one ≡ two
+    over a true true is was = is.stays ∙ sym was.stays
+    over a true false is was = is.changed ∙ sym was.changed
+    over a false full is was = is.stays ∙ sym was.stays
+
+    go : (o : Option Account) → ImportsIn o head parts answer one → ImportsIn o head parts answer two → one ≡ two
+    go None is was = is.changed ∙ sym was.changed
+    go (Some a) is was = over a (is_closed a) (has_mail a) is was
+act_one user account (own.IsImported head parts answer) one two (inr (bad, is)) (inr (too, was)) = is.stays ∙ sym was.stays
+act_one user account (own.IsImported head parts answer) one two (inl (fit, is)) (inr (bad, was)) = absurd (bad fit)
+act_one user account (own.IsImported head parts answer) one two (inr (bad, is)) (inl (fit, was)) = absurd (bad fit)
 act_one user account (own.TakesOut id answer) one two is was = go (open_one account) is was
   where
     row : (a : Account) (o : Option Outgoing) → TakesRowAlone a o answer one → TakesRowAlone a o answer two → one ≡ two

@@ -1,7 +1,7 @@
 -- What becomes of one user's account in a run, by the user's acts alone.
 use Rattle.std.proofs.Common.{◌≡◌, ℕ, ◌⊎◌, Bool, true, false, cond, List, [], ◌∷◌, ◌++◌, Option, Some, None, option_map, refl, sym, ◌∙◌, ap, subst, inl, inr, codes}
 use Rattle.std.specs.Prelude.{◌&&◌, not, is_some, is_none, nat_lt, MatchBool}
-use Rattle.std.specs.FinMap.{get, insert, get-insert}
+use Rattle.std.specs.FinMap.{empty, get, insert, get-insert}
 use Rattle.std.proofs.lemmas.Cmp.{nat_list_cmp_total}
 use Rattle.msproto.specs.declared.commands.Command.{Command}
 use Rattle.msproto.specs.declared.commands.Command.TheVariants.{Capability, Noop, Logout, Authenticate, Unauthenticate, HaveSpace, PutScript, CheckScript, ListScripts, SetActive, GetScript, DeleteScript, RenameScript, Response}
@@ -15,9 +15,12 @@ use Rattle.sieveexec.specs.declared.envelope.Envelope.{Envelope}
 use Rattle.mailstore.specs.Account.{Account, Accounts, is_closed, open_one, open_of, has_mail, renews, in_place, with_user, messages_in, takes_out, takes_mail}
 use Rattle.mailstore.proofs.StandingLemmas.{open_there}
 use Rattle.sqlite_typed.proofs.TestLemmas.{bytes_eq_refl, same_bytes}
+use Rattle.accountfiles.specs.declared.head.Head.{Head}
+use Rattle.accountfiles.specs.declared.part.Part.{Part}
+use Rattle.mailstore.specs.Whole.{whole, takes_whole}
 use Rattle.mailstore.specs.declared.queue.Outgoing.{Outgoing}
 use Rattle.mailstore.specs.declared.refusal.Refusal.{Refusal}
-use Rattle.mailstore.specs.declared.refusal.Refusal.TheVariants.{Memory, Store, NotOurs, NoUser, TooLarge, BadEnvelope, BadMoment, UserExists, BadUser, NoRow, AccountClosed, UserIsOpen, UserHasMail, BadScriptName, ScriptTooLarge, TooManyScripts}
+use Rattle.mailstore.specs.declared.refusal.Refusal.TheVariants.{Memory, Store, NotOurs, NoUser, TooLarge, BadEnvelope, BadMoment, UserExists, BadUser, NoRow, AccountClosed, UserIsOpen, UserHasMail, BadScriptName, ScriptTooLarge, TooManyScripts, BadAccount}
 use Rattle.sessions.specs.Clients.{Client, item_in, past}
 use Rattle.sessions.specs.Logins.{admitted, admitted_by, checked_by, has_password, is_plain, is_star, login_reply}
 use Rattle.sessions.specs.Replies.{is_ok, declined, farewell}
@@ -28,16 +31,16 @@ use Rattle.sessions.specs.Turns.{login_text}
 use Rattle.sessions.specs.declared.progress.Progress.{Progress}
 use Rattle.sessions.specs.declared.progress.Progress.TheVariants as p
 use Rattle.mailengine.specs.declared.event.Event.{Event}
-use Rattle.mailengine.specs.declared.event.Event.TheVariants.{Open, Give, Step, GiveUp, Close, Deliver, AddUser, TakeOut, TakeMail, Keep}
+use Rattle.mailengine.specs.declared.event.Event.TheVariants.{Open, Give, Step, GiveUp, Close, Deliver, AddUser, Import, TakeOut, TakeMail, Keep}
 use Rattle.mailengine.specs.declared.answer.Answer.{Answer}
-use Rattle.mailengine.specs.declared.answer.Answer.TheVariants.{Delivered, Added, Taken, Refused, MailTaken}
+use Rattle.mailengine.specs.declared.answer.Answer.TheVariants.{Delivered, Added, Imported, Taken, Refused, MailTaken}
 use Rattle.mailengine.specs.Limits.{limit_refusal}
 use Rattle.mailstore.specs.Account.{row_with}
-use Rattle.mailengine.specs.AccountEvents.{Refuses, Renews, absence, DeliversIn, DeliversUnder, Delivery, AddsUnder, Addition, TakesRow, TakesIn, Taking, TakesFirst, TakesMailIn, MailTaking}
+use Rattle.mailengine.specs.AccountEvents.{Refuses, Renews, Replaces, absence, DeliversIn, DeliversUnder, Delivery, AddsUnder, Addition, ImportsUnder, Importing, TakesRow, TakesIn, Taking, TakesFirst, TakesMailIn, MailTaking}
 use Rattle.mailengine.specs.declared.upkeep.Upkeep.{Upkeep}
 use Rattle.mailengine.specs.Upkeep.{kept_password, instead, put_instead, Keeping}
 use Rattle.mailengine.proofs.UpkeepLemmas.{lost_stays}
-use Rattle.mailengine.specs.OwnActs.{Act, Commands, LogsIn, Receives, Joins, TakesOut, TakesMail, IsKept, TakesFirstAlone, TakesMailOpen, RepliesAlone, CommandsAlone, admits, ReceivesOpen, ReceivesIn, RenewsAlone, JoinsIn, TakesRowAlone, TakesOpen, ActsAlone, Alone, is_user, when_of, is_welcome, login_acts, text_acts, command_acts, item_acts, step_acts, is_lost, event_acts, acts_in, acts, IsAlone}
+use Rattle.mailengine.specs.OwnActs.{Act, Commands, LogsIn, Receives, Joins, IsImported, TakesOut, TakesMail, IsKept, TakesFirstAlone, TakesMailOpen, RepliesAlone, CommandsAlone, admits, ReceivesOpen, ReceivesIn, RenewsAlone, JoinsIn, ReplacesAlone, ImportsIn, TakesRowAlone, TakesOpen, ActsAlone, Alone, is_user, when_of, is_welcome, login_acts, text_acts, command_acts, item_acts, step_acts, is_lost, event_acts, acts_in, acts, IsAlone}
 use Rattle.mailengine.specs.Terms.{Terms, terms}
 use Rattle.mailengine.specs.World.{World, InSession, Opens, Steps, Happens, MayRefuse, IsRefused, Next, Runs}
 
@@ -152,6 +155,31 @@ module _ (user name : List ℕ) (accounts later : Accounts) (answer : Answer) wh
           by (inl other) = ap (λ all. get all user) is.changed ∙ put_other accounts user name _ other
           by (inr lost) = absurd (not_lost answer Added is.added refl lost)
 
+  pub importing_other : (head : Head) (parts : List Part) → head.owner.name ≡ name → Importing accounts head parts answer later
+      → (is_user user name ≡ false) ⊎ (is_lost answer ≡ true) → get later user ≡ get accounts user
+  importing_other head parts named (inr (bad, is)) why = refused_stays BadAccount is
+  importing_other head parts named (inl (fit, made)) why = go (get accounts head.owner.name) made
+    where
+      elsewhere : is_user user name ≡ false → is_user user head.owner.name ≡ false
+      elsewhere other = ap (is_user user) named ∙ other
+
+      over : (closed full : Bool) → MatchBool closed (MatchBool full (Refuses UserHasMail accounts answer later) (Replaces accounts head parts answer later)) (Refuses UserExists accounts answer later) → get later user ≡ get accounts user
+      over true true is = refused_stays UserHasMail is
+      over true false is = by why
+        where
+          by : (is_user user name ≡ false) ⊎ (is_lost answer ≡ true) → get later user ≡ get accounts user
+          by (inl other) = ap (λ all. get all user) is.changed ∙ changed_other accounts user head.owner.name (takes_whole head parts) (elsewhere other)
+          by (inr lost) = absurd (not_lost answer Imported is.imported refl lost)
+      over false full is = refused_stays UserExists is
+
+      go : (o : Option Account) → ImportsUnder accounts head parts o answer later → get later user ≡ get accounts user
+      go (Some a) is = over (is_closed a) (has_mail a) is
+      go None is = by why
+        where
+          by : (is_user user name ≡ false) ⊎ (is_lost answer ≡ true) → get later user ≡ get accounts user
+          by (inl other) = ap (λ all. get all user) is.changed ∙ put_other accounts user head.owner.name _ (elsewhere other)
+          by (inr lost) = absurd (not_lost answer Imported is.imported refl lost)
+
   pub taking_other : (id : ℕ) → Taking accounts name id answer later → (is_user user name ≡ false) ⊎ (is_lost answer ≡ true) → get later user ≡ get accounts user
   taking_other id made why = go (open_of accounts name) made
     where
@@ -225,6 +253,28 @@ module _ (user : List ℕ) (accounts later : Accounts) (answer : Answer) (itself
       go : (o : Option Account) → get accounts user ≡ o → AddsUnder accounts user address salt password o answer later → JoinsIn o address salt password answer (get later user)
       go (Some a) has is = over a has (is_closed a) (has_mail a) is
       go None has is = record { says = is.added; changed = ap (λ all. get all user) is.changed ∙ put_own accounts user _ itself }
+
+  pub importing_own : (head : Head) (parts : List Part) → head.owner.name ≡ user → Importing accounts head parts answer later → ActsAlone user (get accounts user) (IsImported head parts answer) (get later user)
+  importing_own head parts named (inr (bad, is)) = inr (bad, refused_alone BadAccount (get accounts user) refl is)
+  importing_own head parts named (inl (fit, made)) = inl (fit, go (get accounts user) refl (subst (λ n. ImportsUnder accounts head parts (get accounts n) answer later) named made))
+    where
+      over : (a : Account) → get accounts user ≡ Some a → (closed full : Bool)
+          → MatchBool closed (MatchBool full (Refuses UserHasMail accounts answer later) (Replaces accounts head parts answer later)) (Refuses UserExists accounts answer later)
+          → MatchBool closed (MatchBool full (Refuses UserHasMail (Some a) answer (get later user)) (ReplacesAlone a head parts answer (get later user))) (Refuses UserExists (Some a) answer (get later user))
+      over a has true true is = refused_alone UserHasMail (Some a) has is
+      over a has true false is = record {
+        says = is.imported;
+        changed = ap (λ all. get all user) (is.changed ∙ ap (λ n. with_user accounts n (takes_whole head parts)) named)
+            ∙ (changed_own accounts user (takes_whole head parts) itself ∙ ap (λ o. option_map (takes_whole head parts) o) has);
+      }
+      over a has false full is = refused_alone UserExists (Some a) has is
+
+      go : (o : Option Account) → get accounts user ≡ o → ImportsUnder accounts head parts o answer later → ImportsIn o head parts answer (get later user)
+      go (Some a) has is = over a has (is_closed a) (has_mail a) is
+      go None has is = record {
+        says = is.imported;
+        changed = ap (λ all. get all user) (is.changed ∙ ap (λ n. insert accounts n (whole head parts empty)) named) ∙ put_own accounts user (whole head parts empty) itself;
+      }
 
   pub taking_own : (id : ℕ) → Taking accounts user id answer later → ActsAlone user (get accounts user) (TakesOut id answer) (get later user)
   taking_own id made = go (open_of accounts user) refl made
@@ -478,6 +528,9 @@ happens_alone user w next (Deliver name envelope message when default) answer ma
 happens_alone user w next (AddUser name address salt password) answer made =
     account_alone user name w next answer (Joins address salt password answer) made.0 made.2 (addition_other user name w.accounts made.0 answer address salt password made.1)
     (λ is. addition_own user w.accounts made.0 answer (bytes_eq_refl user) address salt password (subst (λ n. Addition w.accounts n address salt password answer made.0) (sym (same_name user name is)) made.1))
+happens_alone user w next (Import file) answer made =
+    account_alone user file.head.owner.name w next answer (IsImported file.head file.parts answer) made.0 made.2 (importing_other user file.head.owner.name w.accounts made.0 answer file.head file.parts refl made.1)
+    (λ is. importing_own user w.accounts made.0 answer (bytes_eq_refl user) file.head file.parts (sym (same_name user file.head.owner.name is)) made.1)
 happens_alone user w next (TakeOut name id) answer made =
     account_alone user name w next answer (TakesOut id answer) made.0 made.2 (taking_other user name w.accounts made.0 answer id made.1)
     (λ is. taking_own user w.accounts made.0 answer (bytes_eq_refl user) id (subst (λ n. Taking w.accounts n id answer made.0) (sym (same_name user name is)) made.1))
@@ -509,6 +562,7 @@ refused_alone_of user w next event answer is = subst (λ b. Alone user (get w.ac
     go BadScriptName may = absurd may
     go ScriptTooLarge may = absurd may
     go TooManyScripts may = absurd may
+    go BadAccount may = absurd may
 
 pub next_alone : (user : List ℕ) (w next : World) (event : Event) (answer : Answer) → Next w event answer next → Alone user (get w.accounts user) (acts_in user w event answer) (get next.accounts user)
 next_alone user w next event answer (inl made) = happens_alone user w next event answer made

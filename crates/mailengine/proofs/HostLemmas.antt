@@ -13,7 +13,7 @@ use Rattle.mailstore.specs.Account.{Accounts}
 use Rattle.mailstore.specs.Refusals.{IsTransient}
 use Rattle.sieveexec.specs.declared.envelope.Envelope.{Envelope}
 use Rattle.mailstore.specs.declared.refusal.Refusal.{Refusal}
-use Rattle.mailstore.specs.declared.refusal.Refusal.TheVariants.{Memory, Store, NotOurs, NoUser, TooLarge, BadEnvelope, BadMoment, UserExists, BadUser, NoRow, AccountClosed, UserIsOpen, UserHasMail, BadScriptName, ScriptTooLarge, TooManyScripts}
+use Rattle.mailstore.specs.declared.refusal.Refusal.TheVariants.{Memory, Store, NotOurs, NoUser, TooLarge, BadEnvelope, BadMoment, UserExists, BadUser, NoRow, AccountClosed, UserIsOpen, UserHasMail, BadScriptName, ScriptTooLarge, TooManyScripts, BadAccount}
 use Rattle.sqlite.specs.State.{State, HasCleanDisk, Survives}
 use Rattle.sqlite.proofs.StateLemmas.{survives_weaker}
 use Rattle.mailstore.proofs.OneLemmas.{accounts_one}
@@ -31,11 +31,12 @@ use Rattle.sessions.specs.declared.progress.Progress.{Progress}
 use Rattle.sessions.specs.declared.sort.Order.{Order}
 use Rattle.sessions.specs.declared.progress.Progress.TheVariants as p
 use Rattle.mailengine.specs.declared.event.Event.{Event}
-use Rattle.mailengine.specs.declared.event.Event.TheVariants.{Open, Give, Step, GiveUp, Close, Deliver, AddUser, TakeOut, TakeMail, Keep}
+use Rattle.mailengine.specs.declared.event.Event.TheVariants.{Open, Give, Step, GiveUp, Close, Deliver, AddUser, Import, TakeOut, TakeMail, Keep}
 use Rattle.mailengine.specs.declared.answer.Answer.{Answer}
 use Rattle.mailengine.specs.declared.answer.Answer.TheVariants.{Out, Ignored, Refused}
 use Rattle.mailengine.specs.World.{World, Clients, with_accounts, Ignores, Becomes, InSession, Opens, Steps, Happens, MayRefuse, with_session, without_session, MayLack, MayFail, if_open, is_closed}
-use Rattle.mailengine.specs.Hosts.{Kept, IsMade, clients_of, AsksStore, HasClients, host, IsSessionEvent, KeepsClients, IsEvent, Leads, EventCrashLeaves, answer_by, answer_of, TurnsBy, MayTurnBy, MayRefuseDelivery, MayRefuseAddition, MayRefuseKeeping}
+use Rattle.mailengine.specs.Hosts.{Kept, IsMade, clients_of, AsksStore, HasClients, host, IsSessionEvent, KeepsClients, IsEvent, Leads, EventCrashLeaves, answer_by, answer_of, TurnsBy, MayTurnBy, MayRefuseDelivery, MayRefuseAddition, MayRefuseImport, MayRefuseKeeping}
+use Rattle.accountfiles.specs.declared.account_file.AccountFile.{AccountFile}
 use Rattle.sieveexec.specs.declared.when.When.{When}
 use Rattle.mailengine.specs.declared.upkeep.Upkeep.{Upkeep}
 
@@ -220,6 +221,7 @@ step_refused w n c UserHasMail has may = absurd may
 step_refused w n c BadScriptName has may = absurd may
 step_refused w n c ScriptTooLarge has may = absurd may
 step_refused w n c TooManyScripts has may = absurd may
+step_refused w n c BadAccount has may = absurd may
 
 -- the step of one session is the machine's
 stepped : (w : World) (n : ℕ) (c d : Client) (progress : Progress) (octets : List ℕ) (later : Accounts) → get w.sessions n ≡ Some c → IsStep w.accounts c progress octets d later
@@ -366,6 +368,10 @@ delivery_may user message envelope when default w refusal (inr is, none) = faili
 pub addition_may : (name address salt password : List ℕ) (w : World) (refusal : Refusal) → MayRefuseAddition name address password refusal → MayRefuse w (AddUser name address salt password) refusal
 addition_may name address salt password w refusal (inl is) = lacking_may w (AddUser name address salt password) refusal is tt
 addition_may name address salt password w refusal (inr (is, new)) = failing_may w (AddUser name address salt password) refusal is new
+
+pub importing_may : (file : AccountFile) (w : World) (refusal : Refusal) → MayRefuseImport file.head file.parts refusal → MayRefuse w (Import file) refusal
+importing_may file w refusal (inl is) = lacking_may w (Import file) refusal is tt
+importing_may file w refusal (inr (is, fit)) = failing_may w (Import file) refusal is fit
 
 pub taking_may : (user : List ℕ) (id : ℕ) (w : World) (refusal : Refusal) → IsTransient refusal → MayRefuse w (TakeOut user id) refusal
 taking_may user id w refusal (inl is) = lacking_may w (TakeOut user id) refusal is tt

@@ -3,8 +3,12 @@ mod AloneExamples
 pub mod UpkeepLemmas
 pub mod AloneLemmas
 pub mod DeliveryLemmas
+pub mod CopyLemmas
 mod EventExamples
+mod ImportExamples
 pub mod HostLemmas
+pub mod ImportLemmas
+pub mod ImportingLemmas
 pub mod KeepingLemmas
 pub mod KeptLemmas
 mod LimitExamples

@@ -3,9 +3,11 @@ use Rattle.std.proofs.Common.{◌≡◌, ◌≢◌, ◌⊎◌, ℕ, ◌+◌, ◌
 use Rattle.std.specs.declared.cmp.Ordering.{Ordering}
 use Rattle.std.specs.declared.cmp.Ordering.TheVariants.{Less, Equal, Greater}
 use Rattle.std.specs.Ordering.{is_eq}
-use Rattle.std.specs.FinMap.{FinMap, get, insert, remove, len, contains_key, get-empty, get-insert, get-remove, len-empty, len-insert, len-remove}
+use Rattle.std.specs.FinMap.{FinMap, empty, get, insert, remove, len, contains_key, get-empty, get-insert, get-remove, len-empty, len-insert, len-remove}
 use Rattle.std.proofs.lemmas.Cmp.{nat_list_cmp_total}
 use Rattle.sqlite_typed.proofs.TestLemmas.{bytes_eq_refl, same_bytes}
+use Rattle.accountfiles.specs.declared.head.Head.{Head}
+use Rattle.accountfiles.specs.declared.part.Part.{Part}
 use Rattle.addrparts.specs.declared.address.Addr.{Addr}
 use Rattle.addrparts.specs.Spelling.{spelling}
 use Rattle.sievesyntax.specs.RunState.{inbox}
@@ -16,6 +18,7 @@ use Rattle.msproto.specs.declared.commands.Command.TheVariants as verb
 use Rattle.msproto.specs.declared.replies.Reply.{Reply}
 use Rattle.mailstore.specs.Account.{bytes_cmp, Account, Accounts, Folders, is_closed, open_one, has_mail, addresses, empties, removes, renews, keeps_script, activates, deletes_script, renames_script, moved, other_name, messages_in, holding, filed, filed_in, files_copies, queues}
 use Rattle.mailtables.specs.declared.queue.Kind.TheVariants as kind
+use Rattle.mailstore.specs.Whole.{whole, takes_whole}
 use Rattle.mailstore.specs.declared.queue.Outgoing.{Outgoing}
 use Rattle.mailstore.specs.declared.report.Report.{Report}
 use Rattle.mailstore.specs.declared.refusal.Refusal.{Refusal}
@@ -35,7 +38,7 @@ use Rattle.mailstore.proofs.StandingLemmas.{open_there}
 use Rattle.sessions.specs.Table.{RepliesOf, early_reply}
 use Rattle.mailstore.specs.Account.{row_with}
 use Rattle.mailengine.specs.OwnActs as own
-use Rattle.mailengine.specs.OwnActs.{Act, ActsAlone, Alone, CommandsAlone, RepliesAlone, ReceivesOpen, ReceivesIn, RenewsAlone, JoinsIn, TakesRowAlone, TakesOpen, TakesFirstAlone, TakesMailOpen, fresh}
+use Rattle.mailengine.specs.OwnActs.{Act, ActsAlone, Alone, CommandsAlone, RepliesAlone, ReceivesOpen, ReceivesIn, RenewsAlone, JoinsIn, ReplacesAlone, ImportsIn, TakesRowAlone, TakesOpen, TakesFirstAlone, TakesMailOpen, fresh}
 use Rattle.mailengine.specs.Sound.{IsSoundScript, IsSound, AreSound}
 use Rattle.mailengine.specs.World.{World, Next, Runs}
 use Rattle.mailengine.proofs.AloneLemmas.{next_alone, projection}
@@ -109,7 +112,7 @@ not_empty [] x e = cc
 not_empty (y ∷ ys) x e = cc
 
 -- where no folder is empty, none is after a message has joined some
-filled_in : (message : List ℕ) (names : List (List ℕ)) (folders : Folders) → ((f : List ℕ) → get folders f ≢ Some []) → (f : List ℕ) → get (filed_in message folders names) f ≢ Some []
+pub filled_in : (message : List ℕ) (names : List (List ℕ)) (folders : Folders) → ((f : List ℕ) → get folders f ≢ Some []) → (f : List ℕ) → get (filed_in message folders names) f ≢ Some []
 filled_in message [] folders full = full
 filled_in message (name ∷ names) folders full = filled_in message names (filed folders name message) (λ f is. go f (inserted folders name (messages_in folders name ++ message ∷ []) f [] is))
   where
@@ -287,6 +290,10 @@ sound_renewed name address salt password a new =
     let bare = sound_bare address a new.addressed in
     record { address = bare.address; scripts = bare.scripts; few = bare.few; active = bare.active; filled = bare.filled }
 
+-- an account of a text, over moments of replies that are there
+sound_replaced : (head : Head) (parts : List Part) (a : Account) → IsSound (whole head parts empty) → IsSound (takes_whole head parts a)
+sound_replaced head parts a own = record { address = own.address; scripts = own.scripts; few = own.few; active = own.active; filled = own.filled }
+
 sound_removed : (a : Account) → IsSound a → IsSound (removes a)
 sound_removed a own =
     let bare = sound_bare a.address a own.address in
@@ -382,6 +389,17 @@ act_sound user account later (own.Joins address salt password answer) sound (inl
     go None sound is = subst (λ o. IfSome o IsSound) (sym is.changed) (sound_fresh user address salt password new)
     go (Some a) sound is = over a sound (is_closed a) (has_mail a) is
 act_sound user account later (own.Joins address salt password answer) sound (inr (bad, is)) = subst (λ o. IfSome o IsSound) (sym is.stays) sound
+act_sound user account later (own.IsImported head parts answer) sound (inl (fit, is)) = go account sound is
+  where
+    over : (a : Account) → IsSound a → (closed full : Bool) → MatchBool closed (MatchBool full (Refuses UserHasMail (Some a) answer later) (ReplacesAlone a head parts answer later)) (Refuses UserExists (Some a) answer later) → IfSome later IsSound
+    over a sound true true is = subst (λ o. IfSome o IsSound) (sym is.stays) sound
+    over a sound true false is = subst (λ o. IfSome o IsSound) (sym is.changed) (sound_replaced head parts a fit.sound)
+    over a sound false full is = subst (λ o. IfSome o IsSound) (sym is.stays) sound
+
+    go : (account : Option Account) → IfSome account IsSound → ImportsIn account head parts answer later → IfSome later IsSound
+    go None sound is = subst (λ o. IfSome o IsSound) (sym is.changed) fit.sound
+    go (Some a) sound is = over a sound (is_closed a) (has_mail a) is
+act_sound user account later (own.IsImported head parts answer) sound (inr (bad, is)) = subst (λ o. IfSome o IsSound) (sym is.stays) sound
 act_sound user account later (own.TakesOut id answer) sound is = go (open_one account) refl is
   where
     row : (a : Account) (o : Option Outgoing) → IsSound a → TakesRowAlone a o answer later → IfSome later IsSound

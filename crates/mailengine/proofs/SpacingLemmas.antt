@@ -1,11 +1,14 @@
 -- Answers to one sender under one handle are spaced by their periods.
-use Rattle.std.proofs.Common.{◌≡◌, ℕ, ◌+◌, ◌<◌, ◌≤◌, Bool, true, false, cond, List, [], ◌∷◌, ◌++◌, Option, Some, None, IfSome, MatchBool, option_map, refl, sym, ◌∙◌, ap, subst, inl, inr, arith}
+use Rattle.std.proofs.Common.{◌≡◌, ℕ, ◌+◌, ◌<◌, ◌≤◌, Bool, true, false, cond, List, [], ◌∷◌, ◌++◌, fold, Option, Some, None, IfSome, MatchBool, option_map, refl, sym, ◌∙◌, ap, subst, inl, inr, arith}
 use Rattle.std.specs.declared.cmp.Ordering.{Ordering}
 use Rattle.std.specs.declared.cmp.Ordering.TheVariants.{Less, Equal, Greater}
-use Rattle.std.specs.FinMap.{get, get-insert}
+use Rattle.std.specs.FinMap.{get, insert, get-insert}
 use Rattle.std.specs.Ordering.{is_eq, ordering_then}
 use Rattle.std.proofs.lemmas.Bool.Decides.{nat_tests}
-use Rattle.mailstore.proofs.MapLemmas.{tied_is}
+use Rattle.accountfiles.specs.declared.part.Part.{Part}
+use Rattle.accountfiles.specs.declared.part.Part.TheVariants.{Script, Reply, Mail, Copy, Letter, Notice}
+use Rattle.mailstore.specs.Whole.{replies_with}
+use Rattle.mailstore.proofs.MapLemmas.{tied_is, tied}
 use Rattle.octets.specs.Ascii.{lowered}
 use Rattle.addrparts.specs.declared.address.Addr.{Addr}
 use Rattle.addrparts.specs.Spelling.{spelling}
@@ -25,7 +28,7 @@ use Rattle.vacreply.specs.declared.reason.Reason.{Reason}
 use Rattle.vacreply.specs.declared.reason.Reason.TheVariants as R
 use Rattle.vacreply.specs.declared.reason.Decision.{Decision}
 use Rattle.vacreply.specs.declared.reason.Decision.TheVariants as D
-use Rattle.mailstore.specs.Account.{bytes_cmp, reply_cmp, Account, Accounts, Replies, is_closed, open_one, open_of, has_mail, files_copies, remembers, queues, messages_in}
+use Rattle.mailstore.specs.Account.{latest, bytes_cmp, reply_cmp, Account, Accounts, Replies, is_closed, open_one, open_of, has_mail, files_copies, remembers, queues, messages_in}
 use Rattle.mailstore.proofs.StandingLemmas.{open_there}
 use Rattle.mailtables.specs.declared.queue.Kind.TheVariants as kind
 use Rattle.mailstore.specs.declared.report.Report.{Report}
@@ -34,9 +37,9 @@ use Rattle.mailstore.specs.declared.report.VacationReport.TheVariants as V
 use Rattle.mailstore.specs.declared.refusal.Refusal.{Refusal}
 use Rattle.sessions.specs.Scripts.{carried_out, obeyed}
 use Rattle.deliverplan.specs.Views.{last_reply}
-use Rattle.deliverplan.specs.Delivered.{Disposition, Acts, Tells, Response, Silent, Quiet, Sent, latest, Follows, Responds, acts, redirects, responds, vacation_report, DeliversAs}
+use Rattle.deliverplan.specs.Delivered.{Disposition, Acts, Tells, Response, Silent, Quiet, Sent, Follows, Responds, acts, redirects, responds, vacation_report, DeliversAs}
 use Rattle.mailengine.specs.declared.event.Event.{Event}
-use Rattle.mailengine.specs.declared.event.Event.TheVariants.{Open, Give, Step, GiveUp, Close, Deliver, AddUser, TakeOut, TakeMail, Keep}
+use Rattle.mailengine.specs.declared.event.Event.TheVariants.{Open, Give, Step, GiveUp, Close, Deliver, AddUser, Import, TakeOut, TakeMail, Keep}
 use Rattle.mailengine.specs.declared.answer.Answer.{Answer}
 use Rattle.mailengine.specs.Limits.{limit_refusal}
 use Rattle.mailstore.specs.Account.{row_with}
@@ -45,7 +48,7 @@ use Rattle.mailengine.specs.Upkeep.{stores, instead}
 use Rattle.mailengine.proofs.UpkeepLemmas.{LastsThrough, keeps_holds}
 use Rattle.mailstore.specs.declared.refusal.Refusal.TheVariants.{UserExists, UserHasMail}
 use Rattle.mailengine.specs.OwnActs as own
-use Rattle.mailengine.specs.OwnActs.{Act, ActsAlone, Alone, ReceivesOpen, ReceivesIn, RenewsAlone, JoinsIn, TakesRowAlone, TakesOpen, TakesFirstAlone, TakesMailOpen}
+use Rattle.mailengine.specs.OwnActs.{Act, ActsAlone, Alone, ReceivesOpen, ReceivesIn, RenewsAlone, JoinsIn, ReplacesAlone, ImportsIn, TakesRowAlone, TakesOpen, TakesFirstAlone, TakesMailOpen}
 use Rattle.mailengine.specs.World.{World, Next, Runs}
 use Rattle.mailengine.specs.Spacing.{Thread, Entry, entry_of, entries_if, vacation_in, sent_in, sent_under, sent_by, sent_at, sent, kept_in, kept, IsPast, ComeAfter, Follow, IsAtLeast, IsSpacing}
 use Rattle.mailengine.proofs.AloneLemmas.{put_own, next_alone, projection}
@@ -260,6 +263,25 @@ kept_keeps account None thread lasts = no_sooner_same (kept_in account thread)
 kept_keeps None (Some b) thread lasts = tt
 kept_keeps (Some a) (Some b) thread lasts = no_sooner_is (kept_in (Some a) thread) (kept_in (Some b) thread) (ap (λ m. get m (place thread)) (lasts a.replies refl))
 
+-- the moments of a text never make one sooner that is there
+put_keeps : (replies : Replies) (k : List ℕ × List ℕ) (moment : ℕ) (key : List ℕ × List ℕ) → IsNoSooner (get replies key) (get (insert replies k (latest (get replies k) moment)) key)
+put_keeps replies k moment key = subst (IsNoSooner (get replies key)) (sym (get-insert reply_total replies k (latest (get replies k) moment) key)) (go (is_eq (reply_cmp key k)) refl)
+  where
+    go : (t : Bool) → is_eq (reply_cmp key k) ≡ t → IsNoSooner (get replies key) (cond t (Some (latest (get replies k) moment)) (get replies key))
+    go true is = subst (λ j. IsNoSooner (get replies j) (Some (latest (get replies k) moment))) (sym (tied reply_cmp reply_total reply_antisymmetric key k is)) (latest_is_no_sooner (get replies k) moment)
+    go false is = no_sooner_same (get replies key)
+
+parts_keep : (parts : List Part) (replies : Replies) (key : List ℕ × List ℕ) → IsNoSooner (get replies key) (get (fold replies_with replies parts) key)
+parts_keep [] replies key = no_sooner_same (get replies key)
+parts_keep (Script a b ∷ parts) replies key = parts_keep parts replies key
+parts_keep (Reply a b c ∷ parts) replies key =
+    let next = insert replies (a, b) (latest (get replies (a, b)) c) in
+    no_sooner_then (get replies key) (get next key) (get (fold replies_with next parts) key) (put_keeps replies (a, b) c key) (parts_keep parts next key)
+parts_keep (Mail a b c ∷ parts) replies key = parts_keep parts replies key
+parts_keep (Copy a b c ∷ parts) replies key = parts_keep parts replies key
+parts_keep (Letter a b c d e ∷ parts) replies key = parts_keep parts replies key
+parts_keep (Notice a b c ∷ parts) replies key = parts_keep parts replies key
+
 -- an act never makes a kept moment sooner
 act_keeps : (user : List ℕ) (account later : Option Account) (act : Act) (thread : Thread) → ActsAlone user account act later → IsNoSooner (kept_in account thread) (kept_in later thread)
 act_keeps user account later (own.Commands command octets) thread is =
@@ -289,6 +311,18 @@ act_keeps user account later (own.Joins address salt password answer) thread (in
     go None is = tt
     go (Some a) is = over a (is_closed a) (has_mail a) is
 act_keeps user account later (own.Joins address salt password answer) thread (inr (bad, is)) = no_sooner_is (kept_in account thread) (kept_in later thread) (ap (λ o. kept_in o thread) is.stays)
+act_keeps user account later (own.IsImported head parts answer) thread (inl (fit, is)) = go account is
+  where
+    over : (a : Account) (closed full : Bool) → MatchBool closed (MatchBool full (Refuses UserHasMail (Some a) answer later) (ReplacesAlone a head parts answer later)) (Refuses UserExists (Some a) answer later)
+        → IsNoSooner (kept_in (Some a) thread) (kept_in later thread)
+    over a true true is = no_sooner_is (kept_in (Some a) thread) (kept_in later thread) (ap (λ o. kept_in o thread) is.stays)
+    over a true false is = subst (λ o. IsNoSooner (kept_in (Some a) thread) (kept_in o thread)) (sym is.changed) (parts_keep parts a.replies (place thread))
+    over a false full is = no_sooner_is (kept_in (Some a) thread) (kept_in later thread) (ap (λ o. kept_in o thread) is.stays)
+
+    go : (account : Option Account) → ImportsIn account head parts answer later → IsNoSooner (kept_in account thread) (kept_in later thread)
+    go None is = tt
+    go (Some a) is = over a (is_closed a) (has_mail a) is
+act_keeps user account later (own.IsImported head parts answer) thread (inr (bad, is)) = no_sooner_is (kept_in account thread) (kept_in later thread) (ap (λ o. kept_in o thread) is.stays)
 act_keeps user account later (own.TakesOut id answer) thread is = go (open_one account) refl is
   where
     row : (a : Account) (o : Option Outgoing) → TakesRowAlone a o answer later → IsNoSooner (kept_in (Some a) thread) (kept_in later thread)
@@ -380,6 +414,7 @@ sent_one w next (Step s) answer (inl made) = tt
 sent_one w next (GiveUp s) answer (inl made) = tt
 sent_one w next (Close s) answer (inl made) = tt
 sent_one w next (AddUser name address salt password) answer (inl made) = tt
+sent_one w next (Import file) answer (inl made) = tt
 sent_one w next (TakeOut name id) answer (inl made) = tt
 sent_one w next (TakeMail name folder) answer (inl made) = tt
 sent_one w next (Keep name upkeep) answer (inl made) = tt

@@ -1,12 +1,13 @@
 -- A new user: the tests, how an account of the name stands, and then the write.
-use Rattle.std.proofs.Common.{◌≡◌, ℕ, Bool, true, false, cond, is_some, List, Option, Some, None, option_map, Ok, Err, Result, MatchBool, OnOk, IfOk, IfErr, IsSome, refl, sym, ap, ◌∙◌, subst, inl, inr}
+use Rattle.std.proofs.Common.{◌≡◌, ℕ, Bool, true, false, cond, is_some, List, Option, Some, None, option_map, Ok, Err, Result, MatchBool, OnOk, OnErr, IfOk, IfErr, IsSome, refl, sym, ap, ◌∙◌, subst, inl, inr}
 use Rattle.std.specs.FinMap.{get}
-use Rattle.sqlite.specs.State.{State, HasCleanDisk}
+use Rattle.sqlite.specs.State.{State, HasCleanDisk, Survives}
 use Rattle.saslplain.specs.Password.{digest_of}
 use Rattle.mailstore.specs.declared.refusal.Refusal.{Refusal}
 use Rattle.mailstore.specs.declared.refusal.Refusal.TheVariants.{Memory, UserExists, UserHasMail, BadUser}
 use Rattle.mailstore.specs.Account.{Account, Accounts, is_closed, has_mail, new_user, renews, with_user}
-use Rattle.mailstore.specs.Promises.{HasUser, IsFree, Writes, WritesUser}
+use Rattle.mailstore.specs.Connection.{StaysSame, IsSettled}
+use Rattle.mailstore.specs.Promises.{HasUser, IsFree, HasOurTables, Keeps, Turns, CrashLeavesAccounts, Writes, WritesUser}
 use Rattle.mailstore.specs.Refusals.{IsTransient}
 use Rattle.mailstore.specs.Shows.{Presents}
 use Rattle.sessions.proofs.ActLemmas.{no_glance, glanced, read_shows, acts_read, acts_made, acts_undone}
@@ -14,13 +15,13 @@ use Rattle.mailengine.specs.declared.answer.Answer.{Answer}
 use Rattle.mailengine.specs.declared.answer.Answer.TheVariants.{Added, Refused}
 use Rattle.mailengine.specs.declared.standing.Standing.{Standing}
 use Rattle.mailengine.specs.AccountEvents.{Refuses, Renews, AddsUnder, Addition}
-use Rattle.mailengine.specs.Hosts.{TurnsBy, MayTurnBy, MayRefuseAddition, RefusesAddition, ActsAddition}
+use Rattle.mailengine.specs.Hosts.{ActsBy, TurnsBy, MayTurnBy, MayRefuseAddition, RefusesAddition, ActsAddition}
 use Rattle.mailengine.specs.Limits.{IsNewUser}
 use Rattle.mailengine.specs.Lookups.{standing_of, over_standing, ReadsStanding}
 use Rattle.mailengine.specs.Upkeep.{rounds, kept_password}
 
 -- which refusals an account of the name gives
-over_named : (o : Option Standing) (refusal : Refusal) (P : Refusal → Type 0) → P UserExists → P UserHasMail → over_standing o ≡ Some refusal → P refusal
+pub over_named : (o : Option Standing) (refusal : Refusal) (P : Refusal → Type 0) → P UserExists → P UserHasMail → over_standing o ≡ Some refusal → P refusal
 over_named None refusal P there mail is = absurd (let no = is in cc)
 over_named (Some standing) refusal P there mail is = go standing.is_closed standing.has_mail is
   where
@@ -37,6 +38,28 @@ pub transient_refuses : {X : Type 0} (name address password : List ℕ) (q : Res
 transient_refuses name address password (Ok x) new transient = tt
 transient_refuses name address password (Err e) new (inl memory) = inr (inr (inr (inl memory)))
 transient_refuses name address password (Err e) new (inr store) = inr (inr (inr (inr (store, new))))
+
+-- how the account stands, as it was read
+pub standing_found : (name : List ℕ) (a b : State) (r : Result (Option Standing) Refusal) → ReadsStanding name a b r → (o : Option Standing) → r ≡ Ok o → HasCleanDisk b → (accounts : Accounts) → Presents a.now accounts
+    → o ≡ option_map standing_of (get accounts name)
+standing_found name a b r read o was clean accounts p = subst (λ q. IfOk q (λ standing. standing ≡ option_map standing_of (get accounts name))) was (read.found clean accounts p)
+
+-- the name has no account
+pub name_free : (o : Option Standing) → is_some o ≡ false → (has : Option Account) → o ≡ option_map standing_of has → has ≡ None
+name_free o none None is = refl
+name_free o none (Some account) is = absurd (let no : true ≡ false = sym (ap is_some is) ∙ none in cc)
+
+-- a write after how the account stands was read: one row by which the accounts turn, and what is told of it
+module _ (Row : Accounts → Answer → Accounts → Type 0) (May : Refusal → Type 0) (told : Answer) (transient_turn : (e : Refusal) (accounts : Accounts) → IsTransient e → TurnsBy Row May (Refused e) accounts accounts)
+    (a b c : State) (r : Result (Option Standing) Refusal) (o : Option Standing) (was : r ≡ Ok o) (k : Keeps a b r) (Fit : Accounts → Type 0) (change : Accounts → Accounts)
+    (fits : HasCleanDisk b → (accounts : Accounts) → Presents a.now accounts → Fit accounts × Row accounts told (change accounts)) (w : Result (Unit {0}) Refusal) (made : HasCleanDisk c → OnOk w (Turns Fit change b.now c.now))
+    (settled : HasCleanDisk c → OnOk w (IsSettled c)) (same : HasCleanDisk c → HasOurTables b.now → OnErr w (StaysSame b c)) (crash : Survives b c (CrashLeavesAccounts Fit change b)) where
+  pub written_by : (q : Result (Unit {0}) Refusal) → w ≡ q → IfErr q IsTransient → ActsBy Row May (λ done. told) a c q
+  written_by (Ok y) done transient =
+      acts_made a b c r o was k Fit change w made settled same crash (TurnsBy Row May told) (MayTurnBy Row) y y done (λ clean accounts p. let f = fits clean accounts p in (f.0, inl f.1, (told, f.1)))
+  written_by (Err e) refused transient =
+      acts_undone a b c r o was k Fit change w made settled same crash (TurnsBy Row May (Refused e)) (MayTurnBy Row) e (Err e) refused
+      (λ said. said transient) (λ accounts. transient_turn e accounts transient) (λ clean accounts p. let f = fits clean accounts p in (f.0, (told, f.1)))
 
 module _ (name address salt password : List ℕ) where
   abbrev Row : Accounts → Answer → Accounts → Type 0
@@ -69,7 +92,7 @@ module _ (name address salt password : List ℕ) where
 
     module _ (o : Option Standing) (was : r ≡ Ok o) where
       found : HasCleanDisk b → (accounts : Accounts) → Presents a.now accounts → o ≡ option_map standing_of (get accounts name)
-      found clean accounts p = subst (λ q. IfOk q (λ standing. standing ≡ option_map standing_of (get accounts name))) was (read.found clean accounts p)
+      found = standing_found name a b r read o was
 
       -- the name has an account that stands against it
       over_turn : (refusal : Refusal) (accounts : Accounts) (has : Option Account) → over_standing (option_map standing_of has) ≡ Some refusal → AddsUnder accounts name address salt password has (Refused refusal) accounts
@@ -92,24 +115,15 @@ module _ (name address salt password : List ℕ) where
       module _ (Fit : Accounts → Type 0) (change : Accounts → Accounts) (fits : HasCleanDisk b → (accounts : Accounts) → Presents a.now accounts → Fit accounts × Row accounts Added (change accounts))
           (c : State) (w : Result (Unit {0}) Refusal) (late : Writes Fit change b c w) where
         written : (q : Result (Unit {0}) Refusal) → w ≡ q → IfErr q IsTransient → ActsAddition name address salt password a c q
-        written (Ok y) done transient =
-            acts_made a b c r o was read.keeps Fit change w late.made late.settled (λ clean tables. late.same clean) late.crash (TurnsBy Row May Added) (MayTurnBy Row) y y done
-            (λ clean accounts p. let f = fits clean accounts p in (f.0, inl f.1, (Added, f.1)))
-        written (Err e) refused transient =
-            acts_undone a b c r o was read.keeps Fit change w late.made late.settled (λ clean tables. late.same clean) late.crash (TurnsBy Row May (Refused e)) (MayTurnBy Row) e (Err e) refused
-            (λ told. told transient) (λ accounts. transient_turn e accounts transient) (λ clean accounts p. let f = fits clean accounts p in (f.0, (Added, f.1)))
+        written = written_by Row May Added transient_turn a b c r o was read.keeps Fit change fits w late.made late.settled (λ clean tables. late.same clean) late.crash
 
       -- the name has no account, and a new one is written
-      free : is_some o ≡ false → (has : Option Account) → o ≡ option_map standing_of has → has ≡ None
-      free none None is = refl
-      free none (Some account) is = absurd (let no : true ≡ false = sym (ap is_some is) ∙ none in cc)
-
       pub addition_written : is_some o ≡ false → (c : State) (w : Result (Unit {0}) Refusal) → Writes (IsFree name) (new_user name address salt rounds (digest_of salt password rounds)) b c w → ActsAddition name address salt password a c w
       addition_written none c w late = written (IsFree name) (new_user name address salt rounds (digest_of salt password rounds)) fits c w late w refl late.named
         where
           fits : HasCleanDisk b → (accounts : Accounts) → Presents a.now accounts → IsFree name accounts × Row accounts Added (new_user name address salt rounds (digest_of salt password rounds) accounts)
           fits clean accounts p =
-              let is = free none (get accounts name) (found clean accounts p) in
+              let is = name_free o none (get accounts name) (found clean accounts p) in
               (is, inl (new, subst (λ h. AddsUnder accounts name address salt password h Added (new_user name address salt rounds (digest_of salt password rounds) accounts)) (sym is) (record { added = refl; changed = refl })))
 
       -- the name has a closed account without mail, which is opened anew

@@ -10,7 +10,7 @@ use Rattle.msproto.specs.Machine.{rows}
 use Rattle.msproto.specs.Replies.{spelled}
 use Rattle.mailstore.specs.Account.{bytes_cmp, Account, open_one}
 use Rattle.mailstore.specs.declared.refusal.Refusal.{Refusal}
-use Rattle.mailstore.specs.declared.refusal.Refusal.TheVariants.{Memory, Store, NotOurs, NoUser, TooLarge, BadEnvelope, BadMoment, UserExists, BadUser, NoRow, AccountClosed, UserIsOpen, UserHasMail, BadScriptName, ScriptTooLarge, TooManyScripts}
+use Rattle.mailstore.specs.declared.refusal.Refusal.TheVariants.{Memory, Store, NotOurs, NoUser, TooLarge, BadEnvelope, BadMoment, UserExists, BadUser, NoRow, AccountClosed, UserIsOpen, UserHasMail, BadScriptName, ScriptTooLarge, TooManyScripts, BadAccount}
 use Rattle.sieveexec.specs.declared.envelope.Envelope.{Envelope}
 use Rattle.sessions.specs.Clients.{Client, new_client, client_given}
 use Rattle.sessions.specs.Counts.{SessionView}
@@ -179,6 +179,7 @@ refused_to_give_up w next answer is = never is.refusal is.may
     never BadScriptName may = may
     never ScriptTooLarge may = may
     never TooManyScripts may = may
+    never BadAccount may = may
 
 -- ---- a client goes
 

@@ -1,22 +1,26 @@
--- Events of the accounts alone: a delivery, a new user, a row taken out of the queue, a message taken out of a folder (RFC 5228, 2.10).
+-- Events of the accounts alone: a delivery, a new user, an account that comes whole, a row taken out of the queue, a message taken out of a folder (RFC 5228, 2.10).
 -- What an administrator does to one account stands in `Upkeep`.
-use Rattle.std.specs.Prelude.{◌≡◌, ℕ, cond, List, [], ◌∷◌, Option, Some, None, MatchBool}
-use Rattle.std.specs.FinMap.{get, insert}
+use Rattle.std.specs.Prelude.{◌≡◌, ℕ, true, cond, List, [], ◌∷◌, Option, Some, None, MatchBool}
+use Rattle.std.specs.FinMap.{empty, get, insert}
+use Rattle.accountfiles.specs.declared.head.Head.{Head}
+use Rattle.accountfiles.specs.declared.part.Part.{Part}
 use Rattle.addrparts.specs.declared.address.Addr.{Addr}
 use Rattle.addrparts.specs.Outbound.{IsBareAddress}
 use Rattle.saslplain.specs.Password.{digest_of}
 use Rattle.mailstore.specs.Account.{Account, Accounts, Scripts, is_closed, is_removed, open_of, has_mail, renews, new_user, with_user, messages_in, row_with, takes_out, takes_mail}
+use Rattle.mailstore.specs.Whole.{whole, takes_whole}
 use Rattle.mailstore.specs.declared.queue.Outgoing.{Outgoing}
 use Rattle.mailstore.specs.declared.report.Report.{Report}
 use Rattle.mailstore.specs.declared.refusal.Refusal.{Refusal}
-use Rattle.mailstore.specs.declared.refusal.Refusal.TheVariants.{NoUser, UserExists, BadUser, NoRow, AccountClosed, UserHasMail}
+use Rattle.mailstore.specs.declared.refusal.Refusal.TheVariants.{NoUser, UserExists, BadUser, NoRow, AccountClosed, UserHasMail, BadAccount}
 use Rattle.sieveexec.specs.declared.envelope.Envelope.{Envelope}
 use Rattle.sieveexec.specs.Mails.{mail_of}
 use Rattle.deliverplan.specs.Delivered.{Delivers}
 use Rattle.sessions.specs.Scripts.{Where}
 use Rattle.mailengine.specs.declared.answer.Answer.{Answer}
-use Rattle.mailengine.specs.declared.answer.Answer.TheVariants.{Delivered, Added, Taken, MailTaken, Refused}
-use Rattle.mailengine.specs.Limits.{limit_refusal, IsNewUser}
+use Rattle.mailengine.specs.declared.answer.Answer.TheVariants.{Delivered, Added, Imported, Taken, MailTaken, Refused}
+use Rattle.mailengine.specs.Limits.{limit_refusal, is_user_name, IsNewUser}
+use Rattle.mailengine.specs.Sound.{IsSound}
 use Rattle.mailengine.specs.Terms.{Terms}
 use Rattle.mailengine.specs.Upkeep.{rounds, kept_password}
 
@@ -106,6 +110,40 @@ abbrev pub Addition : Accounts → List ℕ → List ℕ → List ℕ → List �
 Addition accounts name address salt password answer later =
     Where (IsNewUser name address password) (AddsUnder accounts name address salt password (get accounts name) answer later)
     (Refuses BadUser accounts answer later)
+
+-- ---- an account that comes whole, as a text says it (`whole`)
+
+-- an account of this text may be kept: its name is a user's, and what the text makes is sound
+pub record IsImportable (head : Head) (parts : List Part) : Type 0 where
+  pub named : is_user_name head.owner.name ≡ true
+  pub sound : IsSound (whole head parts empty)
+
+-- it is there, as the text says
+pub record Imports (accounts : Accounts) (head : Head) (parts : List Part) (answer : Answer) (later : Accounts) : Type 0 where
+  pub imported : answer ≡ Imported
+  pub changed : later ≡ insert accounts head.owner.name (whole head parts empty)
+
+-- it takes the place of a closed one, of whose moments of replies those stay that are later than the text's, or of which the text has none
+pub record Replaces (accounts : Accounts) (head : Head) (parts : List Part) (answer : Answer) (later : Accounts) : Type 0 where
+  pub imported : answer ≡ Imported
+  pub changed : later ≡ with_user accounts head.owner.name (takes_whole head parts)
+
+-- over an account that has the name: one that is open stays, and so does one that is closed and has mail, so that nobody's mail goes
+abbrev pub ImportsOver : Accounts → Head → List Part → Account → Answer → Accounts → Type 0
+ImportsOver accounts head parts a answer later =
+    MatchBool (is_closed a)
+    (MatchBool (has_mail a) (Refuses UserHasMail accounts answer later) (Replaces accounts head parts answer later))
+    (Refuses UserExists accounts answer later)
+
+-- by the account that has the name, if one has
+abbrev pub ImportsUnder : Accounts → Head → List Part → Option Account → Answer → Accounts → Type 0
+ImportsUnder accounts head parts None answer later = Imports accounts head parts answer later
+ImportsUnder accounts head parts (Some a) answer later = ImportsOver accounts head parts a answer later
+
+abbrev pub Importing : Accounts → Head → List Part → Answer → Accounts → Type 0
+Importing accounts head parts answer later =
+    Where (IsImportable head parts) (ImportsUnder accounts head parts (get accounts head.owner.name) answer later)
+    (Refuses BadAccount accounts answer later)
 
 -- ---- a row taken out of the queue
 

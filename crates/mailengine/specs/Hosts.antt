@@ -4,6 +4,8 @@ use Rattle.std.specs.FinMap.{get, from_entries}
 use Rattle.std.specs.Ordering.{nat_cmp}
 use Rattle.std.specs.BTreeMap as tree
 use Rattle.std.specs.BTreeMap.{BTreeMap}
+use Rattle.accountfiles.specs.declared.head.Head.{Head}
+use Rattle.accountfiles.specs.declared.part.Part.{Part}
 use Rattle.sqlite_trees.specs.Tree.{Trees}
 use Rattle.sqlite_trees.specs.declared.store.Store.{Ghosts}
 use Rattle.sqlite.specs.Held.{Held, state}
@@ -15,7 +17,7 @@ use Rattle.sieveexec.specs.declared.envelope.Envelope.{Envelope}
 use Rattle.mailstore.specs.declared.queue.Outgoing.{Outgoing}
 use Rattle.mailstore.specs.declared.report.Report.{Report}
 use Rattle.mailstore.specs.declared.refusal.Refusal.{Refusal}
-use Rattle.mailstore.specs.declared.refusal.Refusal.TheVariants.{Memory, Store, NoUser, UserExists, BadUser, NoRow, AccountClosed, UserHasMail}
+use Rattle.mailstore.specs.declared.refusal.Refusal.TheVariants.{Memory, Store, NoUser, UserExists, BadUser, NoRow, AccountClosed, UserHasMail, BadAccount}
 use Rattle.sessions.specs.Acts.{HasAccounts, Acts, Lasts}
 use Rattle.sessions.specs.Counts.{SessionView}
 use Rattle.sessions.specs.GivenUp.{text_given_up}
@@ -27,8 +29,8 @@ use Rattle.mailengine.specs.declared.event.Event.{Event}
 use Rattle.mailengine.specs.declared.answer.Answer.{Answer}
 use Rattle.mailengine.specs.declared.machine.World.{World as Machine}
 use Rattle.mailengine.specs.declared.clients.Clients.{Clients as Sessions}
-use Rattle.mailengine.specs.declared.answer.Answer.TheVariants.{Delivered, Added, Taken, MailTaken, Refused}
-use Rattle.mailengine.specs.AccountEvents.{Delivery, Addition, Taking, MailTaking}
+use Rattle.mailengine.specs.declared.answer.Answer.TheVariants.{Delivered, Added, Imported, Taken, MailTaken, Refused}
+use Rattle.mailengine.specs.AccountEvents.{Delivery, Addition, IsImportable, Importing, Taking, MailTaking}
 use Rattle.mailengine.specs.declared.upkeep.Upkeep.{Upkeep}
 use Rattle.mailengine.specs.Upkeep.{Keeping, IsFit, MayLackFor}
 use Rattle.mailengine.specs.Limits.{limit_refusal, IsNewUser}
@@ -197,6 +199,10 @@ MayRefuseDelivery envelope message moment refusal = IsTransient refusal × (limi
 abbrev pub MayRefuseAddition : List ℕ → List ℕ → List ℕ → Refusal → Type 0
 MayRefuseAddition name address password refusal = (refusal ≡ Memory) ⊎ ((refusal ≡ Store) × IsNewUser name address password)
 
+-- and an account of a text by the store only where it may be kept
+abbrev pub MayRefuseImport : Head → List Part → Refusal → Type 0
+MayRefuseImport head parts refusal = (refusal ≡ Memory) ⊎ ((refusal ≡ Store) × IsImportable head parts)
+
 -- what a delivery makes of the store
 abbrev pub ActsDelivery : List ℕ → Envelope → List ℕ → Terms → State → State → Result Report Refusal → Type 0
 ActsDelivery user envelope message terms =
@@ -214,6 +220,10 @@ IsSpacedDelivery user envelope message terms old new result =
 abbrev pub ActsAddition : List ℕ → List ℕ → List ℕ → List ℕ → State → State → Result (Unit {0}) Refusal → Type 0
 ActsAddition name address salt password =
     ActsBy (λ accounts. Addition accounts name address salt password) (MayRefuseAddition name address password) (λ done. Added)
+
+-- what an account of a text makes of it
+abbrev pub ActsImport : Head → List Part → State → State → Result (Unit {0}) Refusal → Type 0
+ActsImport head parts = ActsBy (λ accounts. Importing accounts head parts) (MayRefuseImport head parts) (λ done. Imported)
 
 -- what a row that is taken out makes of it
 abbrev pub ActsTaking : List ℕ → ℕ → State → State → Result Outgoing Refusal → Type 0
@@ -247,6 +257,15 @@ RefusesAddition name address password refusal =
     ⊎ ((refusal ≡ UserExists) × IsNewUser name address password)
     ⊎ ((refusal ≡ UserHasMail) × IsNewUser name address password)
     ⊎ MayRefuseAddition name address password refusal
+
+-- an account of a text is refused where it may not be kept, where its name has an open account, or a closed one with mail, or without
+-- visible cause
+abbrev pub RefusesImport : Head → List Part → Refusal → Type 0
+RefusesImport head parts refusal =
+    ((refusal ≡ BadAccount) × (IsImportable head parts → ⊥))
+    ⊎ ((refusal ≡ UserExists) × IsImportable head parts)
+    ⊎ ((refusal ≡ UserHasMail) × IsImportable head parts)
+    ⊎ MayRefuseImport head parts refusal
 
 -- a row is refused where the user has no open account, where no row has the number, or without visible cause; a message so where the folder
 -- has none

@@ -1,5 +1,6 @@
 pub mod AccountEvents
 pub mod Hosts
+pub mod Importable
 pub mod Limits
 pub mod Lookups
 pub mod OwnActs

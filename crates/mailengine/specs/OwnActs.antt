@@ -1,8 +1,10 @@
 -- What one user does and is answered among all events, and the machine of one user's account alone.
 use Rattle.std.specs.Prelude.{◌≡◌, ℕ, Bool, true, false, cond, nat_eq, List, [], ◌∷◌, ◌++◌, Option, Some, None, option_map, codes, MatchBool}
 use Rattle.std.specs.Cmp.Lexicographic.{pointwise}
-use Rattle.std.specs.FinMap.{get}
+use Rattle.std.specs.FinMap.{empty, get}
 use Rattle.std.specs.Ordering.{is_eq}
+use Rattle.accountfiles.specs.declared.head.Head.{Head}
+use Rattle.accountfiles.specs.declared.part.Part.{Part}
 use Rattle.msproto.specs.declared.commands.Command.{Command}
 use Rattle.msproto.specs.declared.commands.Command.TheVariants.{Unauthenticate, CheckScript}
 use Rattle.msproto.specs.declared.items.Item.{Item}
@@ -12,10 +14,11 @@ use Rattle.msproto.specs.Replies.{spelled}
 use Rattle.saslplain.specs.Parts.{login_of}
 use Rattle.sieveexec.specs.declared.envelope.Envelope.{Envelope}
 use Rattle.mailstore.specs.Account.{bytes_cmp, Account, is_closed, open_one, has_mail, renews, messages_in, new_account, takes_out, takes_mail}
+use Rattle.mailstore.specs.Whole.{whole, takes_whole}
 use Rattle.mailstore.specs.declared.queue.Outgoing.{Outgoing}
 use Rattle.mailstore.specs.declared.report.Report.{Report}
 use Rattle.mailstore.specs.declared.refusal.Refusal.{Refusal}
-use Rattle.mailstore.specs.declared.refusal.Refusal.TheVariants.{Memory, Store, NoUser, UserExists, BadUser, NoRow, UserHasMail}
+use Rattle.mailstore.specs.declared.refusal.Refusal.TheVariants.{Memory, Store, NoUser, UserExists, BadUser, NoRow, UserHasMail, BadAccount}
 use Rattle.sessions.specs.Clients.{Client, item_in}
 use Rattle.sessions.specs.Logins.{has_password}
 use Rattle.sessions.specs.Replies.{accepted, done}
@@ -23,12 +26,12 @@ use Rattle.sessions.specs.Scripts.{Where, RepliesToCheck, obeyed}
 use Rattle.sessions.specs.Table.{needs_login, RepliesOf}
 use Rattle.sessions.specs.Turns.{login_text}
 use Rattle.mailengine.specs.declared.event.Event.{Event}
-use Rattle.mailengine.specs.declared.event.Event.TheVariants.{Step, Deliver, AddUser, TakeOut, TakeMail, Keep}
+use Rattle.mailengine.specs.declared.event.Event.TheVariants.{Step, Deliver, AddUser, Import, TakeOut, TakeMail, Keep}
 use Rattle.mailengine.specs.declared.answer.Answer.{Answer}
-use Rattle.mailengine.specs.declared.answer.Answer.TheVariants.{Out, Delivered, Added, Taken, MailTaken, Refused}
+use Rattle.mailengine.specs.declared.answer.Answer.TheVariants.{Out, Delivered, Added, Imported, Taken, MailTaken, Refused}
 use Rattle.mailengine.specs.Limits.{limit_refusal, IsNewUser}
 use Rattle.mailstore.specs.Account.{row_with}
-use Rattle.mailengine.specs.AccountEvents.{Refuses, DeliversTo, absence}
+use Rattle.mailengine.specs.AccountEvents.{Refuses, DeliversTo, absence, IsImportable}
 use Rattle.mailengine.specs.declared.upkeep.Upkeep.{Upkeep}
 use Rattle.mailengine.specs.Upkeep.{kept_password, KeepingAlone}
 use Rattle.mailengine.specs.Terms.{Terms, terms}
@@ -46,6 +49,8 @@ pub data Act : Type 0 where
   Receives : Envelope → List ℕ → Terms → Answer → Act
   -- the user is to be added, with an address, a salt and a password
   Joins : List ℕ → List ℕ → List ℕ → Answer → Act
+  -- the account of a text is to appear whole under the user's name
+  IsImported : Head → List Part → Answer → Act
   -- a row of the queue is to be taken out
   TakesOut : ℕ → Answer → Act
   -- the first message of a folder is to be taken out
@@ -117,6 +122,25 @@ abbrev pub JoinsIn : Option Account → List ℕ → List ℕ → List ℕ → A
 JoinsIn None address salt password answer later = JoinsAlone address salt password answer later
 JoinsIn (Some a) address salt password answer later = JoinsOver a address salt password answer later
 
+pub record ImportsAlone (head : Head) (parts : List Part) (answer : Answer) (later : Option Account) : Type 0 where
+  pub says : answer ≡ Imported
+  pub changed : later ≡ Some (whole head parts empty)
+
+-- over a closed account: of the moments of replies the later ones stay
+pub record ReplacesAlone (a : Account) (head : Head) (parts : List Part) (answer : Answer) (later : Option Account) : Type 0 where
+  pub says : answer ≡ Imported
+  pub changed : later ≡ Some (takes_whole head parts a)
+
+abbrev pub ImportsOverAlone : Account → Head → List Part → Answer → Option Account → Type 0
+ImportsOverAlone a head parts answer later =
+    MatchBool (is_closed a)
+    (MatchBool (has_mail a) (Refuses UserHasMail (Some a) answer later) (ReplacesAlone a head parts answer later))
+    (Refuses UserExists (Some a) answer later)
+
+abbrev pub ImportsIn : Option Account → Head → List Part → Answer → Option Account → Type 0
+ImportsIn None head parts answer later = ImportsAlone head parts answer later
+ImportsIn (Some a) head parts answer later = ImportsOverAlone a head parts answer later
+
 pub record TakesAlone (a : Account) (row : Outgoing) (answer : Answer) (later : Option Account) : Type 0 where
   pub says : answer ≡ Taken row
   pub changed : later ≡ Some (takes_out row.id a)
@@ -157,6 +181,8 @@ ActsAlone user account (Receives envelope message terms answer) later =
     ReceivesIn (limit_refusal envelope message terms.when.moment) account envelope message terms answer later
 ActsAlone user account (Joins address salt password answer) later =
     Where (IsNewUser user address password) (JoinsIn account address salt password answer later) (Refuses BadUser account answer later)
+ActsAlone user account (IsImported head parts answer) later =
+    Where (IsImportable head parts) (ImportsIn account head parts answer later) (Refuses BadAccount account answer later)
 ActsAlone user account (TakesOut id answer) later = TakesAloneIn account id answer later
 ActsAlone user account (TakesMail folder answer) later = TakesMailAloneIn account folder answer later
 ActsAlone user account (IsKept upkeep answer) later = KeepingAlone account upkeep answer later
@@ -216,6 +242,7 @@ abbrev pub event_acts : List ℕ → World → Event → Answer → List Act
 event_acts user w (Step s) answer = step_acts user (get w.sessions s) answer
 event_acts user w (Deliver name envelope message when default) answer = when_of user (Some name) (Receives envelope message (terms when default) answer)
 event_acts user w (AddUser name address salt password) answer = when_of user (Some name) (Joins address salt password answer)
+event_acts user w (Import file) answer = when_of user (Some file.head.owner.name) (IsImported file.head file.parts answer)
 event_acts user w (TakeOut name id) answer = when_of user (Some name) (TakesOut id answer)
 event_acts user w (TakeMail name folder) answer = when_of user (Some name) (TakesMail folder answer)
 event_acts user w (Keep name upkeep) answer = when_of user (Some name) (IsKept upkeep answer)

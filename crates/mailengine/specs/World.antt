@@ -13,11 +13,11 @@ use Rattle.sessions.specs.Steps.{IsStep, progress_of, may_lack, may_fail}
 use Rattle.sessions.specs.declared.progress.Progress.{Progress}
 use Rattle.sessions.specs.declared.progress.Progress.TheVariants as progress
 use Rattle.mailengine.specs.declared.event.Event.{Event}
-use Rattle.mailengine.specs.declared.event.Event.TheVariants.{Open, Give, Step, GiveUp, Close, Deliver, AddUser, TakeOut, TakeMail, Keep}
+use Rattle.mailengine.specs.declared.event.Event.TheVariants.{Open, Give, Step, GiveUp, Close, Deliver, AddUser, Import, TakeOut, TakeMail, Keep}
 use Rattle.mailengine.specs.declared.answer.Answer.{Answer}
 use Rattle.mailengine.specs.declared.answer.Answer.TheVariants.{Out, Ignored, Refused}
 use Rattle.mailengine.specs.Limits.{limit_refusal, IsNewUser}
-use Rattle.mailengine.specs.AccountEvents.{Delivery, Addition, Taking, MailTaking}
+use Rattle.mailengine.specs.AccountEvents.{Delivery, Addition, IsImportable, Importing, Taking, MailTaking}
 use Rattle.mailengine.specs.Terms.{terms}
 use Rattle.mailengine.specs.Upkeep.{Keeping, IsFit, MayLackFor}
 
@@ -87,6 +87,7 @@ Happens w (Close s) answer next = InSession w (get w.sessions s) (λ c. Becomes 
 Happens w (Deliver user envelope message when default) answer next =
     with_accounts w (Delivery w.accounts user envelope message (terms when default)) answer next
 Happens w (AddUser name address salt password) answer next = with_accounts w (Addition w.accounts name address salt password) answer next
+Happens w (Import file) answer next = with_accounts w (Importing w.accounts file.head file.parts) answer next
 Happens w (TakeOut user id) answer next = with_accounts w (Taking w.accounts user id) answer next
 Happens w (TakeMail user folder) answer next = with_accounts w (MailTaking w.accounts user folder) answer next
 Happens w (Keep user upkeep) answer next = with_accounts w (Keeping w.accounts user upkeep) answer next
@@ -117,6 +118,7 @@ MayLack w (GiveUp s) = ⊥
 MayLack w (Close s) = ⊥
 MayLack w (Deliver user envelope message when default) = limit_refusal envelope message when.moment ≡ None
 MayLack w (AddUser name address salt password) = Unit {0}
+MayLack w (Import file) = Unit {0}
 MayLack w (TakeOut user id) = Unit {0}
 MayLack w (TakeMail user folder) = Unit {0}
 MayLack w (Keep user upkeep) = MayLackFor upkeep
@@ -126,6 +128,7 @@ abbrev pub MayFail : World → Event → Type 0
 MayFail w (Step s) = if_open may_fail (get w.sessions s) ≡ true
 MayFail w (Deliver user envelope message when default) = limit_refusal envelope message when.moment ≡ None
 MayFail w (AddUser name address salt password) = IsNewUser name address password
+MayFail w (Import file) = IsImportable file.head file.parts
 MayFail w (TakeOut user id) = Unit {0}
 MayFail w (TakeMail user folder) = Unit {0}
 MayFail w (Keep user upkeep) = IsFit upkeep

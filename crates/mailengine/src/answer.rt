@@ -13,6 +13,8 @@ pub enum Answer {
     Delivered(Report),
     /// An account was made.
     Added,
+    /// The account of a text is there.
+    Imported,
     /// A row was taken out of the queue.
     Taken(Outgoing),
     /// The first message of a folder was taken out.

@@ -1,5 +1,6 @@
 //! What happens to the accounts and the sessions, one event after the other.
 use crate::upkeep::Upkeep;
+use accountfiles::AccountFile;
 use octets::Octets;
 use sieveexec::{Envelope, When};
 
@@ -53,6 +54,8 @@ pub enum Event {
         /// The folder's name.
         folder: Octets,
     },
+    /// The account of a text appears whole, under a name that has no account, or a closed one without mail.
+    Import(AccountFile),
     /// Something is done to a user's account by an administrator.
     Keep {
         /// The user's name.

@@ -1,10 +1,18 @@
 //! Laws of the definitions, each the contract of a function that does nothing.
-ghost use Rattle.std.specs.Prelude.{◌≡◌, ℕ, List, Option};
+ghost use Rattle.std.specs.Prelude.{◌≡◌, ℕ, true, List, Option, None};
+ghost use Rattle.std.specs.FinMap.{empty, get, insert};
+ghost use Rattle.accountfiles.specs.Text.{IsTextOf};
+ghost use Rattle.accountfiles.specs.declared.head.Head.{Head};
+ghost use Rattle.accountfiles.specs.declared.part.Part.{Part};
 ghost use Rattle.mailengine.specs.declared.event.Event.{Event};
 ghost use Rattle.mailengine.specs.declared.answer.Answer.{Answer};
-ghost use Rattle.mailengine.specs.Sound.{AreSound};
+ghost use Rattle.mailengine.specs.declared.answer.Answer.TheVariants.{Imported};
+ghost use Rattle.mailengine.specs.AccountEvents.{Importing};
+ghost use Rattle.mailengine.specs.Limits.{is_user_name};
+ghost use Rattle.mailengine.specs.Sound.{IsSound, AreSound};
 ghost use Rattle.mailengine.specs.World.{World, Next, Runs};
-ghost use Rattle.mailstore.specs.Account.{Account};
+ghost use Rattle.mailstore.specs.Account.{Account, Accounts};
+ghost use Rattle.mailstore.specs.Whole.{whole, IsCopyOf};
 ghost use Rattle.mailengine.specs.OwnActs.{Act, Alone, IsAlone};
 ghost use Rattle.mailengine.specs.Spacing.{IsSpaced};
 
@@ -21,6 +29,14 @@ pub fn account_by_acts()
 /// Two answers of one user to one sender under one handle are apart by at least the later one's period.
 pub fn answers_spaced()
     ensures { (events : List Event) (told : List Answer) (w end : World) (run : Runs w events told end) → IsSpaced w events told end run }
+{}
+
+/// A text of an account, imported under a name that nobody has, is just that account again, however it is read.
+pub fn copy_comes_back()
+    ensures read { (text user : List ℕ) (a : Account) (head : Head) (parts : List Part) → IsCopyOf text user a → IsTextOf text head parts → (head.owner.name ≡ user) × (whole head parts empty ≡ a) }
+    ensures imported { (text user : List ℕ) (a : Account) (head : Head) (parts : List Part) (accounts later : Accounts) (answer : Answer)
+        → IsCopyOf text user a → IsTextOf text head parts → is_user_name user ≡ true → IsSound a → get accounts user ≡ None
+        → Importing accounts head parts answer later → (answer ≡ Imported) × (later ≡ insert accounts user a) }
 {}
 
 /// Sound accounts stay sound, whatever happens to them and whatever is answered.

@@ -12,6 +12,7 @@ use crate::answer::Answer;
 use crate::clients::{Clients, close, give, give_up, open, step, step_free, text_given_up};
 use crate::delivery::deliver;
 use crate::event::Event;
+use crate::importing::import;
 use crate::limits::limit_refusal;
 use crate::taking::{take_mail, take_out};
 use crate::upkeep::keep;
@@ -171,6 +172,10 @@ fn carry_out<S: Alter>(
             );
             answer_of(added.and(Ok(Answer::Added)))
         }
+        Event::Import(file) => {
+            let imported = import(alloc, store, file);
+            answer_of(imported.and(Ok(Answer::Imported)))
+        }
         Event::TakeOut { user, id } => {
             let row = take_out(store, user.as_slice(), *id);
             answer_of(row.map(Answer::Taken))
@@ -205,6 +210,7 @@ fn carry_out_free(
         Event::Close(number) => Some(close(alloc, sessions, *number)),
         Event::Deliver { .. }
         | Event::AddUser { .. }
+        | Event::Import(_)
         | Event::TakeOut { .. }
         | Event::TakeMail { .. }
         | Event::Keep { .. } => None,

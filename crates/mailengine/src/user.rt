@@ -64,8 +64,8 @@ pub fn add_user<S: Alter>(
     store.add_user(name, address, &salt, ROUNDS, &digest)
 }
 
-/// Why no user can be added where an account stands so, if it stands against it.
-fn refusal_over(found: Option<Standing>) -> Option<Refusal>
+/// Why no account can take the name where one stands so, if it stands against it.
+pub(crate) fn refusal_over(found: Option<Standing>) -> Option<Refusal>
     ensures { result ≡ over_standing found }
 {
     let standing = found?;
@@ -103,7 +103,7 @@ pub(crate) fn is_own_address(alloc: Global, text: &[u8]) -> Result<bool, AllocEr
     Ok(false)
 }
 
-fn is_user_name(name: &[u8]) -> bool
+pub(crate) fn is_user_name(name: &[u8]) -> bool
     ensures { result ≡ limits.is_user_name name.now }
 {
     1 <= name.len() && name.len() <= MAX_USER_NAME && has_name_octets(name)

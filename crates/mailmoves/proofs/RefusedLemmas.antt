@@ -1,6 +1,8 @@
 -- A refused event changes no account.
 use Rattle.std.proofs.Common.{◌≡◌, ◌&&◌, not, ℕ, Bool, true, false, List, [], ◌∷◌, Option, Some, None, MatchBool, refl, sym, ◌∙◌, ap, subst, inl, inr}
 use Rattle.std.specs.FinMap.{get}
+use Rattle.accountfiles.specs.declared.head.Head.{Head}
+use Rattle.accountfiles.specs.declared.part.Part.{Part}
 use Rattle.mailstore.specs.Account.{Account, Accounts, open_of, open_one, known_one, is_closed, has_mail, messages_in, row_with}
 use Rattle.mailstore.specs.declared.queue.Outgoing.{Outgoing}
 use Rattle.mailstore.specs.declared.refusal.Refusal.{Refusal}
@@ -8,15 +10,15 @@ use Rattle.mailstore.specs.declared.refusal.Refusal.TheVariants.{UserHasMail, Us
 use Rattle.sieveexec.specs.declared.envelope.Envelope.{Envelope}
 use Rattle.sessions.specs.Clients.{Client}
 use Rattle.sessions.specs.Scripts.{Where}
-use Rattle.mailengine.specs.AccountEvents.{DeliversIn, DeliversUnder, AddsOver, AddsUnder, TakesIn, TakesRow, TakesMailIn, TakesFirst}
+use Rattle.mailengine.specs.AccountEvents.{DeliversIn, DeliversUnder, AddsOver, AddsUnder, ImportsOver, ImportsUnder, TakesIn, TakesRow, TakesMailIn, TakesFirst}
 use Rattle.mailengine.specs.Hosts.{IsMade}
 use Rattle.mailengine.specs.Limits.{limit_refusal}
 use Rattle.mailengine.specs.Upkeep.{Alters, Tells, InAccount, Stores, Keeps, Keeping, put_instead}
 use Rattle.mailengine.specs.World.{World, InSession, Opens, Steps, Ignores, Becomes, Happens, Next}
 use Rattle.mailengine.specs.declared.answer.Answer.{Answer}
-use Rattle.mailengine.specs.declared.answer.Answer.TheVariants.{Delivered, Added, Taken, MailTaken, Changed, Stored, Closed, Opened, Removed, NoticesTaken, Out, Refused}
+use Rattle.mailengine.specs.declared.answer.Answer.TheVariants.{Delivered, Added, Imported, Taken, MailTaken, Changed, Stored, Closed, Opened, Removed, NoticesTaken, Out, Refused}
 use Rattle.mailengine.specs.declared.event.Event.{Event}
-use Rattle.mailengine.specs.declared.event.Event.TheVariants.{Open, Give, Step, GiveUp, Close, Deliver, AddUser, TakeOut, TakeMail, Keep}
+use Rattle.mailengine.specs.declared.event.Event.TheVariants.{Open, Give, Step, GiveUp, Close, Deliver, AddUser, Import, TakeOut, TakeMail, Keep}
 use Rattle.mailengine.specs.declared.upkeep.Upkeep.{Upkeep}
 use Rattle.mailengine.specs.Terms.{Terms, terms}
 use Rattle.mailengine.specs.declared.upkeep.Upkeep.TheVariants.{SetPassword, SetAddress, StoreScript, CloseAccount, OpenAccount, RemoveAccount, TakeNotices}
@@ -75,6 +77,13 @@ module _ (refusal : Refusal) (answer : Answer) (is : answer ≡ Refused refusal)
     adds_under name address salt password None it = never Added tt it.added
     adds_under name address salt password (Some a) it = adds_over name address salt password a it
 
+    imports_over : (head : Head) (parts : List Part) (a : Account) → ImportsOver accounts head parts a answer later → later ≡ accounts
+    imports_over head parts a = by_bool (is_closed a) (by_bool (has_mail a) (λ it. it.stays) (λ it. never Imported tt it.imported)) (λ it. it.stays)
+
+    imports_under : (head : Head) (parts : List Part) (o : Option Account) → ImportsUnder accounts head parts o answer later → later ≡ accounts
+    imports_under head parts None it = never Imported tt it.imported
+    imports_under head parts (Some a) it = imports_over head parts a it
+
     takes_row : (user : List ℕ) (o : Option Outgoing) → TakesRow accounts user o answer later → later ≡ accounts
     takes_row user None it = it.stays
     takes_row user (Some row) it = never (Taken row) tt it.taken
@@ -122,6 +131,7 @@ module _ (refusal : Refusal) (answer : Answer) (is : answer ≡ Refused refusal)
     happens (Close s) it = in_session (get w.sessions s) _ (λ c. becomes _ _ refl) it
     happens (Deliver user envelope message when default) it = with_later it.0 (delivers w.accounts it.0 user (terms when default) envelope message (limit_refusal envelope message when.moment) it.1) it.2
     happens (AddUser name address salt password) it = with_later it.0 (either (adds_under w.accounts it.0 name address salt password (get w.accounts name)) (λ refused. refused.stays) it.1) it.2
+    happens (Import file) it = with_later it.0 (either (imports_under w.accounts it.0 file.head file.parts (get w.accounts file.head.owner.name)) (λ refused. refused.stays) it.1) it.2
     happens (TakeOut user id) it = with_later it.0 (takes_in w.accounts it.0 user id (open_of w.accounts user) it.1) it.2
     happens (TakeMail user folder) it = with_later it.0 (takes_mail w.accounts it.0 user folder (open_of w.accounts user) it.1) it.2
     happens (Keep user upkeep) it = with_later it.0 (keeping w.accounts it.0 user upkeep it.1) it.2

@@ -14,10 +14,10 @@ use Rattle.mailstore.specs.Account.{Account, Accounts, with_user}
 use Rattle.mailstore.specs.Refusals.{IsTransient}
 use Rattle.mailstore.specs.Shows.{ShowsAccounts, Presents}
 use Rattle.mailstore.proofs.StandingLemmas.{open_there, open_with, shut_with, free_shut}
-use Rattle.mailstore.specs.Promises.{HasUser, HasNoOpen, OfUser, OfOpen, Turns, CrashLeavesAccounts, HasOurTables, Keeps, Reads, ReadsProfile, WritesAccount, WritesKnown}
-use Rattle.mailtables.proofs.ResultLemmas.{on_ok}
+use Rattle.mailstore.specs.Promises.{HasUser, HasNoOpen, OfUser, OfOpen, Turns, CrashLeavesAccounts, HasOurTables, Keeps, KeepsSeen, Reads, ReadsProfile, WritesAccount, WritesKnown}
+use Rattle.mailtables.proofs.ResultLemmas.{on_ok, on_any}
 use Rattle.mailtables.proofs.WriteLemmas.{clean_before}
-use Rattle.mailstore.proofs.KeepLemmas.{transient_named, transient_other, keeps_ok, keeps_refused, keeps_then, keeps_failed, none_if, mid_shows}
+use Rattle.mailstore.proofs.KeepLemmas.{survives_same, transient_named, transient_other, keeps_ok, keeps_refused, keeps_then, keeps_failed, none_if, none_ok, mid_shows}
 use Rattle.mailstore.specs.declared.profile.Profile.{Profile}
 use Rattle.mailstore.specs.AccountRows.{profile_of}
 
@@ -64,7 +64,61 @@ module _ {X Y : Type 0} (user : List ℕ) (Known : Account → Type 0) (change :
     named = transient_named q late.named;
   }
 
-module _ {X Y E : Type 0} (a b c : State) (r : Result X E) (x : X) (ok : r ≡ Ok x) (kept : Keeps a b r) (user : List ℕ) (change : Account → Account) (ds : List Change) (carries : CarriesKnown a b user change ds)
+-- ---- reads in turn
+
+-- a read is one
+pub seen_read : {X E : Type 0} (a b : State) (r : Result X E) → Keeps a b r → KeepsSeen a b r
+seen_read {X} {E} a b r k = record { same = k.same; seen = λ clean ours. go r (k.live clean) (k.same clean ours); crash = k.crash }
+  where
+    go : (o : Result X E) → OnOk o (IsTrue b.is_open) → StaysSame a b → OnOk o ((b.now ≡ a.now) × (b.committed ≡ a.committed))
+    go (Ok x) live same = (same.now_is live, same.committed_is live)
+    go (Err e) live same = tt
+
+-- and so is none
+pub seen_none : {X E : Type 0} (s : State) (q : Result X E) → KeepsSeen s s q
+seen_none {X} {E} s q = record { same = λ clean ours. record { now_is = λ o. refl; committed_is = λ o. refl }; seen = λ clean ours. go q; crash = survives_same s (λ _. HasOurTables s.now → ⊥) }
+  where
+    go : (o : Result X E) → OnOk o ((s.now ≡ s.now) × (s.committed ≡ s.committed))
+    go (Ok x) = (refl, refl)
+    go (Err e) = tt
+
+-- with another answer
+pub seen_ok : {X Y E F : Type 0} (a b : State) (r : Result X E) (x : X) (q : Result Y F) → r ≡ Ok x → KeepsSeen a b r → KeepsSeen a b q
+seen_ok a b r x q is k = record { same = k.same; seen = λ clean ours. on_any q _ (on_ok r x is _ (k.seen clean ours)); crash = k.crash }
+
+pub seen_failed : {X Y E F : Type 0} (a b : State) (r : Result X E) (q : Result Y F) → OnOk q ⊥ → KeepsSeen a b r → KeepsSeen a b q
+seen_failed a b r q none k = record { same = k.same; seen = λ clean ours. none_ok q _ none; crash = k.crash }
+
+-- one after the other
+module _ {X Y E F : Type 0} (a b c : State) (r : Result X E) (x : X) (ok : r ≡ Ok x) (early : KeepsSeen a b r) (q : Result Y F) (late : KeepsSeen b c q) where
+  pub seen_before : HasCleanDisk c → HasCleanDisk b
+  seen_before = clean_before b c _ late.crash
+
+  seen_mid : HasCleanDisk c → HasOurTables a.now → (b.now ≡ a.now) × (b.committed ≡ a.committed)
+  seen_mid clean ours = on_ok r x ok _ (early.seen (seen_before clean) ours)
+
+  pub seen_shows : HasCleanDisk c → (accounts : Accounts) → Presents a.now accounts → Presents b.now accounts
+  seen_shows clean accounts p = subst (λ d. Presents d accounts) (sym (seen_mid clean (p.0, p.1)).0) p
+
+  ours_then : HasCleanDisk c → HasOurTables a.now → HasOurTables b.now
+  ours_then clean ours = subst HasOurTables (sym (seen_mid clean ours).0) ours
+
+  pub seen_then : KeepsSeen a c q
+  seen_then = record {
+    same = λ clean ours.
+        let mid = seen_mid clean ours in
+        let end = late.same clean (ours_then clean ours) in
+        record { now_is = λ o. end.now_is o ∙ mid.0; committed_is = λ o. end.committed_is o ∙ mid.1 };
+    seen = λ clean ours. both q (late.seen clean (ours_then clean ours)) (seen_mid clean ours);
+    crash = survives_then a b c _ _ _ (λ clean db none. none) (λ clean db none ours. none (ours_then clean ours)) early.crash late.crash;
+  }
+    where
+      both : (o : Result Y F) → OnOk o ((c.now ≡ b.now) × (c.committed ≡ b.committed)) → (b.now ≡ a.now) × (b.committed ≡ a.committed) → OnOk o ((c.now ≡ a.now) × (c.committed ≡ a.committed))
+      both (Ok y) end mid = (end.0 ∙ mid.0, end.1 ∙ mid.1)
+      both (Err e) end mid = tt
+
+-- and then the changes
+module _ {X Y E : Type 0} (a b c : State) (r : Result X E) (x : X) (ok : r ≡ Ok x) (kept : KeepsSeen a b r) (user : List ℕ) (change : Account → Account) (ds : List Change) (carries : CarriesKnown a b user change ds)
     (late : Survives b c (CrashLeavesTables ds b)) (q : Result Y Refusal) where
   abbrev changed : Accounts → Accounts
   changed all = with_user all user change
@@ -72,11 +126,11 @@ module _ {X Y E : Type 0} (a b c : State) (r : Result X E) (x : X) (ok : r ≡ O
   early : HasCleanDisk c → HasCleanDisk b
   early = clean_before b c _ late
 
-  mid_open : HasCleanDisk c → IsTrue b.is_open
-  mid_open clean = on_ok r x ok (IsTrue b.is_open) (kept.live (early clean))
+  mid_same : HasCleanDisk c → HasOurTables a.now → (b.now ≡ a.now) × (b.committed ≡ a.committed)
+  mid_same clean ours = on_ok r x ok _ (kept.seen (early clean) ours)
 
   mid_holds : HasCleanDisk c → (tables : Tables) → HoldsTables mail_schema a.now tables → HoldsTables mail_schema b.now tables
-  mid_holds clean tables h = subst (λ d. HoldsTables mail_schema d tables) (sym ((kept.same (early clean) (tables, h)).now_is (mid_open clean))) h
+  mid_holds clean tables h = subst (λ d. HoldsTables mail_schema d tables) (sym (mid_same clean (tables, h)).0) h
 
   made_then : HasCleanDisk c → (o : Result Y Refusal) → MakesAll ds b c o → OnOk o (Turns (HasUser user) changed a.now c.now)
   made_then clean (Err e) wrote = tt
@@ -91,11 +145,11 @@ module _ {X Y E : Type 0} (a b c : State) (r : Result X E) (x : X) (ok : r ≡ O
   same_then : HasCleanDisk c → HasOurTables a.now → (o : Result Y Refusal) → OnErr o (StaysSame b c) → OnErr o (StaysSame a c)
   same_then clean ours (Ok y) h = tt
   same_then clean ours (Err e) h =
-      let mid = kept.same (early clean) ours in
-      record { now_is = λ o. h.now_is o ∙ mid.now_is (mid_open clean); committed_is = λ o. h.committed_is o ∙ mid.committed_is (mid_open clean) }
+      let mid = mid_same clean ours in
+      record { now_is = λ o. h.now_is o ∙ mid.0; committed_is = λ o. h.committed_is o ∙ mid.1 }
 
-  pub writes_then : MakesAll ds b c q → (HasCleanDisk c → OnOk q (IsSettled c)) → (HasCleanDisk c → OnErr q (StaysSame b c)) → IfErr q IsTransient → WritesAccount user change a c q
-  writes_then wrote settled same named = record {
+  pub writes_seen : MakesAll ds b c q → (HasCleanDisk c → OnOk q (IsSettled c)) → (HasCleanDisk c → OnErr q (StaysSame b c)) → IfErr q IsTransient → WritesAccount user change a c q
+  writes_seen wrote settled same named = record {
     made = λ clean. made_then clean q wrote;
     settled = settled;
     same = λ clean ours. same_then clean ours q (same clean);
@@ -104,10 +158,14 @@ module _ {X Y E : Type 0} (a b c : State) (r : Result X E) (x : X) (ok : r ≡ O
     named = transient_named q named;
   }
 
+pub writes_then : {X Y E : Type 0} (a b c : State) (r : Result X E) (x : X) (ok : r ≡ Ok x) (kept : Keeps a b r) (user : List ℕ) (change : Account → Account) (ds : List Change) → CarriesKnown a b user change ds → Survives b c (CrashLeavesTables ds b)
+    → (q : Result Y Refusal) → MakesAll ds b c q → (HasCleanDisk c → OnOk q (IsSettled c)) → (HasCleanDisk c → OnErr q (StaysSame b c)) → IfErr q IsTransient → WritesAccount user change a c q
+writes_then a b c r x ok kept user change ds carries late q = writes_seen a b c r x ok (seen_read a b r kept) user change ds carries late q
+
 -- reads alone, and a refusal
-pub write_refused : {X Y : Type 0} (a b : State) (r : Result X Refusal) (user : List ℕ) (change : Account → Account) (e : Refusal) (q : Result Y Refusal) → q ≡ Err e → Keeps a b r
+pub write_unmade : {X Y E : Type 0} (a b : State) (r : Result X E) (user : List ℕ) (change : Account → Account) (e : Refusal) (q : Result Y Refusal) → q ≡ Err e → KeepsSeen a b r
     → (HasCleanDisk b → (accounts : Accounts) → Presents a.now accounts → e ≡ NoUser → HasNoOpen user accounts) → (e ≡ NoUser) ⊎ IsTransient e → WritesAccount user change a b q
-write_refused a b r user change e q is kept absent named = record {
+write_unmade a b r user change e q is kept absent named = record {
   made = λ clean. subst (λ o. OnOk o (Turns (HasUser user) (λ all. with_user all user change) a.now b.now)) (sym is) tt;
   settled = λ clean. subst (λ o. OnOk o (IsSettled b)) (sym is) tt;
   same = λ clean ours. subst (λ o. OnErr o (StaysSame a b)) (sym is) (kept.same clean ours);
@@ -116,9 +174,16 @@ write_refused a b r user change e q is kept absent named = record {
   named = subst (λ o. IfErr o (λ f. (f ≡ NoUser) ⊎ IsTransient f)) (sym is) named;
 }
 
+pub write_refused : {X Y : Type 0} (a b : State) (r : Result X Refusal) (user : List ℕ) (change : Account → Account) (e : Refusal) (q : Result Y Refusal) → q ≡ Err e → Keeps a b r
+    → (HasCleanDisk b → (accounts : Accounts) → Presents a.now accounts → e ≡ NoUser → HasNoOpen user accounts) → (e ≡ NoUser) ⊎ IsTransient e → WritesAccount user change a b q
+write_refused a b r user change e q is kept absent named = write_unmade a b r user change e q is (seen_read a b r kept) absent named
+
 -- and a refusal that may come without visible cause
+pub write_lost : {X Y E : Type 0} (a b : State) (r : Result X E) (user : List ℕ) (change : Account → Account) (e : Refusal) (q : Result Y Refusal) → q ≡ Err e → KeepsSeen a b r → IsTransient e → WritesAccount user change a b q
+write_lost {Y = Y} a b r user change e q is kept transient = write_unmade a b r user change e q is kept (λ clean accounts p. transient_other {Y = Y} (Err e) (HasNoOpen user accounts) transient) (inr transient)
+
 pub write_failed : {X Y : Type 0} (a b : State) (r : Result X Refusal) (user : List ℕ) (change : Account → Account) (e : Refusal) (q : Result Y Refusal) → q ≡ Err e → Keeps a b r → IsTransient e → WritesAccount user change a b q
-write_failed {Y = Y} a b r user change e q is kept transient = write_refused a b r user change e q is kept (λ clean accounts p. transient_other {Y = Y} (Err e) (HasNoOpen user accounts) transient) (inr transient)
+write_failed a b r user change e q is kept transient = write_lost a b r user change e q is (seen_read a b r kept) transient
 
 -- ---- the account is entered
 

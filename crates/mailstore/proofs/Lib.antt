@@ -31,6 +31,7 @@ pub mod NextLemmas
 pub mod UserLemmas
 pub mod WalkLemmas
 pub mod WholeLemmas
+pub mod OverLemmas
 pub mod UserExamples
 pub mod ListedLemmas
 pub mod FirstLemmas

@@ -1,8 +1,8 @@
 -- The rows of a user whose account is written whole.
 use Prim.Native.Nat.{zero}
-use Rattle.std.proofs.Common.{◌≡◌, ◌≢◌, ◌==◌, ◌≤◌, ◌<◌, ◌+◌, ◌⊎◌, inl, inr, ℕ, suc, ℤ, pos, Bool, true, false, List, [], ◌∷◌, ◌++◌, fold, map, length, take, drop, get_or, IsPermutation, Option, Some, None, Ordering, Less, Equal, Greater, is_lt, append-nil, append_assoc, refl, sym, ap, ◌∙◌, subst, arith}
+use Rattle.std.proofs.Common.{◌≡◌, ◌≢◌, ◌==◌, ◌≤◌, ◌<◌, ◌+◌, ◌⊎◌, inl, inr, ℕ, suc, ℤ, pos, Bool, true, false, List, [], ◌∷◌, ◌++◌, fold, map, length, take, drop, get_or, IsPermutation, Option, Some, None, cond, Ordering, Less, Equal, Greater, is_lt, is_eq, append-nil, append_assoc, refl, sym, ap, ◌∙◌, subst, arith}
 use Rattle.std.specs.List.{flat_map, AllByRecursion, list_all}
-use Rattle.std.specs.FinMap.{empty, insert, get}
+use Rattle.std.specs.FinMap.{empty, insert, get, get-empty, get-insert}
 use Rattle.std.specs.Ordering.{nat_cmp, ordering_then}
 use Rattle.std.proofs.lemmas.Bool.{and_parts, eqb-true, ltb-true, leb-true}
 use Rattle.std.proofs.lemmas.List.{take_more, map-append, nil_from_length}
@@ -39,7 +39,7 @@ use Rattle.accountfiles.proofs.OrderLemmas.{Before, all_before}
 use Rattle.accountfiles.proofs.ReadLemmas.{last_of, numbers_below, given_at, chained_at}
 use Rattle.mailstore.specs.declared.notice.Notice.{Notice as KeptNotice}
 use Rattle.mailstore.specs.declared.queue.Outgoing.{Outgoing}
-use Rattle.mailstore.specs.Account.{Account, Replies, Scripts, empties, new_account, with_user}
+use Rattle.mailstore.specs.Account.{reply_cmp, latest, Account, Replies, Scripts, empties, new_account, with_user}
 use Rattle.mailstore.specs.AccountRows.{account_row}
 use Rattle.mailstore.specs.CopyRows.{Copy as KeptCopy, copy_row, message_of, HasCopy, AreKept, ShowsCopies}
 use Rattle.mailstore.specs.MessageRows.{Message, message_row}
@@ -48,14 +48,15 @@ use Rattle.mailstore.specs.QueueRows.{queue_row, ShowsQueue}
 use Rattle.mailstore.specs.ReplyRows.{reply_row, ShowsReplies}
 use Rattle.mailstore.specs.ScriptRows.{script_row, ShowsScripts}
 use Rattle.mailstore.specs.Numbers.{AreNumbered}
-use Rattle.mailstore.specs.Promises.{HasUser, IsFree}
+use Rattle.mailstore.specs.Promises.{IsFree, OfUser}
 use Rattle.mailstore.specs.Shows.{rows_of, IsShown, IsAbsent, IsShownOrAbsent}
-use Rattle.mailstore.proofs.CallLemmas.{Carries, carries_user}
+use Rattle.mailstore.proofs.CallLemmas.{Carries, carries_known}
 use Rattle.mailstore.proofs.ShowLemmas.{shows_after}
 use Rattle.mailstore.specs.Whole.{scripts_with, replies_with, kind_of, letters_in, notices_in, messages_in_part, octets_after, copies_in_part, copies_of, password_of, whole, takes_whole}
-use Rattle.mailstore.specs.WholeRows.{part_made, parts_made, numbers_made, owner_made, head_made, account_made, emptied_by, IsMaking}
+use Rattle.mailstore.specs.WholeRows.{moment_put, part_made, parts_made, over_kept, part_over, parts_over, numbers_made, owner_made, head_made, account_made, emptied_by, IsMaking}
 use Rattle.mailstore.proofs.NumberLemmas.{numbered_none, numbered_up, numbered_push}
-use Rattle.mailstore.proofs.AccountLemmas.{scripts_put, replies_put}
+use Rattle.mailstore.proofs.AccountLemmas.{reply_total, reply_antisymmetric, scripts_put, replies_put}
+use Rattle.mailstore.proofs.MapLemmas.{tied_is, tied, itself}
 use Rattle.mailstore.proofs.DeliveryLemmas.{kept_push, kept_first}
 use Rattle.mailstore.proofs.UpkeepLemmas.{owned_gone, numbered_gone}
 
@@ -64,13 +65,13 @@ use Rattle.mailstore.proofs.UpkeepLemmas.{owned_gone, numbered_gone}
 parts_push : (user : List ℕ) (parts : List Part) (part : Part) (own : Tables) → parts_made user (parts ++ part ∷ []) own ≡ part_made user part (parts_made user parts own)
 parts_push user parts part own = fold-append (λ rows p. part_made user p rows) own parts (part ∷ [])
 
-pub parts_more : (user : List ℕ) (parts : List Part) (i : ℕ) (part : Part) (a b c : List Change) → i < length parts → part ≡ get_or parts i part → Extends user (parts_made user (take i parts)) a b → Extends user (part_made user part) b c
-    → Extends user (parts_made user (take (i + 1) parts)) a c
-parts_more user parts i part a b c within is was more = record {
+pub parts_more : (user : List ℕ) (f : Part → Part) (parts : List Part) (i : ℕ) (part : Part) (a b c : List Change) → i < length parts → part ≡ get_or parts i part → Extends user (parts_made user (map f (take i parts))) a b → Extends user (part_made user (f part)) b c
+    → Extends user (parts_made user (map f (take (i + 1) parts))) a c
+parts_more user f parts i part a b c within is was more = record {
   owned = λ were. more.owned (was.owned were);
   makes = λ own.
-      more.makes own ∙ (ap (part_made user part) (was.makes own) ∙ (sym (parts_push user (take i parts) part (made own a))
-      ∙ ap (λ ps. parts_made user ps (made own a)) (ap (λ p. take i parts ++ p ∷ []) is ∙ sym (take_more parts i part within))));
+      more.makes own ∙ (ap (part_made user (f part)) (was.makes own) ∙ (sym (parts_push user (map f (take i parts)) (f part) (made own a))
+      ∙ ap (λ ps. parts_made user ps (made own a)) (sym (map-append f (take i parts) (part ∷ [])) ∙ ap (map f) (ap (λ p. take i parts ++ p ∷ []) is ∙ sym (take_more parts i part within)))));
 }
 
 pub making : (user : List ℕ) (first : Tables → Tables) (head : Head) (parts : List Part) (one two three : List Change) → Extends user first [] one → Extends user (head_made head) one two → Extends user (parts_made user parts) two three → IsMaking user first head parts three
@@ -189,15 +190,16 @@ record IsNext {X : Type 0} (number : X → ℕ) (entries : List X) (n next : ℕ
   one : 1 ≤ n
   low : n < next
 
--- what a part asks of those before it
-abbrev IsReady : Numbers → List ℕ → List Outgoing → List (ℕ × KeptNotice) → List KeptCopy → List Message → Part → Type 0
-IsReady numbers last queue notices copies messages (Mail number folder message) = IsNext (λ c. c.n) copies number numbers.next_copy × AllByRecursion (λ m. m.id < number) messages
-IsReady numbers last queue notices copies messages (Copy number folder first) = IsNext (λ c. c.n) copies number numbers.next_copy × (Has messages (record { id = first; bytes = last }) × (first ≤ number))
-IsReady numbers last queue notices copies messages (Letter id way sender target message) = IsNext (λ q. q.id) queue id numbers.next_out
-IsReady numbers last queue notices copies messages (Notice number moment text) = IsNext (λ e. e.0) notices number numbers.next_notice
-IsReady numbers last queue notices copies messages part = Unit {0}
+-- what a part asks of those before it: a moment, that what was kept under its handle for its sender is kept still
+abbrev IsReady : Replies → Numbers → List ℕ → List Outgoing → Replies → List (ℕ × KeptNotice) → List KeptCopy → List Message → Part → Type 0
+IsReady base numbers last queue replies notices copies messages (Reply handle sender moment) = get replies (handle, sender) ≡ get base (handle, sender)
+IsReady base numbers last queue replies notices copies messages (Mail number folder message) = IsNext (λ c. c.n) copies number numbers.next_copy × AllByRecursion (λ m. m.id < number) messages
+IsReady base numbers last queue replies notices copies messages (Copy number folder first) = IsNext (λ c. c.n) copies number numbers.next_copy × (Has messages (record { id = first; bytes = last }) × (first ≤ number))
+IsReady base numbers last queue replies notices copies messages (Letter id way sender target message) = IsNext (λ q. q.id) queue id numbers.next_out
+IsReady base numbers last queue replies notices copies messages (Notice number moment text) = IsNext (λ e. e.0) notices number numbers.next_notice
+IsReady base numbers last queue replies notices copies messages part = Unit {0}
 
-module _ (user : List ℕ) (row : Row) (numbers : Numbers) (scripts : Scripts) (queue : List Outgoing) (replies : Replies) (notices : List (ℕ × KeptNotice)) (copies : List KeptCopy) (messages : List Message) (own : Tables)
+module _ (base : Replies) (user : List ℕ) (row : Row) (numbers : Numbers) (scripts : Scripts) (queue : List Outgoing) (replies : Replies) (notices : List (ℕ × KeptNotice)) (copies : List KeptCopy) (messages : List Message) (own : Tables)
     (at : IsAt user row numbers scripts queue replies notices copies messages own) (last : List ℕ) where
   -- the same with nothing more
   at_still : (rows : Tables) → IsAt user row numbers scripts queue replies notices copies messages rows → IsAt user row numbers scripts (queue ++ []) replies (notices ++ []) (copies ++ []) (messages ++ []) rows
@@ -212,8 +214,8 @@ module _ (user : List ℕ) (row : Row) (numbers : Numbers) (scripts : Scripts) (
     kept = subst (λ l. AreKept l (messages ++ [])) (sym (append-nil copies)) (subst (AreKept copies) (sym (append-nil messages)) at.kept);
   }
 
-  at_on : (part : Part) → IsReady numbers last queue notices copies messages part
-      → IsAt user row numbers (scripts_with scripts part) (queue ++ letters_in part) (replies_with replies part) (notices ++ notices_in part) (copies ++ copies_in_part last part) (messages ++ messages_in_part part) (part_made user part own)
+  at_on : (part : Part) → IsReady base numbers last queue replies notices copies messages part
+      → IsAt user row numbers (scripts_with scripts part) (queue ++ letters_in part) (replies_with replies part) (notices ++ notices_in part) (copies ++ copies_in_part last part) (messages ++ messages_in_part part) (part_over user part base own)
   at_on (Script name text) ready =
       let still = at_still own at in
       record {
@@ -232,7 +234,9 @@ module _ (user : List ℕ) (row : Row) (numbers : Numbers) (scripts : Scripts) (
         account_is = still.account_is;
         scripts_are = still.scripts_are;
         queue_is = still.queue_is;
-        replies_are = replies_put user (own reply_tree) replies at.replies_are (handle, sender) moment;
+        replies_are =
+            subst (λ o. ShowsReplies user (moment_put user handle sender (latest (get base (handle, sender)) moment) own reply_tree) (insert replies (handle, sender) (latest o moment))) (sym ready)
+            (replies_put user (own reply_tree) replies at.replies_are (handle, sender) (latest (get base (handle, sender)) moment));
         notices_are = still.notices_are;
         copies_are = still.copies_are;
         messages_are = still.messages_are;
@@ -349,6 +353,53 @@ before_notice n moment text (Copy a b c) h = tt
 before_notice n moment text (Letter a b c d e) h = tt
 before_notice n moment text (Notice m b c) h = less_of m n h
 
+-- ---- moments of other handles or senders
+
+-- the part is no moment under this key
+abbrev IsOther : List ℕ × List ℕ → Part → Type 0
+IsOther key (Reply handle sender moment) = is_eq (reply_cmp key (handle, sender)) ≡ false
+IsOther key part = Unit {0}
+
+before_reply : (handle sender : List ℕ) (moment : ℕ) (q : Part) → Before q (Reply handle sender moment) → IsOther (handle, sender) q
+before_reply handle sender moment (Script a b) h = tt
+before_reply handle sender moment (Reply a b c) h = go (is_eq (reply_cmp (handle, sender) (a, b))) refl
+  where
+    go : (t : Bool) → is_eq (reply_cmp (handle, sender) (a, b)) ≡ t → t ≡ false
+    go false is = refl
+    go true is =
+        let same = tied reply_cmp reply_total reply_antisymmetric (handle, sender) (a, b) is in
+        let less : is_lt (reply_cmp (a, b) (a, b)) ≡ true = subst (λ k. is_lt (reply_cmp (a, b) k) ≡ true) same h in
+        absurd (let never : false ≡ true = sym (ap is_lt (tied_is (reply_cmp (a, b) (a, b)) (itself reply_cmp reply_total reply_antisymmetric (a, b)))) ∙ less in cc)
+before_reply handle sender moment (Mail a b c) h = tt
+before_reply handle sender moment (Copy a b c) h = tt
+before_reply handle sender moment (Letter a b c d e) h = tt
+before_reply handle sender moment (Notice a b c) h = tt
+
+-- such parts leave what is kept under the key
+kept_so_far : (key : List ℕ × List ℕ) (done : List Part) (replies : Replies) → AllByRecursion (IsOther key) done → get (fold replies_with replies done) key ≡ get replies key
+kept_so_far key [] replies all = refl
+kept_so_far key (Script a b ∷ done) replies all = kept_so_far key done replies all.1
+kept_so_far key (Reply a b c ∷ done) replies all =
+    let moment = latest (get replies (a, b)) c in
+    kept_so_far key done (insert replies (a, b) moment) all.1 ∙ (get-insert reply_total replies (a, b) moment key ∙ ap (λ t. cond t (Some moment) (get replies key)) all.0)
+kept_so_far key (Mail a b c ∷ done) replies all = kept_so_far key done replies all.1
+kept_so_far key (Copy a b c ∷ done) replies all = kept_so_far key done replies all.1
+kept_so_far key (Letter a b c d e ∷ done) replies all = kept_so_far key done replies all.1
+kept_so_far key (Notice a b c ∷ done) replies all = kept_so_far key done replies all.1
+
+-- over no moments each part is as it is
+over_none : (part : Part) → over_kept empty part ≡ part
+over_none (Script a b) = refl
+over_none (Reply a b c) = ap (λ o. Reply a b (latest o c)) (get-empty reply_cmp (a, b))
+over_none (Mail a b c) = refl
+over_none (Copy a b c) = refl
+over_none (Letter a b c d e) = refl
+over_none (Notice a b c) = refl
+
+all_over_none : (parts : List Part) → map (over_kept empty) parts ≡ parts
+all_over_none [] = refl
+all_over_none (p ∷ parts) = ap (λ q. q ∷ map (over_kept empty) parts) (over_none p) ∙ ap (λ qs. p ∷ qs) (all_over_none parts)
+
 copies_less : (n : ℕ) (last : List ℕ) (parts : List Part) → AllByRecursion (CopyLess n) parts → AllByRecursion (λ (c : KeptCopy). c.n < n) (copies_of last parts)
 copies_less n last [] all = tt
 copies_less n last (Script a b ∷ parts) all = copies_less n last parts all.1
@@ -425,14 +476,14 @@ last_push : (last : Option Part) (done : List Part) (p : Part) → last_of last 
 last_push last [] p = refl
 last_push last (q ∷ done) p = last_push (Some q) done p
 
-here_after : (numbers : Numbers) (last : List ℕ) (queue : List Outgoing) (notices : List (ℕ × KeptNotice)) (copies : List KeptCopy) (messages : List Message) (p : Part) → IsReady numbers last queue notices copies messages p
+here_after : (base : Replies) (numbers : Numbers) (last : List ℕ) (queue : List Outgoing) (replies : Replies) (notices : List (ℕ × KeptNotice)) (copies : List KeptCopy) (messages : List Message) (p : Part) → IsReady base numbers last queue replies notices copies messages p
     → IsHere (Some p) (octets_after last p) (messages ++ messages_in_part p)
-here_after numbers last queue notices copies messages (Script a b) ready = tt
-here_after numbers last queue notices copies messages (Reply a b c) ready = tt
-here_after numbers last queue notices copies messages (Mail number folder message) ready = has_last (messages ++ record { id = number; bytes = message } ∷ []) messages (record { id = number; bytes = message }) refl
-here_after numbers last queue notices copies messages (Copy number folder first) ready = (has_left messages [] (record { id = first; bytes = last }) ready.1.0, ready.1.1)
-here_after numbers last queue notices copies messages (Letter a b c d e) ready = tt
-here_after numbers last queue notices copies messages (Notice a b c) ready = tt
+here_after base numbers last queue replies notices copies messages (Script a b) ready = tt
+here_after base numbers last queue replies notices copies messages (Reply a b c) ready = tt
+here_after base numbers last queue replies notices copies messages (Mail number folder message) ready = has_last (messages ++ record { id = number; bytes = message } ∷ []) messages (record { id = number; bytes = message }) refl
+here_after base numbers last queue replies notices copies messages (Copy number folder first) ready = (has_left messages [] (record { id = first; bytes = last }) ready.1.0, ready.1.1)
+here_after base numbers last queue replies notices copies messages (Letter a b c d e) ready = tt
+here_after base numbers last queue replies notices copies messages (Notice a b c) ready = tt
 
 here_push : (done : List Part) (p : Part) → IsHere (Some p) (octets_after (fold octets_after [] done) p) (flat_map messages_in_part done ++ messages_in_part p)
     → IsHere (last_of None (done ++ p ∷ [])) (fold octets_after [] (done ++ p ∷ [])) (flat_map messages_in_part (done ++ p ∷ []))
@@ -463,26 +514,26 @@ given_is : (next n : ℕ) → is_given next n ≡ true → (1 ≤ n) × (n < nex
 given_is next n is = let parts = and_parts _ _ is in (leb-true 1 n parts.0, ltb-true n next parts.1)
 
 -- a part of an account may come next
-ready_next : (numbers : Numbers) (done : List Part) (p : Part) → AllByRecursion (λ q. Before q p) done → fits numbers p ≡ true → follows (last_of None done) p ≡ true
+ready_next : (base : Replies) (numbers : Numbers) (done : List Part) (p : Part) → AllByRecursion (λ q. Before q p) done → fits numbers p ≡ true → follows (last_of None done) p ≡ true
     → IsHere (last_of None done) (fold octets_after [] done) (flat_map messages_in_part done)
-    → IsReady numbers (fold octets_after [] done) (flat_map letters_in done) (flat_map notices_in done) (copies_of [] done) (flat_map messages_in_part done) p
-ready_next numbers done (Script a b) before fit follow here = tt
-ready_next numbers done (Reply a b c) before fit follow here = tt
-ready_next numbers done (Mail n folder message) before fit follow here =
+    → IsReady base numbers (fold octets_after [] done) (flat_map letters_in done) (fold replies_with base done) (flat_map notices_in done) (copies_of [] done) (flat_map messages_in_part done) p
+ready_next base numbers done (Script a b) before fit follow here = tt
+ready_next base numbers done (Reply a b c) before fit follow here = kept_so_far (a, b) done base (all_weaker (λ q. Before q (Reply a b c)) (IsOther (a, b)) (before_reply a b c) done before)
+ready_next base numbers done (Mail n folder message) before fit follow here =
     let given = given_is numbers.next_copy n fit in
     let less = all_weaker (λ q. Before q (Mail n folder message)) (CopyLess n) (before_mail n folder message) done before in
     (record { above = copies_less n [] done less; one = given.0; low = given.1 }, messages_less n done less)
-ready_next numbers done (Copy n folder first) before fit follow here =
+ready_next base numbers done (Copy n folder first) before fit follow here =
     let fits_both = and_parts (is_given numbers.next_copy n) (is_given numbers.next_copy first) fit in
     let given = given_is numbers.next_copy n fits_both.0 in
     let less = all_weaker (λ q. Before q (Copy n folder first)) (CopyLess n) (before_copy n folder first) done before in
     let both = and_parts (comes_after (last_of None done) (Copy n folder first)) (joins (last_of None done) (Copy n folder first)) follow in
     (record { above = copies_less n [] done less; one = given.0; low = given.1 }, come_from first n folder (last_of None done) (fold octets_after [] done) (flat_map messages_in_part done) here both.0 both.1)
-ready_next numbers done (Letter id way sender target message) before fit follow here =
+ready_next base numbers done (Letter id way sender target message) before fit follow here =
     let given = given_is numbers.next_out id fit in
     let less = all_weaker (λ q. Before q (Letter id way sender target message)) (LetterLess id) (before_letter id way sender target message) done before in
     record { above = letters_less id done less; one = given.0; low = given.1 }
-ready_next numbers done (Notice n moment text) before fit follow here =
+ready_next base numbers done (Notice n moment text) before fit follow here =
     let fits_both = and_parts (is_given numbers.next_notice n) _ fit in
     let given = given_is numbers.next_notice n fits_both.0 in
     let less = all_weaker (λ q. Before q (Notice n moment text)) (NoticeLess n) (before_notice n moment text) done before in
@@ -490,15 +541,15 @@ ready_next numbers done (Notice n moment text) before fit follow here =
 
 module _ (user : List ℕ) (row : Row) (numbers : Numbers) (replies : Replies) where
   all_parts : (done rest : List Part) (own : Tables) → are_chained None (done ++ rest) ≡ true → list_all (fits numbers) (done ++ rest) ≡ true → At user row numbers replies done own
-      → IsHere (last_of None done) (fold octets_after [] done) (flat_map messages_in_part done) → At user row numbers replies (done ++ rest) (parts_made user rest own)
+      → IsHere (last_of None done) (fold octets_after [] done) (flat_map messages_in_part done) → At user row numbers replies (done ++ rest) (parts_over user rest replies own)
   all_parts done [] own chained given at here = subst (λ l. At user row numbers replies l own) (sym (append-nil done)) at
   all_parts done (p ∷ rest) own chained given at here =
-      let ready = ready_next numbers done p (all_before None done p rest chained) (given_at numbers done rest p given) (chained_at None done rest p chained) here in
-      let next = at_on user row numbers (fold scripts_with empty done) (flat_map letters_in done) (fold replies_with replies done) (flat_map notices_in done) (copies_of [] done) (flat_map messages_in_part done) own at (fold octets_after [] done) p ready in
-      let then_here = here_push done p (here_after numbers (fold octets_after [] done) (flat_map letters_in done) (flat_map notices_in done) (copies_of [] done) (flat_map messages_in_part done) p ready) in
+      let ready = ready_next replies numbers done p (all_before None done p rest chained) (given_at numbers done rest p given) (chained_at None done rest p chained) here in
+      let next = at_on replies user row numbers (fold scripts_with empty done) (flat_map letters_in done) (fold replies_with replies done) (flat_map notices_in done) (copies_of [] done) (flat_map messages_in_part done) own at (fold octets_after [] done) p ready in
+      let then_here = here_push done p (here_after replies numbers (fold octets_after [] done) (flat_map letters_in done) (fold replies_with replies done) (flat_map notices_in done) (copies_of [] done) (flat_map messages_in_part done) p ready) in
       let same : (done ++ p ∷ []) ++ rest ≡ done ++ p ∷ rest = append_assoc done (p ∷ []) rest in
-      subst (λ l. At user row numbers replies l (parts_made user rest (part_made user p own))) same
-      (all_parts (done ++ p ∷ []) rest (part_made user p own) (ap (are_chained None) same ∙ chained) (ap (list_all (fits numbers)) same ∙ given) (at_pushed user row numbers replies done p (part_made user p own) next) then_here)
+      subst (λ l. At user row numbers replies l (parts_over user rest replies (part_over user p replies own))) same
+      (all_parts (done ++ p ∷ []) rest (part_over user p replies own) (ap (are_chained None) same ∙ chained) (ap (list_all (fits numbers)) same ∙ given) (at_pushed user row numbers replies done p (part_over user p replies own) next) then_here)
 
 -- ---- the account
 
@@ -516,7 +567,7 @@ whole_at head parts replies own at = record {
 }
 
 bare_whole : (head : Head) (parts : List Part) (b : Account) (copy notice : ℕ) (replies : Replies) (own : Tables) → IsAccount head parts → IsBare head.owner.name (account_row head.owner.name b copy notice) replies own
-    → IsShown head.owner.name (parts_made head.owner.name parts (head_made head own)) (whole head parts replies)
+    → IsShown head.owner.name (parts_over head.owner.name parts replies (head_made head own)) (whole head parts replies)
 bare_whole head parts b copy notice replies own is bare =
     let row = bare_head head b copy notice replies own bare in
     whole_at head parts replies _
@@ -530,12 +581,17 @@ carries_whole head parts ds is making tables accounts shows free =
     let user = head.owner.name in
     let none = subst (IsShownOrAbsent user (rows_of user tables)) free (shows.users user) in
     let own = rows_of user tables in
-    let shown = bare_whole head parts (new_account head.owner.address (password_of head)) 1 1 empty (account_made head own) is (bare_added head own none) in
+    let over = bare_whole head parts (new_account head.owner.address (password_of head)) 1 1 empty (account_made head own) is (bare_added head own none) in
+    let shown = subst (λ ps. IsShown user (parts_made user ps (head_made head (account_made head own))) (whole head parts empty)) (all_over_none parts) over in
     shows_after tables accounts user ds (whole head parts empty) making.owned shows (subst (λ t. IsShown user t (whole head parts empty)) (sym (making.makes own)) shown)
 
-pub carries_renewed : (head : Head) (parts : List Part) (ds : List Change) → IsAccount head parts → IsMaking head.owner.name (emptied_by head.owner.name) head parts ds
-    → Carries ds (HasUser head.owner.name) (λ all. with_user all head.owner.name (takes_whole head parts))
-carries_renewed head parts ds is making =
-    carries_user head.owner.name ds (takes_whole head parts) making.owned
-    (λ own a s. subst (λ t. IsShown head.owner.name t (takes_whole head parts a)) (sym (making.makes own))
+-- the changes are those of the parts over the moments that the account keeps
+abbrev pub IsRenewing : Head → List Part → List Change → Account → Type 0
+IsRenewing head parts ds a = IsMaking head.owner.name (emptied_by head.owner.name) head (map (over_kept a.replies) parts) ds
+
+pub carries_renewed : (head : Head) (parts : List Part) (ds : List Change) → IsAccount head parts → AreOf head.owner.name ds
+    → Carries ds (λ all. OfUser all head.owner.name (IsRenewing head parts ds)) (λ all. with_user all head.owner.name (takes_whole head parts))
+carries_renewed head parts ds is are =
+    carries_known head.owner.name ds (takes_whole head parts) (IsRenewing head parts ds) are
+    (λ own a making s. subst (λ t. IsShown head.owner.name t (takes_whole head parts a)) (sym (making.makes own))
     (bare_whole head parts (empties a) s.next_copy s.next_notice a.replies (emptied_by head.owner.name own) is (bare_emptied head.owner.name own a s)))

@@ -1,5 +1,5 @@
 -- What a store keeps of its users, without its tables.
-use Rattle.std.specs.Prelude.{◌++◌, ◌==◌, ◌&&◌, ◌||◌, ℕ, suc, Bool, cond, not, nat_lt, List, [], ◌∷◌, drop, fold, filter, length, Option, Some, None, unwrap_or, option_map, if◌then◌else◌}
+use Rattle.std.specs.Prelude.{◌++◌, ◌==◌, ◌&&◌, ◌||◌, ℕ, suc, max, Bool, cond, not, nat_lt, List, [], ◌∷◌, drop, fold, filter, length, Option, Some, None, unwrap_or, option_map, if◌then◌else◌}
 use Rattle.std.specs.declared.cmp.Ordering.{Ordering}
 use Rattle.std.specs.FinMap.{FinMap, empty, get, insert, remove, len}
 use Rattle.std.specs.List.{find}
@@ -167,6 +167,11 @@ holding folders name (message ∷ more) = insert folders name (message ∷ more)
 -- the first k messages leave the folder, which goes with its last one; their numbers are not used again
 abbrev pub takes_mail : List ℕ → ℕ → Account → Account
 takes_mail folder k a = record a { folders = holding a.folders folder (drop k (messages_in a.folders folder)) }
+
+-- of the moment that is kept, if one is, and another one the later is kept, so that none is forgotten
+abbrev pub latest : Option ℕ → ℕ → ℕ
+latest None moment = moment
+latest (Some last) moment = max last moment
 
 -- the moment of the last reply to the sender is kept, under the key of its handle
 abbrev pub remembers : List ℕ → List ℕ → ℕ → Account → Account

@@ -70,6 +70,12 @@ pub record Keeps {X E : Type 0} (old new : State) (result : Result X E) : Type 0
   pub shut : HasCleanDisk new → IsTrue new.is_open → IsTrue old.is_open
   pub crash : Survives old new (λ _. HasOurTables old.now → ⊥)
 
+-- reads in turn, and maybe none: over our tables what is seen and the last commit stay, after Ok whatever the connection is; a crash leaves what it left before
+pub record KeepsSeen {X E : Type 0} (old new : State) (result : Result X E) : Type 0 where
+  pub same : HasCleanDisk new → HasOurTables old.now → StaysSame old new
+  pub seen : HasCleanDisk new → HasOurTables old.now → OnOk result ((new.now ≡ old.now) × (new.committed ≡ old.committed))
+  pub crash : Survives old new (λ _. HasOurTables old.now → ⊥)
+
 -- a query for the user's rows in one table: it shows this of each
 pub record FindsOwn {E : Type 0} (user : List ℕ) (tree : ℕ) (show : Row → Row) (old new : State) (result : Result (Vec Row Global) E) : Type 0 where
   pub found : HasCleanDisk new → OverTables old (λ tables. IfOk result (λ rows. rows.items ≡ map show (rows_of user tables tree)))

@@ -40,9 +40,13 @@ kept_reply e = record { handle = e.0.0; moment = e.1 }
 abbrev pub kept_cells : KeptReply → Row
 kept_cells kept = Blob kept.handle ∷ Int (pos kept.moment) ∷ []
 
--- this is the moment that is kept under the handle's key and the sender, if one is; case ignored in the sender
+-- this is the moment that is kept under the handle's key and the sender, if one is
+abbrev pub IsMoment : List ℕ → List ℕ → Option ℕ → Account → Type 0
+IsMoment handle sender moment a = moment ≡ get a.replies (handle, sender)
+
+-- the same, case ignored in the sender
 abbrev pub IsLastReply : List ℕ → List ℕ → Option ℕ → Account → Type 0
-IsLastReply handle sender moment a = moment ≡ get a.replies (handle, lowered sender)
+IsLastReply handle sender = IsMoment handle (lowered sender)
 
 -- these are the replies to the sender, in that order; case ignored in the sender
 abbrev pub AreReplies : List ℕ → List KeptReply → Account → Type 0

@@ -1,7 +1,8 @@
 -- An account that is written whole: what the parts of its text make of it.
-use Rattle.std.specs.Prelude.{◌++◌, ℕ, List, [], ◌∷◌, fold, map, Option, None}
+use Rattle.std.specs.Prelude.{◌≡◌, ◌++◌, ℕ, List, [], ◌∷◌, fold, map, Option, None}
 use Rattle.std.specs.List.{flat_map}
-use Rattle.std.specs.FinMap.{empty, insert}
+use Rattle.std.specs.FinMap.{empty, get, insert}
+use Rattle.accountfiles.specs.Text.{IsTextOf}
 use Rattle.accountfiles.specs.declared.head.Head.{Head}
 use Rattle.accountfiles.specs.declared.part.LetterKind.{LetterKind}
 use Rattle.accountfiles.specs.declared.part.LetterKind.TheVariants.{Redirect, Answer}
@@ -11,7 +12,7 @@ use Rattle.mailtables.specs.declared.queue.Kind.{Kind}
 use Rattle.mailtables.specs.declared.queue.Kind.TheVariants as kind
 use Rattle.mailstore.specs.declared.notice.Notice.{Notice as KeptNotice}
 use Rattle.mailstore.specs.declared.queue.Outgoing.{Outgoing}
-use Rattle.mailstore.specs.Account.{Account, Password, Replies, Scripts}
+use Rattle.mailstore.specs.Account.{Account, Password, Replies, Scripts, latest}
 use Rattle.mailstore.specs.CopyRows.{Copy as KeptCopy, folders_from}
 use Rattle.mailstore.specs.MessageRows.{Message}
 
@@ -21,9 +22,9 @@ abbrev pub scripts_with : Scripts → Part → Scripts
 scripts_with scripts (Script name text) = insert scripts name text
 scripts_with scripts part = scripts
 
--- in place of a moment that is there
+-- of a moment that is there, under the same handle for the same sender, and the text's the later one is kept
 abbrev pub replies_with : Replies → Part → Replies
-replies_with replies (Reply handle sender moment) = insert replies (handle, sender) moment
+replies_with replies (Reply handle sender moment) = insert replies (handle, sender) (latest (get replies (handle, sender)) moment)
 replies_with replies part = replies
 
 abbrev pub kind_of : LetterKind → Kind
@@ -77,6 +78,16 @@ whole head parts replies = record {
   next_out = head.numbers.next_out;
 }
 
--- the same in place of an account that is there: of that the moments of replies stay
+-- the same in place of an account that is there: of that the moments of replies stay, but where the text has a later one
 abbrev pub takes_whole : Head → List Part → Account → Account
 takes_whole head parts a = whole head parts a.replies
+
+-- ---- the text of an account
+
+-- the text is one of this user's account: read, it makes that account again
+pub record IsCopyOf (text user : List ℕ) (a : Account) : Type 0 where
+  pub head : Head
+  pub parts : List Part
+  pub spelled : IsTextOf text head parts
+  pub named : head.owner.name ≡ user
+  pub makes : whole head parts empty ≡ a

@@ -1,5 +1,7 @@
 -- What the row changes of an account that is written whole make of its user's rows.
-use Rattle.std.specs.Prelude.{◌≡◌, ℕ, pos, List, [], ◌∷◌, fold, None}
+use Rattle.std.specs.Prelude.{◌≡◌, ℕ, pos, List, [], ◌∷◌, fold, map, None, Result, OnOk, IfErr, IfSome}
+use Rattle.std.specs.FinMap.{get}
+use Rattle.sqlite.specs.State.{State, HasCleanDisk}
 use Rattle.mailtables.specs.Rows.{Tables}
 use Rattle.mailtables.specs.AccountTable.{account_tree}
 use Rattle.mailtables.specs.ScriptTable.{script_tree}
@@ -8,10 +10,14 @@ use Rattle.mailtables.specs.NoticeTable.{notice_tree}
 use Rattle.mailtables.specs.CopyTable.{copy_tree}
 use Rattle.mailtables.specs.MessageTable.{message_tree}
 use Rattle.mailtables.specs.declared.change.Change.{Change}
-use Rattle.mailtables.specs.Changes.{AreOf, made, account_added, active_set, address_set, counters_set, password_set, script_added, script_removed, reply_added, reply_removed, message_added, copy_added, outgoing_added, notice_added, owned_removed}
+use Rattle.mailtables.specs.Changes.{AreOf, Extends, made, account_added, active_set, address_set, counters_set, password_set, script_added, script_removed, reply_added, reply_removed, message_added, copy_added, outgoing_added, notice_added, owned_removed}
 use Rattle.accountfiles.specs.declared.head.Head.{Head}
 use Rattle.accountfiles.specs.declared.part.Part.{Part}
 use Rattle.accountfiles.specs.declared.part.Part.TheVariants.{Script, Reply, Mail, Copy, Letter, Notice}
+use Rattle.mailstore.specs.declared.refusal.Refusal.{Refusal}
+use Rattle.mailstore.specs.Account.{Replies, latest}
+use Rattle.mailstore.specs.Promises.{KeepsSeen, OverAccounts}
+use Rattle.mailstore.specs.Refusals.{IsTransient}
 use Rattle.mailstore.specs.Whole.{kind_of}
 
 abbrev pub script_put : List ℕ → List ℕ → List ℕ → Tables → Tables
@@ -34,6 +40,26 @@ part_made user (Notice number moment text) = notice_added user (pos number) (pos
 -- one part after the other
 abbrev pub parts_made : List ℕ → List Part → Tables → Tables
 parts_made user parts own = fold (λ rows part. part_made user part rows) own parts
+
+-- a moment is the later one of its own and the one that is kept under its handle for its sender, if one is
+abbrev pub over_kept : Replies → Part → Part
+over_kept replies (Reply handle sender moment) = Reply handle sender (latest (get replies (handle, sender)) moment)
+over_kept replies part = part
+
+-- a part over the moments that are kept
+abbrev pub part_over : List ℕ → Part → Replies → Tables → Tables
+part_over user part replies = part_made user (over_kept replies part)
+
+-- all parts over the moments that were kept before them
+abbrev pub parts_over : List ℕ → List Part → Replies → Tables → Tables
+parts_over user parts replies = parts_made user (map (over_kept replies) parts)
+
+-- after Ok the changes are longer, by some that make this of the user's rows over the moments that the user's account keeps, if there is one;
+-- only reads were asked for it, and it is refused without visible cause alone
+pub record PushesOver (user : List ℕ) (change : Replies → Tables → Tables) (old new : State) (before after : List Change) (result : Result (Unit {0}) Refusal) : Type 0 where
+  pub made : HasCleanDisk new → OverAccounts old (λ accounts. OnOk result (IfSome (get accounts user) (λ a. Extends user (change a.replies) before after)))
+  pub keeps : KeepsSeen old new result
+  pub named : IfErr result IsTransient
 
 abbrev pub numbers_made : Head → Tables → Tables
 numbers_made head = counters_set head.owner.name (pos head.numbers.next_copy) (pos head.numbers.next_out) (pos head.numbers.next_notice)

@@ -31,7 +31,7 @@ pub use notice::Notice;
 pub use profile::Profile;
 pub use queue::Outgoing;
 pub use refusal::Refusal;
-pub use reply::KeptReply;
+pub use reply::{KeptReply, latest};
 pub use report::{Plan, Report, VacationReply, VacationReport};
 pub use store::Store;
 pub use taking::NumberedMessage;

@@ -55,6 +55,10 @@ pub enum Refusal {
     /// The user has 32 scripts, and none of the name.
     #[error("too many scripts")]
     TooManyScripts,
+    /// The account of a text is none that may be kept: its name is no user's name, its address is no addr-spec, a script isn't
+    /// valid or is too large, the name of one is none that a script may have, or there are too many.
+    #[error("bad account")]
+    BadAccount,
 }
 
 impl From<AllocError> for Refusal {

@@ -2,10 +2,11 @@
 ghost use Rattle.std.specs.Prelude.{◌≡◌, false, pos, option_map, slice_get, IfOk, IfErr};
 ghost use Rattle.sqlite_value.specs.declared.value.Value.TheVariants.{Int};
 ghost use Rattle.sqlite_value.specs.Order.{column};
+ghost use Rattle.mailstore.specs.Account as accounts;
 ghost use Rattle.mailstore.specs.Promises.{Finds, Reads, ReadsEntered};
 ghost use Rattle.mailtables.specs.Connection.{Queries};
 ghost use Rattle.mailstore.specs.Refusals.{IsTransient};
-ghost use Rattle.mailstore.specs.ReplyRows.{AreReplies, HasMomentRow, IsLastReply};
+ghost use Rattle.mailstore.specs.ReplyRows.{AreReplies, HasMomentRow, IsLastReply, IsMoment};
 ghost use Rattle.sqlite.specs.Held.{state};
 
 use crate::cell::text_at;
@@ -23,6 +24,16 @@ pub struct KeptReply {
     pub handle: Octets,
     /// In seconds since 1970-01-01 UTC.
     pub moment: u64,
+}
+
+/// The later one of a moment and the one that is kept, if one is.
+pub fn latest(last: Option<u64>, moment: u64) -> u64
+    ensures { result ≡ accounts.latest last moment }
+{
+    match last {
+        Some(last) => last.max(moment),
+        None => moment,
+    }
 }
 
 /// The moment that is kept under the handle's key and the sender.
@@ -96,7 +107,20 @@ impl<S: Alter> Store<S> {
         ensures { ReadsEntered user.now (IsLastReply handle.now sender.now) (state S.Store self.old) (state S.Store self.new) result }
     {
         let sender = octets::lowered(self.alloc, sender)?;
-        let rows = find_moment(&mut self.conn, user, handle, sender.as_slice())?;
+        self.moment_of(user, handle, sender.as_slice())
+    }
+
+    /// The moment that is kept under the handle's key and just this sender, if one is, of an account that was entered. It is found by
+    /// its key.
+    pub(crate) fn moment_of(
+        &mut self,
+        user: &[u8],
+        handle: &[u8],
+        sender: &[u8],
+    ) -> Result<Option<u64>, Refusal>
+        ensures { ReadsEntered user.now (IsMoment handle.now sender.now) (state S.Store self.old) (state S.Store self.new) result }
+    {
+        let rows = find_moment(&mut self.conn, user, handle, sender)?;
         first_moment(&rows)
     }
 

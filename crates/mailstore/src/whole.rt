@@ -5,13 +5,14 @@ ghost use Rattle.sqlite.specs.Held.{state};
 ghost use Rattle.accountfiles.specs.Text.{IsAccount};
 ghost use Rattle.mailtables.specs.Changes.{active_set};
 ghost use Rattle.mailstore.specs.Delivery.{Pushes};
-ghost use Rattle.mailstore.specs.Promises.{IsFree, Writes, WritesUser};
+ghost use Rattle.mailstore.specs.Promises.{IsFree, Writes, WritesAccount};
 ghost use Rattle.mailstore.specs.Refusals.{IsTransient};
 ghost use Rattle.mailstore.specs.Whole.{whole, takes_whole, kind_of as kind_by};
-ghost use Rattle.mailstore.specs.WholeRows.{script_put, moment_put, mail_put, part_made, parts_made, emptied_by, numbers_made, owner_made, head_made, account_made, IsMaking};
+ghost use Rattle.mailstore.specs.WholeRows.{script_put, moment_put, mail_put, part_made, parts_made, part_over, parts_over, emptied_by, numbers_made, owner_made, head_made, account_made, IsMaking, PushesOver};
 
 use crate::cell::number;
 use crate::refusal::Refusal;
+use crate::reply::latest;
 use crate::store::Store;
 use accountfiles::{Head, LetterKind, Part};
 use mailtables::{Change, Kind};
@@ -303,18 +304,6 @@ fn added<'a>(alloc: Global, head: &'a Head, parts: &'a [Part]) -> Result<Vec<Cha
     Ok(changes)
 }
 
-/// All changes of an account in place of one that is there.
-fn renewed<'a>(alloc: Global, head: &'a Head, parts: &'a [Part]) -> Result<Vec<Change<'a>>, Refusal>
-    ensures made { IfOk result (λ changes. IsMaking head.now.owner.name (emptied_by head.now.owner.name) head.now parts.now changes.items) }
-    ensures named { IfErr result IsTransient }
-{
-    let mut changes = Vec::new(alloc);
-    push_emptying(&mut changes, head.owner.name.as_slice())?;
-    push_head(&mut changes, head)?;
-    push_parts(&mut changes, head.owner.name.as_slice(), parts)?;
-    Ok(changes)
-}
-
 impl<S: Alter> Store<S> {
     /// Adds the account of a text whole, under a name that no account has: its scripts, folders, queue, moments of replies, notices and
     /// numbers, all or nothing. It is open or closed as the text says. Time and memory are in proportion to it.
@@ -330,17 +319,60 @@ impl<S: Alter> Store<S> {
         self.apply(&changes)
     }
 
-    /// Puts the account of a text in place of one that is there. What that has goes, but for its moments of replies, over which those of
-    /// the text are put.
+    /// Puts the account of a text in place of one that was entered. What that has goes, but for its moments of replies: of two under one
+    /// handle for one sender the later one stays. All or nothing, as `add_whole`; for each moment of the text the one that is there is
+    /// found by its key.
     ///
     /// # Errors
     ///
     /// `Memory`, `Store`.
     pub fn renew_whole(&mut self, head: &Head, parts: &[Part]) -> Result<(), Refusal>
         requires { IsAccount head.now parts.now }
-        ensures { WritesUser head.now.owner.name (takes_whole head.now parts.now) (state S.Store self.old) (state S.Store self.new) result }
+        ensures writes { WritesAccount head.now.owner.name (takes_whole head.now parts.now) (state S.Store self.old) (state S.Store self.new) result }
+        ensures named { IfErr result IsTransient }
     {
-        let changes = renewed(self.alloc, head, parts)?;
+        let user = head.owner.name.as_slice();
+        let mut changes = Vec::new(self.alloc);
+        push_emptying(&mut changes, user)?;
+        push_head(&mut changes, head)?;
+        self.push_parts_over(&mut changes, user, parts)?;
         self.apply(&changes)
+    }
+
+    /// What all parts make, over the moments that are kept.
+    fn push_parts_over<'a>(
+        &mut self,
+        changes: &mut Vec<Change<'a>>,
+        user: &'a [u8],
+        parts: &'a [Part],
+    ) -> Result<(), Refusal>
+        ensures { PushesOver user.now (parts_over user.now parts.now) (state S.Store self.old) (state S.Store self.new) changes.old.items changes.new.items result }
+    {
+        for part in parts {
+            self.push_over(changes, user, part)?;
+        }
+        Ok(())
+    }
+
+    /// What a part makes; of a moment and the one that is kept the later one.
+    fn push_over<'a>(
+        &mut self,
+        changes: &mut Vec<Change<'a>>,
+        user: &'a [u8],
+        part: &'a Part,
+    ) -> Result<(), Refusal>
+        ensures { PushesOver user.now (part_over user.now part.now) (state S.Store self.old) (state S.Store self.new) changes.old.items changes.new.items result }
+    {
+        let Part::Reply {
+            handle,
+            sender,
+            moment,
+        } = part
+        else {
+            return push_part(changes, user, part);
+        };
+        let (handle, sender) = (handle.as_slice(), sender.as_slice());
+        let kept = self.moment_of(user, handle, sender)?;
+        push_reply(changes, user, handle, sender, latest(kept, *moment))
     }
 }

@@ -140,7 +140,11 @@ fn is_whole(ran: &Ran) -> bool {
 fn is_done(answer: &Answer) -> bool {
     match answer {
         Answer::Out(Progress::Done, said) => said.as_slice().starts_with(b"OK"),
-        Answer::Delivered(_) | Answer::Added | Answer::Taken(_) | Answer::MailTaken => true,
+        Answer::Delivered(_)
+        | Answer::Added
+        | Answer::Imported
+        | Answer::Taken(_)
+        | Answer::MailTaken => true,
         _ => false,
     }
 }

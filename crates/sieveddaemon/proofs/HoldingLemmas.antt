@@ -10,7 +10,7 @@ use Rattle.mailengine.specs.Hosts.{HasClients}
 use Rattle.mailengine.specs.World.{World, Clients, Next, Opens}
 use Rattle.mailengine.specs.declared.answer.Answer.{Answer}
 use Rattle.mailengine.specs.declared.event.Event.{Event}
-use Rattle.mailengine.specs.declared.event.Event.TheVariants.{Open, Give, Step as StepOf, GiveUp, Close, Deliver, AddUser, TakeOut, TakeMail, Keep}
+use Rattle.mailengine.specs.declared.event.Event.TheVariants.{Open, Give, Step as StepOf, GiveUp, Close, Deliver, AddUser, Import, TakeOut, TakeMail, Keep}
 use Rattle.mailmoves.specs.declared.moving.Moving.{Moving}
 use Rattle.mailmoves.specs.declared.moving.Moving.TheVariants as moving
 use Rattle.mailposts.specs.Posts.{Deed}
@@ -285,6 +285,7 @@ freed_gains now w id (GiveUp n) answer is k = refl
 freed_gains now w id (Close n) answer is k = refl
 freed_gains now w id (Deliver user envelope message when default) answer is k = refl
 freed_gains now w id (AddUser name address salt password) answer is k = refl
+freed_gains now w id (Import file) answer is k = refl
 freed_gains now w id (TakeOut user row) answer is k = refl
 freed_gains now w id (TakeMail user folder) answer is k = refl
 freed_gains now w id (Keep user upkeep) answer is k = refl

@@ -6,7 +6,7 @@ use Rattle.mailengine.proofs.HostLemmas.{clients_are}
 use Rattle.mailengine.specs.World.{if_open}
 use Rattle.sessions.specs.Steps.{may_fail}
 use Rattle.mailengine.specs.declared.answer.Answer.{Answer}
-use Rattle.mailengine.specs.declared.answer.Answer.TheVariants.{Out, Delivered, Added, Taken, MailTaken, Changed, Stored, Invalid, Closed, Opened, Removed, NoticesTaken, Ignored, Refused}
+use Rattle.mailengine.specs.declared.answer.Answer.TheVariants.{Out, Delivered, Added, Imported, Taken, MailTaken, Changed, Stored, Invalid, Closed, Opened, Removed, NoticesTaken, Ignored, Refused}
 use Rattle.mailengine.specs.declared.clients.Clients.{Clients as CodeClients}
 use Rattle.mailengine.specs.declared.event.Event.{Event}
 use Rattle.mailengine.specs.declared.event.Event.TheVariants.{Step, GiveUp}
@@ -35,6 +35,7 @@ made_out : (answer : Answer) → is_out answer ≡ true → IsMade answer
 made_out (Out progress octets) is = tt
 made_out (Delivered report) is = tt
 made_out Added is = tt
+made_out Imported is = tt
 made_out (Taken row) is = tt
 made_out MailTaken is = tt
 made_out Changed is = tt

@@ -21,7 +21,7 @@ use Rattle.mailengine.specs.World.{World, Clients, Next, Opens, InSession, Becom
 use Rattle.mailengine.specs.declared.answer.Answer.{Answer}
 use Rattle.mailengine.specs.declared.answer.Answer.TheVariants.{Out}
 use Rattle.mailengine.specs.declared.event.Event.{Event}
-use Rattle.mailengine.specs.declared.event.Event.TheVariants.{Open, Give, Step, GiveUp, Close, Deliver, AddUser, TakeOut, TakeMail, Keep}
+use Rattle.mailengine.specs.declared.event.Event.TheVariants.{Open, Give, Step, GiveUp, Close, Deliver, AddUser, Import, TakeOut, TakeMail, Keep}
 use Rattle.wires.specs.Talk.{same}
 use Rattle.wires.proofs.TalkLemmas.{one_number}
 use Rattle.sieveddaemon.specs.Bounds.{unread_of}
@@ -188,6 +188,7 @@ event_grows w v (GiveUp n) answer (inl made) = give_up_grows w v n answer (get w
 event_grows w v (Close n) answer (inl made) = close_grows w v n answer (get w.sessions n) made
 event_grows w v (Deliver user envelope message when default) answer (inl made) = none_grows w.sessions v.sessions _ (ap (λ (x : World). x.sessions) made.2)
 event_grows w v (AddUser name address salt password) answer (inl made) = none_grows w.sessions v.sessions _ (ap (λ (x : World). x.sessions) made.2)
+event_grows w v (Import file) answer (inl made) = none_grows w.sessions v.sessions _ (ap (λ (x : World). x.sessions) made.2)
 event_grows w v (TakeOut user id) answer (inl made) = none_grows w.sessions v.sessions _ (ap (λ (x : World). x.sessions) made.2)
 event_grows w v (TakeMail user folder) answer (inl made) = none_grows w.sessions v.sessions _ (ap (λ (x : World). x.sessions) made.2)
 event_grows w v (Keep user upkeep) answer (inl made) = none_grows w.sessions v.sessions _ (ap (λ (x : World). x.sessions) made.2)

@@ -1,13 +1,13 @@
 use Rattle.std.proofs.Common.{◌≡◌, refl}
 use Rattle.sqlite.specs.Held.{state}
 use Rattle.mailengine.specs.declared.event.Event.{Event}
-use Rattle.mailengine.specs.declared.event.Event.TheVariants.{Open, Give, Step, GiveUp, Close, Deliver, AddUser, TakeOut, TakeMail, Keep}
-use Rattle.mailengine.specs.declared.answer.Answer.TheVariants.{Delivered, Added, Taken, MailTaken}
-use Rattle.mailengine.specs.AccountEvents.{Delivery, Addition, Taking, MailTaking}
+use Rattle.mailengine.specs.declared.event.Event.TheVariants.{Open, Give, Step, GiveUp, Close, Deliver, AddUser, Import, TakeOut, TakeMail, Keep}
+use Rattle.mailengine.specs.declared.answer.Answer.TheVariants.{Delivered, Added, Imported, Taken, MailTaken}
+use Rattle.mailengine.specs.AccountEvents.{Delivery, Addition, Importing, Taking, MailTaking}
 use Rattle.mailengine.specs.Upkeep.{Keeping}
-use Rattle.mailengine.specs.Hosts.{answer_by, answer_of, MayRefuseDelivery, MayRefuseAddition, MayRefuseKeeping}
+use Rattle.mailengine.specs.Hosts.{answer_by, answer_of, MayRefuseDelivery, MayRefuseAddition, MayRefuseImport, MayRefuseKeeping}
 use Rattle.mailstore.specs.Refusals.{IsTransient}
-use Rattle.mailengine.proofs.HostLemmas.{told_by, told_done, session_event, account_event, account_crash, delivery_may, addition_may, taking_may, mail_taking_may, keeping_may, event_is, crash_is}
+use Rattle.mailengine.proofs.HostLemmas.{told_by, told_done, session_event, account_event, account_crash, delivery_may, addition_may, importing_may, taking_may, mail_taking_may, keeping_may, event_is, crash_is}
 use Rattle.mailengine.specs.Terms.{terms}
 use Rattle.mailengine.proofs.machine.carry_out.Goals as goal
 
@@ -71,6 +71,23 @@ returns-in-AddUser-clause-crash g c =
     let is : c.args.event.now ≡ event = cc in
     crash_is c.args.event.now event (state g.S.Store c.args.store.now) (state g.S.Store c.add_user-added.new.store) c.args.sessions.now is
     (account_crash event (λ accounts. Addition accounts c.as_slice-in-AddUser.result.now c.as_slice-in-AddUser-2.result.now c.in-AddUser.salt c.as_slice-in-AddUser-3.result.now) (MayRefuseAddition c.as_slice-in-AddUser.result.now c.as_slice-in-AddUser-2.result.now c.as_slice-in-AddUser-3.result.now) (λ w answer next made. made) (addition_may c.as_slice-in-AddUser.result.now c.as_slice-in-AddUser-2.result.now c.in-AddUser.salt c.as_slice-in-AddUser-3.result.now) (state g.S.Store c.args.store.now) (state g.S.Store c.add_user-added.new.store) c.args.sessions.now c.add_user-added.result (answer_by (λ done. Added) c.add_user-added.result) c.add_user-added.ensures.acts)
+
+pub returns-in-Import-clause-event : goal.returns-in-Import-clause-event
+returns-in-Import-clause-event g c =
+    let file = c.in-Import.file in
+    let is : c.args.event.now ≡ Import file = cc in
+    event_is c.args.event.now (Import file) c.answer_of-in-Import.result (answer_by (λ done. Imported) c.import-imported.result) (state g.S.Store c.args.store.now) (state g.S.Store c.import-imported.new.store) c.args.sessions.now c.args.sessions.now is
+    (told_done Imported c.import-imported.result c.and-in-Import.result c.answer_of-in-Import.result c.and-in-Import.ensures c.answer_of-in-Import.ensures)
+    (account_event (Import file) (λ accounts. Importing accounts file.head file.parts) (MayRefuseImport file.head file.parts) (λ w answer next made. made) (importing_may file) (state g.S.Store c.args.store.now) (state g.S.Store c.import-imported.new.store) c.args.sessions.now
+    (λ done. Imported) c.import-imported.result c.import-imported.ensures.acts)
+
+pub returns-in-Import-clause-crash : goal.returns-in-Import-clause-crash
+returns-in-Import-clause-crash g c =
+    let file = c.in-Import.file in
+    let is : c.args.event.now ≡ Import file = cc in
+    crash_is c.args.event.now (Import file) (state g.S.Store c.args.store.now) (state g.S.Store c.import-imported.new.store) c.args.sessions.now is
+    (account_crash (Import file) (λ accounts. Importing accounts file.head file.parts) (MayRefuseImport file.head file.parts) (λ w answer next made. made) (importing_may file) (state g.S.Store c.args.store.now) (state g.S.Store c.import-imported.new.store) c.args.sessions.now
+    c.import-imported.result (answer_by (λ done. Imported) c.import-imported.result) c.import-imported.ensures.acts)
 
 pub returns-in-TakeOut-clause-event : goal.returns-in-TakeOut-clause-event
 returns-in-TakeOut-clause-event g c =

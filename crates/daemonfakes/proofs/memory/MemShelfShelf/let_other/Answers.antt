@@ -3,12 +3,12 @@ use Rattle.std.proofs.Common.{◌≡◌, is_ok, refl, rules, sym, subst}
 use Rattle.sqlite.specs.Held.{state}
 use Rattle.sqlite.specs.Steps.{over_memory}
 use Rattle.mailstore.specs.Refusals.{IsTransient}
-use Rattle.mailengine.specs.AccountEvents.{Addition, Taking, MailTaking}
-use Rattle.mailengine.specs.Hosts.{ActsAddition, ActsTaking, ActsMailTaking, ActsKeeping, MayRefuseAddition, MayRefuseKeeping}
+use Rattle.mailengine.specs.AccountEvents.{Addition, Importing, Taking, MailTaking}
+use Rattle.mailengine.specs.Hosts.{ActsAddition, ActsTaking, ActsMailTaking, ActsKeeping, MayRefuseAddition, MayRefuseImport, MayRefuseKeeping}
 use Rattle.mailengine.specs.Upkeep.{Keeping}
-use Rattle.mailengine.specs.declared.answer.Answer.TheVariants.{Added, Taken, MailTaken}
-use Rattle.mailengine.specs.declared.event.Event.TheVariants.{Deliver, AddUser, TakeOut, TakeMail, Keep}
-use Rattle.mailengine.proofs.HostLemmas.{addition_may, taking_may, mail_taking_may, keeping_may}
+use Rattle.mailengine.specs.declared.answer.Answer.TheVariants.{Added, Imported, Taken, MailTaken}
+use Rattle.mailengine.specs.declared.event.Event.TheVariants.{Deliver, AddUser, Import, TakeOut, TakeMail, Keep}
+use Rattle.mailengine.proofs.HostLemmas.{addition_may, importing_may, taking_may, mail_taking_may, keeping_may}
 use Rattle.daemonfakes.specs.Memory.{memory_view_of}
 use Rattle.daemonfakes.specs.Shelves.{IsLet}
 use Rattle.daemonfakes.proofs.MemoryLemmas.{lets_by, on_shelf}
@@ -35,6 +35,16 @@ returns-in-AddUser-clause-lets c =
     (subst (λ e. IsLet memory_view_of e c.is_ok.result c.args.self.now.store c.add_user.new.store) (sym it.is)
     (lets_by (AddUser it.name it.address it.salt it.password) (λ accounts. Addition accounts it.name it.address it.salt it.password) (MayRefuseAddition it.name it.address it.password)
     (addition_may it.name it.address it.salt it.password) (λ w answer later row. (later, row, refl)) c.args.self.now.store c.add_user.new.store (λ done. Added) c.add_user.result c.is_ok.result is acts))
+
+pub returns-in-Import-clause-lets : goal.returns-in-Import-clause-lets
+returns-in-Import-clause-lets c =
+    let it = c.in-Import in
+    let file = it.file in
+    let is : c.is_ok-in-Import.result ≡ is_ok c.import.result = search rules in
+    on_shelf c.args.event.now c.is_ok-in-Import.result c.args.self.now _
+    (subst (λ e. IsLet memory_view_of e c.is_ok-in-Import.result c.args.self.now.store c.import.new.store) (sym it.is)
+    (lets_by (Import file) (λ accounts. Importing accounts file.head file.parts) (MayRefuseImport file.head file.parts) (importing_may file) (λ w answer later row. (later, row, refl)) c.args.self.now.store
+    c.import.new.store (λ done. Imported) c.import.result c.is_ok-in-Import.result is c.import.ensures.acts))
 
 pub returns-in-TakeOut-clause-lets : goal.returns-in-TakeOut-clause-lets
 returns-in-TakeOut-clause-lets c =

@@ -1,0 +1,100 @@
+//! An account that comes whole, as its text says.
+ghost use Rattle.std.specs.Prelude.{◌≡◌, OnOk, IfOk, IfErr, MatchBool};
+ghost use Rattle.sqlite.specs.Held.{state};
+ghost use Rattle.sqlite.specs.State.{HasCleanDisk};
+ghost use Rattle.mailstore.specs.Connection.{IsSettled};
+ghost use Rattle.mailstore.specs.declared.refusal.Refusal.TheVariants.{BadAccount};
+ghost use Rattle.mailengine.specs.AccountEvents.{IsImportable};
+ghost use Rattle.mailengine.specs.Hosts.{ActsImport, RefusesImport};
+ghost use Rattle.mailengine.specs.Importable.{HasSoundScripts};
+ghost use Rattle.mailengine.specs.Sound.{IsSoundScript};
+
+use crate::standing::read_standing;
+use crate::user::{is_own_address, is_user_name, refusal_over};
+use accountfiles::{AccountFile, Part};
+use mailstore::{Refusal, Store};
+use sessions::script_name::is_script_name;
+use sessions::scripts::{MAX_SCRIPT, MAX_SCRIPTS, fault_in};
+use sqlite::Alter;
+use std::alloc::{AllocError, Global};
+
+/// Makes the account of a text whole, in one transaction, which is its last act: its scripts, folders, queue, notices, moments of
+/// replies and numbers, open or closed as the text says. A closed account of the name that has no mail is replaced: of its moments of
+/// replies those stay that are later than the text's, or of which the text has none.
+///
+/// Time and memory are in proportion to the text, and for each of its scripts as for `check`.
+///
+/// # Errors
+///
+/// In this order: [`Refusal::BadAccount`] where the name is no user's name, the address isn't an addr-spec alone (RFC 5322, 3.4.1), a
+/// script isn't valid, has more than 262,144 octets or a name that none may have, or there are more than 32: the store isn't asked
+/// then. Then [`Refusal::UserExists`] for a name whose account is open, and [`Refusal::UserHasMail`] for a closed one with messages,
+/// which would go. [`Refusal::Memory`] may come at any place, [`Refusal::Store`] at any place after the first. The store then stays
+/// as it was.
+pub fn import<S: Alter>(
+    alloc: Global,
+    store: &mut Store<S>,
+    file: &AccountFile,
+) -> Result<(), Refusal>
+    ensures acts { ActsImport file.now.head file.now.parts (state S.Store store.old) (state S.Store store.new) result }
+    ensures settled { HasCleanDisk (state S.Store store.new) → OnOk result (IsSettled (state S.Store store.new)) }
+    ensures early { IfErr result (λ e. e ≡ BadAccount → store.new ≡ store.old) }
+    ensures unasked { (IsImportable file.now.head file.now.parts → ⊥) → store.new ≡ store.old }
+    ensures named { IfErr result (RefusesImport file.now.head file.now.parts) }
+{
+    if !is_importable(alloc, file)? {
+        return Err(Refusal::BadAccount);
+    }
+    let found = read_standing(store, file.head.owner.name.as_slice())?;
+    if let Some(refusal) = refusal_over(found) {
+        return Err(refusal);
+    }
+    if found.is_some() {
+        return store.renew_whole(&file.head, file.parts.as_slice());
+    }
+    store.add_whole(&file.head, file.parts.as_slice())
+}
+
+/// Whether an account of the text may be kept. Its active script is one of the scripts, and no folder is empty: so it is with each text.
+fn is_importable(alloc: Global, file: &AccountFile) -> Result<bool, AllocError>
+    ensures { IfOk result (λ holds. MatchBool holds (IsImportable file.now.head file.now.parts) (IsImportable file.now.head file.now.parts → ⊥)) }
+{
+    let owner = &file.head.owner;
+    if !is_user_name(owner.name.as_slice()) {
+        return Ok(false);
+    }
+    if !is_own_address(alloc, owner.address.as_slice())? {
+        return Ok(false);
+    }
+    has_sound_scripts(alloc, file.parts.as_slice())
+}
+
+/// Whether each script may be kept, and there are no more of them than may be.
+fn has_sound_scripts(alloc: Global, parts: &[Part]) -> Result<bool, AllocError>
+    ensures { IfOk result (λ holds. MatchBool holds (HasSoundScripts parts.now) (HasSoundScripts parts.now → ⊥)) }
+{
+    let mut count = 0;
+    for part in parts {
+        let Part::Script { name, text } = part else {
+            continue;
+        };
+        if count == MAX_SCRIPTS {
+            return Ok(false);
+        }
+        if !is_sound_script(alloc, name.as_slice(), text.as_slice())? {
+            return Ok(false);
+        }
+        count += 1;
+    }
+    Ok(true)
+}
+
+/// Whether a script of this name and this text may be kept.
+fn is_sound_script(alloc: Global, name: &[u8], text: &[u8]) -> Result<bool, AllocError>
+    ensures { IfOk result (λ holds. MatchBool holds (IsSoundScript name.now text.now) (IsSoundScript name.now text.now → ⊥)) }
+{
+    if !is_script_name(name) || text.len() > MAX_SCRIPT {
+        return Ok(false);
+    }
+    Ok(fault_in(alloc, text)?.is_none())
+}
