@@ -6,3 +6,4 @@ pub mod EntryLemmas
 pub mod ReadLemmas
 mod Examples
 pub mod OrderLemmas
+pub mod LimitLemmas

@@ -46,7 +46,7 @@ head_then h more =
     append_assoc (line version_fields) (line (owner_fields h.owner) ++ line (numbers_fields h.numbers)) more
     ∙ ap (λ t. line version_fields ++ t) (append_assoc (line (owner_fields h.owner)) (line (numbers_fields h.numbers)) more)
 
-number_small : (n : ℕ) → n < 2 ^ 63 → IsField (decimal n)
+pub number_small : (n : ℕ) → n < 2 ^ 64 → IsField (decimal n)
 number_small n small = let h = length-decimal-le 20 n (omega arith) (omega arith) (omega arith) in omega (arith, h)
 
 counter_below : (n : ℕ) → is_counter n ≡ true → (1 ≤ n) × (n < 2 ^ 63)
@@ -62,7 +62,7 @@ pub head_numbers : (h : Head) → IsHead h → AreSmall h.numbers
 head_numbers h is = let below = numbers_below h.numbers is.counters in record { rounds = is.rounds; copy = below.0.1; out = below.1.0.1; notice = below.1.1.1 }
 
 pub numbers_fields_small : (n : Numbers) → AreSmall n → AreFields (numbers_fields n)
-numbers_fields_small n small = (lit≤ tt, (number_small n.rounds (omega (arith, small.rounds)), (number_small n.next_copy small.copy, (number_small n.next_out small.out, (number_small n.next_notice small.notice, tt)))))
+numbers_fields_small n small = (lit≤ tt, (number_small n.rounds (omega (arith, small.rounds)), (number_small n.next_copy (omega (arith, small.copy)), (number_small n.next_out (omega (arith, small.out)), (number_small n.next_notice (omega (arith, small.notice)), tt)))))
 
 module _ (text rest : List ℕ) (version : text ≡ line version_fields ++ rest) (h : Head) (more : List ℕ) (is : IsHead h) (written : text ≡ head_text h ++ more) where
   pub owner_next : rest ≡ line (owner_fields h.owner) ++ (line (numbers_fields h.numbers) ++ more)

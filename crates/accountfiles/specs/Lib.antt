@@ -4,3 +4,4 @@ pub mod Order
 pub mod Text
 pub mod Writing
 pub mod Reading
+pub mod Limits

@@ -6,6 +6,7 @@ mod entry;
 mod fields;
 mod head;
 pub mod laws;
+mod limits;
 mod line;
 mod netstring;
 mod order;
@@ -15,6 +16,7 @@ mod writing;
 
 pub use account_file::{AccountFile, ReadError};
 pub use head::{Head, Numbers, Owner};
+pub use limits::{is_head, may_have};
 pub use netstring::FIELD_LIMIT;
 pub use part::{LetterKind, Part};
 pub use reading::read;

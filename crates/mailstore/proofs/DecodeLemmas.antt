@@ -83,7 +83,7 @@ pub outgoing_told : {E : Type 0} (r : Result (Option Outgoing) E) (rows : List R
 outgoing_told (Err e) rows id a are h = tt
 outgoing_told (Ok first) rows id a are h = λ n is. outgoing_same first (row_with n a.queue) (h ∙ ap (option_map first_five) (are n is) ∙ first_read (row_with n a.queue))
 
-noticed_one : (x y : Notice) → notice_cells x ≡ notice_cells y → x ≡ y
+pub noticed_one : (x y : Notice) → notice_cells x ≡ notice_cells y → x ≡ y
 noticed_one x y e =
     let moment : x.moment ≡ y.moment = cc in
     let text : x.text ≡ y.text = cc in

@@ -48,7 +48,7 @@ octets_first octets rows (r ∷ all) are told = sym (told ∙ ap (λ l. option_m
 -- ---- the first of a folder
 
 -- a copy's message is the one row with its number
-own_message : (user : List ℕ) (own : Tables) (a : Account) (s : IsShown user own a) (c : Copy) → Has s.copies.entries c → filter (has_key (message_key user (pos c.id))) (own message_tree) ≡ message_row user (message_of c) ∷ []
+pub own_message : (user : List ℕ) (own : Tables) (a : Account) (s : IsShown user own a) (c : Copy) → Has s.copies.entries c → filter (has_key (message_key user (pos c.id))) (own message_tree) ≡ message_row user (message_of c) ∷ []
 own_message user own a s c here =
     let key = has_key (message_key user (pos c.id)) in
     let messages = s.copies.messages in

@@ -29,7 +29,7 @@ use Rattle.mailstore.proofs.NumberLemmas.{alone_at}
 use Rattle.mailstore.proofs.ReadLemmas.{at_user}
 
 -- none, or one
-listed : Option Outgoing → List Outgoing
+unfoldable pub listed : {X : Type 0} → Option X → List X
 listed None = []
 listed (Some q) = q ∷ []
 
@@ -37,31 +37,32 @@ nothing : {X : Type 0} (xs : List X) → slice_get xs 0 ≡ None → xs ≡ []
 nothing [] e = refl
 nothing (x ∷ xs) e = absurd (let no = e in cc)
 
--- of numbers that rise one at most is this
-numbered : (id : ℕ) (queue : List Outgoing) → IsAscending (λ x y. x.id < y.id) queue → filter (λ q. q.id == id) queue ≡ listed (row_with id queue)
-unfolding listed
-numbered id queue rise = go (row_with id queue) refl
-  where
-    go : (o : Option Outgoing) → row_with id queue ≡ o → filter (λ q. q.id == id) queue ≡ listed o
-    go None is = nothing _ (slice_get-filter (λ (q : Outgoing). q.id == id) queue ∙ is)
-    go (Some q) is =
-        let found = has_found (λ (q : Outgoing). q.id == id) queue q is in
-        let same : q.id ≡ id = eqb-true q.id id found.1 in
-        ap (λ n. filter (λ (q : Outgoing). q.id == n) queue) (sym same) ∙ alone_at (λ x. x.id) (queue_row []) queue rise q found.0
+module _ {X : Type 0} (number : X → ℕ) (row : X → Row) where
+  -- of numbers that rise one at most is this
+  pub numbered : (id : ℕ) (xs : List X) → IsAscending (λ x y. number x < number y) xs → filter (λ x. number x == id) xs ≡ listed (find (λ x. number x == id) xs)
+  unfolding listed
+  numbered id xs rise = go (find (λ x. number x == id) xs) refl
+    where
+      go : (o : Option X) → find (λ x. number x == id) xs ≡ o → filter (λ x. number x == id) xs ≡ listed o
+      go None is = nothing _ (slice_get-filter (λ x. number x == id) xs ∙ is)
+      go (Some q) is =
+          let found = has_found (λ x. number x == id) xs q is in
+          let same : number q ≡ id = eqb-true (number q) id found.1 in
+          ap (λ n. filter (λ x. number x == n) xs) (sym same) ∙ alone_at number row xs rise q found.0
 
--- the rows of a permutation of none or one
-permuted : (user : List ℕ) (o : Option Outgoing) (rows : List Row) → IsPermutation (map (queue_row user) (listed o)) rows → rows ≡ map (queue_row user) (listed o)
+-- a permutation of none or one
+pub permuted : {X Y : Type 0} (f : X → Y) (o : Option X) (ys : List Y) → IsPermutation (map f (listed o)) ys → ys ≡ map f (listed o)
 unfolding listed
-permuted user None rows are = nil_from_length rows (length_permutation [] rows are)
-permuted user (Some q) rows are = one_permutation (queue_row user q) rows are
+permuted f None ys are = nil_from_length ys (length_permutation [] ys are)
+permuted f (Some q) ys are = one_permutation (f q) ys are
 
 -- the one row of the user with the number
 own_row : (user : List ℕ) (id : ℕ) (own : Tables) (a : Account) → IsShown user own a → filter (has_key (queue_key user (pos id))) (own outgoing_tree) ≡ map (queue_row user) (listed (row_with id a.queue))
 own_row user id own a s =
     let key = has_key (queue_key user (pos id)) in
     let one : filter key (map (queue_row user) a.queue) ≡ map (queue_row user) (listed (row_with id a.queue)) =
-    filter-map key (queue_row user) a.queue ∙ ap (map (queue_row user)) (filter_same _ (λ q. q.id == id) (λ q. queue_is user id q) a.queue ∙ numbered id a.queue s.queue.rise) in
-    permuted user (row_with id a.queue) _ (subst (λ l. IsPermutation l (filter key (own outgoing_tree))) one (IsPermutation-filter key _ _ s.queue.rows_are))
+    filter-map key (queue_row user) a.queue ∙ ap (map (queue_row user)) (filter_same _ (λ q. q.id == id) (λ q. queue_is user id q) a.queue ∙ numbered (λ q. q.id) (queue_row user) id a.queue s.queue.rise) in
+    permuted (queue_row user) (row_with id a.queue) _ (subst (λ l. IsPermutation l (filter key (own outgoing_tree))) one (IsPermutation-filter key _ _ s.queue.rows_are))
 
 shown_cells : Row → Row
 shown_cells c = column c 1 ∷ column c 2 ∷ column c 3 ∷ column c 4 ∷ column c 5 ∷ []

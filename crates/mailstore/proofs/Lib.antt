@@ -34,6 +34,9 @@ pub mod WholeLemmas
 pub mod OverLemmas
 pub mod UserExamples
 pub mod ListedLemmas
+pub mod FilingLemmas
+pub mod NoticeLemmas
+pub mod ReplyKeyLemmas
 pub mod FirstLemmas
 pub mod NumberLemmas
 pub mod OneLemmas

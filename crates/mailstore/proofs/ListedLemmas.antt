@@ -67,7 +67,7 @@ module _ (old new : State) (rows : List Row) (tables : Tables) (h : HoldsTables 
       let is = sorted_unique (output_cmp by_copy) (output_cmp_total by_copy) (map listed_output few) found.0 rising (IsPermutation-trans _ _ _ outs found.1) found.2 in
       found.3 ∙ ap (map (λ (o : Output). o.1)) is ∙ map-map (λ (o : Output). o.1) listed_output few ∙ sym (map-map number_cells (λ (c : Copy). c.n) few)
 
-number_one : (x y : ℕ) → number_cells x ≡ number_cells y → x ≡ y
+pub number_one : (x y : ℕ) → number_cells x ≡ number_cells y → x ≡ y
 number_one x y e = cc
 
 pub numbers_are : {E : Type 0} (user folder : List ℕ) (r : Result (List ℕ) E) (rows : List Row) (own : Tables) → AreNumberRows user folder rows own → IfOk r (λ all. map number_cells all ≡ map first_one rows) → IfOk r (λ all. AreNumbersOf user folder all own)

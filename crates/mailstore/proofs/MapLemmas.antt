@@ -123,7 +123,7 @@ module _ {K : Type 0} (R : K → K → Ordering) (total : IsTotalOrder R) (alike
         go Equal h more = absurd (let same = h in cc)
         go Greater h more = IsPermutation-trans _ _ _ (IsPermutation-sym _ _ (IsPermutation-middle (e ∷ []) (k, v) es)) (IsPermutation-cons e _ _ (more h))
 
-    none_apart : (k : K) (es : List (K × X)) → AllByRecursion (λ e. k ≢ e.0) es → find R k es ≡ None
+    pub none_apart : (k : K) (es : List (K × X)) → AllByRecursion (λ e. k ≢ e.0) es → find R k es ≡ None
     none_apart k [] apart = refl
     none_apart k (e ∷ es) apart = go (is_eq (R k e.0)) refl (none_apart k es apart.1)
       where

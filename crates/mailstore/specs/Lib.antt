@@ -11,6 +11,7 @@ pub mod Numbers
 pub mod Promises
 pub mod FolderNumbers
 pub mod HeadRows
+pub mod Listing
 pub mod QueueRows
 pub mod Refusals
 pub mod ReplyRows

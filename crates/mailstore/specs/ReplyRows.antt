@@ -1,12 +1,13 @@
 -- What rows show of the moments of a user's last replies, and what is read of them.
 use Rattle.std.specs.Prelude.{◌≡◌, ℕ, pos, List, [], ◌∷◌, map, filter, slice_get, Option, option_map}
-use Rattle.std.specs.FinMap.{get, entries, from_entries}
+use Rattle.std.specs.FinMap.{get, entries, keys, from_entries}
 use Rattle.std.specs.Ordering.{is_eq}
 use Rattle.octets.specs.Ascii.{lowered}
 use Rattle.sqlite_value.specs.declared.value.Value.TheVariants.{Int, Blob}
 use Rattle.sqlite_value.specs.Order.{Row}
 use Rattle.mailtables.specs.ReplyTable.{reply_cells}
 use Rattle.mailstore.specs.declared.reply.KeptReply.{KeptReply}
+use Rattle.mailstore.specs.declared.reply.ReplyKey.{ReplyKey}
 use Rattle.mailstore.specs.Account.{bytes_cmp, Account, Replies}
 use Rattle.mailstore.specs.ScriptRows.{AreApart}
 
@@ -55,3 +56,16 @@ AreReplies sender replies a = replies ≡ map kept_reply (replies_to (lowered se
 -- the rows are the replies to the sender, in that order
 abbrev pub AreReplyRows : List ℕ → List Row → Account → Type 0
 AreReplyRows sender rows a = rows ≡ map kept_cells (map kept_reply (replies_to sender a.replies))
+
+-- ---- their keys
+
+abbrev pub reply_key_of : List ℕ × List ℕ → ReplyKey
+reply_key_of key = record { handle = key.0; sender = key.1 }
+
+-- what the query for them shows of one
+abbrev pub key_cells : ReplyKey → Row
+key_cells key = Blob key.handle ∷ Blob key.sender ∷ []
+
+-- the rows are the keys of all that are kept, in the order of the octets of the handles' keys, and of those of the senders
+abbrev pub AreKeyRows : List Row → Account → Type 0
+AreKeyRows rows a = rows ≡ map key_cells (map reply_key_of (keys a.replies))

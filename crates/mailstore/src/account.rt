@@ -3,7 +3,8 @@ ghost use Rattle.std.specs.Prelude.{◌≡◌, false, ◌⊎◌, [], pos, Err, S
 ghost use Rattle.sqlite.specs.Held.{state};
 ghost use Rattle.mailtables.specs.AccountTable.{account_tree};
 ghost use Rattle.mailstore.specs.AccountRows.{shown_account, shown_counters, counter_cells, profile_of, IsRead};
-ghost use Rattle.mailstore.specs.Promises.{FindsOwn, Reads, ReadsCounters, ReadsEntered, ReadsProfile, IsFree, Writes, WritesUser};
+ghost use Rattle.mailstore.specs.Listing.{AreCountersOf};
+ghost use Rattle.mailstore.specs.Promises.{FindsAmong, FindsOwn, Reads, ReadsCounters, ReadsEntered, ReadsProfile, IsFree, Writes, WritesUser};
 ghost use Rattle.mailtables.specs.Connection.{Queries};
 ghost use Rattle.mailtables.specs.Cells.{contents, or_null};
 ghost use Rattle.mailstore.specs.FirstCells.{first_three};
@@ -116,6 +117,17 @@ impl<S: Alter> Store<S> {
     {
         let rows = find_counters(&mut self.conn, user)?;
         first_counters(&rows)
+    }
+
+    /// The same of an account that was entered.
+    pub fn counters_of(&mut self, user: &[u8]) -> Result<Counters, Refusal>
+        ensures finds { FindsAmong user.now AreCountersOf (state S.Store self.old) (state S.Store self.new) result }
+        ensures named { IfErr result IsTransient }
+    {
+        match self.counters(user) {
+            Err(Refusal::NoUser) => Err(Refusal::Store),
+            counters => counters,
+        }
     }
 
     /// What the store keeps of the account, open or closed; none without an account. A closed one has no rounds.

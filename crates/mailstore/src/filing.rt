@@ -3,19 +3,20 @@ ghost use Rattle.std.specs.Prelude.{◌≡◌, false, IfErr};
 ghost use Rattle.sqlite.specs.Held.{state};
 ghost use Rattle.mailstore.specs.Promises.{FindsAmong};
 ghost use Rattle.mailtables.specs.Connection.{Queries};
+ghost use Rattle.mailstore.specs.Listing.{AreFilingsOf};
 ghost use Rattle.mailstore.specs.Refusals.{IsTransient};
 ghost use Rattle.mailstore.specs.Shows.{AreNthRows, AreOtherRows, IsNthFiling, IsShared};
 
 use crate::cell::{number, text_at};
 use crate::refusal::Refusal;
-use crate::row::{FromRow, first_from_row};
+use crate::row::{FromRow, first_from_row, read_each};
 use crate::store::Store;
 use mailtables::query;
-use octets::Octets;
+use octets::{List, Octets};
 use sqlite::{Alter, Connection, Error, Row, params};
 
 /// A copy in a folder, without its message.
-#[derive(Drop)]
+#[derive(Debug, Drop)]
 pub struct Filing {
     /// The folder's name.
     pub folder: Octets,
@@ -77,6 +78,20 @@ impl FromRow for Filing {
 }
 
 impl<S: Alter> Store<S> {
+    /// Where all copies of the user are, in the order of their numbers, of an account that was entered. No message is read: time
+    /// and memory are linear in the answer.
+    pub fn filings_of(&mut self, user: &[u8]) -> Result<List<Filing>, Refusal>
+        ensures finds { FindsAmong user.now (AreFilingsOf user.now) (state S.Store self.old) (state S.Store self.new) result }
+        ensures named { IfErr result IsTransient }
+    {
+        read_each(
+            self.alloc,
+            &mut self.conn,
+            "SELECT folder, n, id FROM copy WHERE owner = ?1 ORDER BY n",
+            params![user],
+        )
+    }
+
     /// The folder's copy after that many, if there is one, of an account that was entered. The copies before it are passed
     /// over, and those after it aren't read.
     pub(crate) fn nth_filing_of(
@@ -92,8 +107,8 @@ impl<S: Alter> Store<S> {
         first_from_row(&rows)
     }
 
-    /// Whether another copy of the same message is there. At most one is read, and no message.
-    pub(crate) fn has_other_copy(&mut self, user: &[u8], copy: &Filing) -> Result<bool, Refusal>
+    /// Whether another copy of the same message is there, of an account that was entered. At most one is read, and no message.
+    pub fn has_other_copy(&mut self, user: &[u8], copy: &Filing) -> Result<bool, Refusal>
         ensures finds { FindsAmong user.now (IsShared user.now copy.now) (state S.Store self.old) (state S.Store self.new) result }
         ensures named { IfErr result IsTransient }
     {

@@ -56,7 +56,7 @@ impl<S: Alter> Store<S> {
     }
 
     /// The same of an account that was entered.
-    pub(crate) fn queue_heads_of(&mut self, user: &[u8]) -> Result<List<Head>, Refusal>
+    pub fn queue_heads_of(&mut self, user: &[u8]) -> Result<List<Head>, Refusal>
         ensures { ReadsEntered user.now (λ heads a. heads ≡ map head_of a.queue) (state S.Store self.old) (state S.Store self.new) result }
     {
         read_each(

@@ -23,6 +23,8 @@ mod taking;
 mod users;
 mod whole;
 
+pub use account::Counters;
+pub use filing::Filing;
 pub use folder::Folder;
 pub use head::Head;
 pub use mailtables::Kind;
@@ -31,7 +33,7 @@ pub use notice::Notice;
 pub use profile::Profile;
 pub use queue::Outgoing;
 pub use refusal::Refusal;
-pub use reply::{KeptReply, latest};
+pub use reply::{KeptReply, ReplyKey, latest};
 pub use report::{Plan, Report, VacationReply, VacationReport};
 pub use store::Store;
 pub use taking::NumberedMessage;

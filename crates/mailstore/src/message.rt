@@ -30,8 +30,8 @@ fn find_message<S: Alter>(
 }
 
 impl<S: Alter> Store<S> {
-    /// The octets of the user's message with the number, which is there: else it is refused as `Store`.
-    pub(crate) fn message(&mut self, user: &[u8], id: u64) -> Result<Octets, Refusal>
+    /// The octets of the user's message with the number, which is there, of an account that was entered: else it is refused as `Store`.
+    pub fn message_of(&mut self, user: &[u8], id: u64) -> Result<Octets, Refusal>
         ensures finds { FindsAmong user.now (HasOctets user.now id) (state S.Store self.old) (state S.Store self.new) result }
         ensures named { IfErr result IsTransient }
     {

@@ -1,12 +1,13 @@
 //! The moments of a user's last replies.
-ghost use Rattle.std.specs.Prelude.{◌≡◌, false, pos, option_map, slice_get, IfOk, IfErr};
+ghost use Rattle.std.specs.Prelude.{◌≡◌, false, map, pos, option_map, slice_get, IfOk, IfErr};
 ghost use Rattle.sqlite_value.specs.declared.value.Value.TheVariants.{Int};
 ghost use Rattle.sqlite_value.specs.Order.{column};
 ghost use Rattle.mailstore.specs.Account as accounts;
 ghost use Rattle.mailstore.specs.Promises.{Finds, Reads, ReadsEntered};
 ghost use Rattle.mailtables.specs.Connection.{Queries};
 ghost use Rattle.mailstore.specs.Refusals.{IsTransient};
-ghost use Rattle.mailstore.specs.ReplyRows.{AreReplies, HasMomentRow, IsLastReply, IsMoment};
+ghost use Rattle.mailstore.specs.ReplyRows.{AreReplies, HasMomentRow, IsLastReply, IsMoment, reply_key_of};
+ghost use Rattle.std.specs.FinMap.{keys};
 ghost use Rattle.sqlite.specs.Held.{state};
 
 use crate::cell::text_at;
@@ -24,6 +25,14 @@ pub struct KeptReply {
     pub handle: Octets,
     /// In seconds since 1970-01-01 UTC.
     pub moment: u64,
+}
+
+/// Under what the moment of a reply is kept.
+#[derive(Debug, Drop)]
+pub struct ReplyKey {
+    /// The key of the handle, any octets.
+    pub handle: Octets,
+    pub sender: Octets,
 }
 
 /// The later one of a moment and the one that is kept, if one is.
@@ -83,6 +92,22 @@ impl FromRow for KeptReply {
     }
 }
 
+impl FromRow for ReplyKey {
+    ghost use Rattle.mailstore.specs.FirstCells.{first_two};
+    ghost use Rattle.mailstore.specs.ReplyRows.{key_cells};
+
+    ghost cells_of = { first_two };
+
+    ghost shows = { key_cells };
+
+    fn from_row(row: &Row) -> Result<ReplyKey, Refusal> {
+        Ok(ReplyKey {
+            handle: text_at(row, 0)?,
+            sender: text_at(row, 1)?,
+        })
+    }
+}
+
 impl<S: Alter> Store<S> {
     /// The moment of the last reply to the sender under the handle's key, if one is kept; case ignored in the sender.
     pub fn last_reply(
@@ -112,7 +137,7 @@ impl<S: Alter> Store<S> {
 
     /// The moment that is kept under the handle's key and just this sender, if one is, of an account that was entered. It is found by
     /// its key.
-    pub(crate) fn moment_of(
+    pub fn moment_of(
         &mut self,
         user: &[u8],
         handle: &[u8],
@@ -143,6 +168,19 @@ impl<S: Alter> Store<S> {
             &mut self.conn,
             "SELECT handle, moment FROM reply WHERE owner = ?1 AND sender = ?2 ORDER BY handle",
             params![user, sender.as_slice()],
+        )
+    }
+
+    /// The keys of all moments that are kept, in the order of the octets of the handles' keys, and under one handle of those of the
+    /// senders, of an account that was entered.
+    pub fn reply_keys_of(&mut self, user: &[u8]) -> Result<List<ReplyKey>, Refusal>
+        ensures { ReadsEntered user.now (λ all a. all ≡ map reply_key_of (keys a.replies)) (state S.Store self.old) (state S.Store self.new) result }
+    {
+        read_each(
+            self.alloc,
+            &mut self.conn,
+            "SELECT handle, sender FROM reply WHERE owner = ?1 ORDER BY handle, sender",
+            params![user],
         )
     }
 }

@@ -77,7 +77,7 @@ impl<S: Alter> Store<S> {
         let Some(filing) = self.nth_filing_of(user, folder, count)? else {
             return Ok(None);
         };
-        let message = self.message(user, filing.id)?;
+        let message = self.message_of(user, filing.id)?;
         Ok(Some(NumberedMessage {
             number: filing.n,
             message,

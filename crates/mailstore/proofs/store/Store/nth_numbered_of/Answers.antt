@@ -27,8 +27,8 @@ returns-in_err-message-clause-finds g c =
     let user = c.args.user.now in
     let folder = c.args.folder.now in
     let first = c.in-Some.filing in
-    among_late user (IsNthFiling user folder c.args.count) (HasOctets user first.id) (IsNthOf user folder c.args.count) (state g.S.Store c.args.self.now) (state g.S.Store c.nth_filing_of.new.self) (state g.S.Store c.message.new.self) c.nth_filing_of.result (Some first)
-    (c.in_ok-filing.was ∙ ap Ok c.in-Some.is) (rw (to_z-of_z fits) at c.nth_filing_of.ensures.finds) c.message.result c.message.ensures.finds c.from_residual-in_err-message.result none
+    among_late user (IsNthFiling user folder c.args.count) (HasOctets user first.id) (IsNthOf user folder c.args.count) (state g.S.Store c.args.self.now) (state g.S.Store c.nth_filing_of.new.self) (state g.S.Store c.message_of.new.self) c.nth_filing_of.result (Some first)
+    (c.in_ok-filing.was ∙ ap Ok c.in-Some.is) (rw (to_z-of_z fits) at c.nth_filing_of.ensures.finds) c.message_of.result c.message_of.ensures.finds c.from_residual-in_err-message.result none
 
 pub returns-clause-finds : goal.returns-clause-finds
 returns-clause-finds g c =
@@ -36,5 +36,5 @@ returns-clause-finds g c =
     let user = c.args.user.now in
     let folder = c.args.folder.now in
     let first = c.in-Some.filing in
-    among_both user (IsNthFiling user folder c.args.count) (HasOctets user first.id) (IsNthOf user folder c.args.count) (state g.S.Store c.args.self.now) (state g.S.Store c.nth_filing_of.new.self) (state g.S.Store c.message.new.self) c.nth_filing_of.result (Some first)
-    (c.in_ok-filing.was ∙ ap Ok c.in-Some.is) (rw (to_z-of_z fits) at c.nth_filing_of.ensures.finds) c.message.result c.message.ensures.finds c.in_ok-message.message c.in_ok-message.was _ (λ own is has. nth_some user folder c.args.count (Some first) own is first c.in_ok-message.message refl has)
+    among_both user (IsNthFiling user folder c.args.count) (HasOctets user first.id) (IsNthOf user folder c.args.count) (state g.S.Store c.args.self.now) (state g.S.Store c.nth_filing_of.new.self) (state g.S.Store c.message_of.new.self) c.nth_filing_of.result (Some first)
+    (c.in_ok-filing.was ∙ ap Ok c.in-Some.is) (rw (to_z-of_z fits) at c.nth_filing_of.ensures.finds) c.message_of.result c.message_of.ensures.finds c.in_ok-message.message c.in_ok-message.was _ (λ own is has. nth_some user folder c.args.count (Some first) own is first c.in_ok-message.message refl has)

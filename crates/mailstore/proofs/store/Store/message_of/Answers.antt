@@ -8,7 +8,7 @@ use Rattle.mailtables.specs.MessageTable.{message_key, message_tree}
 use Rattle.mailstore.specs.Shows.{AreOctetRows, HasOctets}
 use Rattle.mailstore.proofs.AmongLemmas.{among_made}
 use Rattle.mailstore.proofs.FirstLemmas.{octets_first}
-use Rattle.mailstore.proofs.store.Store.message.Goals as goal
+use Rattle.mailstore.proofs.store.Store.message_of.Goals as goal
 
 pub returns-in-Some-clause-finds : goal.returns-in-Some-clause-finds
 returns-in-Some-clause-finds g c =

@@ -1,0 +1,217 @@
+-- The parts of an account make it again.
+use Rattle.std.proofs.Common.{◌≡◌, ◌<◌, ◌==◌, ◌++◌, ℕ, Bool, true, false, cond, List, [], ◌∷◌, map, fold, append-nil, Option, Some, None, eqb-true, refl, sym, ap, ap₂, ◌∙◌}
+use Rattle.std.specs.List.{flat_map, AllByRecursion}
+use Rattle.std.specs.FinMap.{FinMap, empty, entries, insert}
+use Rattle.std.proofs.lemmas.Cmp.{nat_list_cmp_total}
+use Rattle.std.proofs.lemmas.Grind.{flat_map-append}
+use Rattle.std.proofs.lemmas.List.Folds.{fold-map}
+use Rattle.std.proofs.lemmas.List.Sums.{fold-append}
+use Rattle.sqlite_trees.specs.Tree.{IsAscending}
+use Rattle.sqlite_keyed.proofs.ListLemmas.{all_weaker}
+use Rattle.sqlite_rules.specs.Lists.{Has}
+use Rattle.accountfiles.specs.declared.part.Part.{Part}
+use Rattle.accountfiles.specs.declared.part.Part.TheVariants.{Script, Reply, Mail, Copy, Letter, Notice}
+use Rattle.mailtables.specs.declared.queue.Kind.{Kind}
+use Rattle.mailtables.specs.declared.queue.Kind.TheVariants as kind
+use Rattle.mailstore.specs.declared.notice.Notice.{Notice as KeptNotice}
+use Rattle.mailstore.specs.declared.queue.Outgoing.{Outgoing}
+use Rattle.mailstore.specs.Account.{bytes_cmp, reply_cmp, Account, Folders, Replies, Scripts, filed}
+use Rattle.mailstore.specs.CopyRows.{Copy as KeptCopy, folders_from, message_of}
+use Rattle.mailstore.specs.MessageRows.{Message, message_row}
+use Rattle.mailstore.specs.Whole.{scripts_with, replies_with, kind_of, letters_in, notices_in, octets_after, copies_in_part, copies_of, whole}
+use Rattle.mailstore.proofs.AccountLemmas.{bytes_antisymmetric, reply_total, reply_antisymmetric}
+use Rattle.mailstore.proofs.NumberLemmas.{alone_at}
+use Rattle.accountcopies.specs.declared.run.Run.{Run}
+use Rattle.accountcopies.specs.Parts.{head_of, goes_on, first_in, run_with, script_part, reply_part, copy_part, copy_parts, way_of, letter_part, notice_part, parts_of}
+use Rattle.accountcopies.proofs.PutLemmas.{put_all, put_entries}
+
+-- ---- what parts of one kind leave as it is
+
+fold_kept : {A X : Type 0} (f : A → Part → A) (g : X → Part) → ((s : A) (x : X) → f s (g x) ≡ s) → (s : A) (xs : List X) → fold f s (map g xs) ≡ s
+fold_kept f g same s [] = refl
+fold_kept f g same s (x ∷ xs) = ap (λ t. fold f t (map g xs)) (same s x) ∙ fold_kept f g same s xs
+
+fold_copies : {A : Type 0} (f : A → Part → A) → ((s : A) (n : ℕ) (folder message : List ℕ) → f s (Mail n folder message) ≡ s) → ((s : A) (n : ℕ) (folder : List ℕ) (first : ℕ) → f s (Copy n folder first) ≡ s)
+    → (run : Option Run) (cs : List KeptCopy) (s : A) → fold f s (copy_parts run cs) ≡ s
+fold_copies f mail copy run [] s = refl
+fold_copies {A} f mail copy run (c ∷ cs) s = ap (λ t. fold f t (copy_parts (Some (run_with run c.n c.id)) cs)) (go (goes_on run c.id)) ∙ fold_copies f mail copy (Some (run_with run c.n c.id)) cs s
+  where
+    go : (b : Bool) → f s (cond b (Copy c.n c.folder (first_in run c.n c.id)) (Mail c.n c.folder c.message)) ≡ s
+    go true = copy s c.n c.folder (first_in run c.n c.id)
+    go false = mail s c.n c.folder c.message
+
+none_in : {X Y : Type 0} (f : Part → List Y) (g : X → Part) → ((x : X) → f (g x) ≡ []) → (xs : List X) → flat_map f (map g xs) ≡ []
+none_in f g none [] = refl
+none_in f g none (x ∷ xs) = ap₂ ◌++◌ (none x) (none_in f g none xs)
+
+one_in : {X : Type 0} (f : Part → List X) (g : X → Part) → ((x : X) → f (g x) ≡ x ∷ []) → (xs : List X) → flat_map f (map g xs) ≡ xs
+one_in f g one [] = refl
+one_in f g one (x ∷ xs) = ap₂ ◌++◌ (one x) (one_in f g one xs)
+
+none_in_copies : {Y : Type 0} (f : Part → List Y) → ((n : ℕ) (folder message : List ℕ) → f (Mail n folder message) ≡ []) → ((n : ℕ) (folder : List ℕ) (first : ℕ) → f (Copy n folder first) ≡ [])
+    → (run : Option Run) (cs : List KeptCopy) → flat_map f (copy_parts run cs) ≡ []
+none_in_copies f mail copy run [] = refl
+none_in_copies f mail copy run (c ∷ cs) = ap₂ ◌++◌ (go (goes_on run c.id)) (none_in_copies f mail copy (Some (run_with run c.n c.id)) cs)
+  where
+    go : (b : Bool) → f (cond b (Copy c.n c.folder (first_in run c.n c.id)) (Mail c.n c.folder c.message)) ≡ []
+    go true = copy c.n c.folder (first_in run c.n c.id)
+    go false = mail c.n c.folder c.message
+
+-- ---- folders
+
+-- where a copy is, and its octets
+abbrev said : KeptCopy → List ℕ × List ℕ
+said c = (c.folder, c.message)
+
+abbrev filed_pair : Folders → List ℕ × List ℕ → Folders
+filed_pair folders e = filed folders e.0 e.1
+
+folders_same : (xs ys : List KeptCopy) → map said xs ≡ map said ys → folders_from xs ≡ folders_from ys
+folders_same xs ys same = sym (fold-map filed_pair said empty xs) ∙ ap (fold filed_pair empty) same ∙ fold-map filed_pair said empty ys
+
+-- copies of one message have the same octets
+abbrev pub AreAlike : List KeptCopy → Type 0
+AreAlike = IsAscending (λ x y. x.id ≡ y.id → x.message ≡ y.message)
+
+one_message : (ms : List Message) → IsAscending (λ x y. x.id < y.id) ms → (m n : Message) → Has ms m → Has ms n → m.id ≡ n.id → m ≡ n
+one_message ms rise m n here there same =
+    let one = alone_at (λ (x : Message). x.id) (message_row []) ms rise m here in
+    let two = alone_at (λ (x : Message). x.id) (message_row []) ms rise n there in
+    let both : m ∷ [] ≡ n ∷ [] = sym one ∙ ap (λ i. Rattle.std.proofs.Common.filter (λ (y : Message). y.id == i) ms) same ∙ two in
+    cc
+
+pub alike : (ms : List Message) → IsAscending (λ x y. x.id < y.id) ms → (cs : List KeptCopy) → AllByRecursion (λ c. Has ms (message_of c)) cs → AreAlike cs
+alike ms rise [] present = tt
+alike ms rise (c ∷ cs) present = (
+  all_weaker (λ d. Has ms (message_of d)) (λ d. c.id ≡ d.id → c.message ≡ d.message) (λ d there same. ap (λ (m : Message). m.bytes) (one_message ms rise (message_of c) (message_of d) present.0 there same)) cs present.1,
+  alike ms rise cs present.1,
+)
+
+copies_again : (run : Option Run) (last : List ℕ) (cs : List KeptCopy) → AreAlike cs → AllByRecursion (λ d. goes_on run d.id ≡ true → d.message ≡ last) cs → map said (copies_of last (copy_parts run cs)) ≡ map said cs
+copies_again run last [] same all = refl
+copies_again run last (c ∷ cs) same all = go (goes_on run c.id) refl
+  where
+    next : Option Run
+    abbrev next = Some (run_with run c.n c.id)
+
+    go : (b : Bool) → goes_on run c.id ≡ b → map said (copies_of last (cond b (Copy c.n c.folder (first_in run c.n c.id)) (Mail c.n c.folder c.message) ∷ copy_parts (Some (run_with run c.n c.id)) cs)) ≡ said c ∷ map said cs
+    go true on =
+        let last_is = all.0 on in
+        ap₂ ◌∷◌ (ap (λ m. (c.folder, m)) (sym last_is))
+        (copies_again (Some (run_with run c.n c.id)) last cs same.1
+        (all_weaker (λ d. c.id ≡ d.id → c.message ≡ d.message) (λ d. goes_on (Some (run_with run c.n c.id)) d.id ≡ true → d.message ≡ last) (λ d told is. sym (told (sym (eqb-true d.id c.id is))) ∙ last_is) cs same.0))
+    go false off =
+        ap (λ l. said c ∷ l)
+        (copies_again (Some (run_with run c.n c.id)) c.message cs same.1
+        (all_weaker (λ d. c.id ≡ d.id → c.message ≡ d.message) (λ d. goes_on (Some (run_with run c.n c.id)) d.id ≡ true → d.message ≡ c.message) (λ d told is. sym (told (sym (eqb-true d.id c.id is)))) cs same.0))
+
+-- parts that are no copies
+passed : {X : Type 0} (g : X → Part) → ((last : List ℕ) (x : X) → copies_in_part last (g x) ≡ []) → ((last : List ℕ) (x : X) → octets_after last (g x) ≡ last) → (last : List ℕ) (xs : List X) (rest : List Part)
+    → copies_of last (map g xs ++ rest) ≡ copies_of last rest
+passed g none still last [] rest = refl
+passed g none still last (x ∷ xs) rest = ap₂ (λ front l. front ++ copies_of l (map g xs ++ rest)) (none last x) (still last x) ∙ passed g none still last xs rest
+
+front_copies : (rest : List Part) → ((last : List ℕ) → copies_of last rest ≡ []) → (last : List ℕ) (ps : List Part) → copies_of last (ps ++ rest) ≡ copies_of last ps
+front_copies rest none last [] = none last
+front_copies rest none last (p ∷ ps) = ap (λ l. copies_in_part last p ++ l) (front_copies rest none (octets_after last p) ps)
+
+kind_again : (k : Kind) → kind_of (way_of k) ≡ k
+kind_again kind.Redirect = refl
+kind_again kind.Reply = refl
+
+module _ (a : Account) (copies : List KeptCopy) (notices : List (ℕ × KeptNotice)) where
+  abbrev out : List Part
+  out = map letter_part a.queue ++ map notice_part notices
+
+  abbrev mail : List Part
+  mail = copy_parts None copies ++ out
+
+  abbrev moments : List Part
+  moments = map reply_part (entries a.replies) ++ mail
+
+  -- ---- scripts and moments
+
+  scripts_again : fold scripts_with empty (parts_of a copies notices) ≡ a.scripts
+  scripts_again =
+      let m : Scripts = empty in
+      fold-append scripts_with m (map script_part (entries a.scripts)) moments
+      ∙ ap (λ s. fold scripts_with s moments) (fold-map scripts_with script_part m (entries a.scripts) ∙ put_entries bytes_cmp nat_list_cmp_total bytes_antisymmetric a.scripts)
+      ∙ fold-append scripts_with a.scripts (map reply_part (entries a.replies)) mail
+      ∙ ap (λ s. fold scripts_with s mail) (fold_kept scripts_with reply_part (λ s x. refl) a.scripts (entries a.replies))
+      ∙ fold-append scripts_with a.scripts (copy_parts None copies) out
+      ∙ ap (λ s. fold scripts_with s out) (fold_copies scripts_with (λ s n folder message. refl) (λ s n folder first. refl) None copies a.scripts)
+      ∙ fold-append scripts_with a.scripts (map letter_part a.queue) (map notice_part notices)
+      ∙ ap (λ s. fold scripts_with s (map notice_part notices)) (fold_kept scripts_with letter_part (λ s x. refl) a.scripts a.queue)
+      ∙ fold_kept scripts_with notice_part (λ s x. refl) a.scripts notices
+
+  replies_again : fold replies_with empty (parts_of a copies notices) ≡ a.replies
+  replies_again =
+      let m : Replies = empty in
+      fold-append replies_with m (map script_part (entries a.scripts)) moments
+      ∙ ap (λ s. fold replies_with s moments) (fold_kept replies_with script_part (λ s x. refl) m (entries a.scripts))
+      ∙ fold-append replies_with m (map reply_part (entries a.replies)) mail
+      ∙ ap (λ s. fold replies_with s mail) (fold-map replies_with reply_part m (entries a.replies) ∙ put_entries reply_cmp reply_total reply_antisymmetric a.replies)
+      ∙ fold-append replies_with a.replies (copy_parts None copies) out
+      ∙ ap (λ s. fold replies_with s out) (fold_copies replies_with (λ s n folder message. refl) (λ s n folder first. refl) None copies a.replies)
+      ∙ fold-append replies_with a.replies (map letter_part a.queue) (map notice_part notices)
+      ∙ ap (λ s. fold replies_with s (map notice_part notices)) (fold_kept replies_with letter_part (λ s x. refl) a.replies a.queue)
+      ∙ fold_kept replies_with notice_part (λ s x. refl) a.replies notices
+
+  -- ---- the queue and the notices
+
+  letter_again : (o : Outgoing) → letters_in (letter_part o) ≡ o ∷ []
+  letter_again o = ap (λ k. (record { id = o.id; kind = k; sender = o.sender; target = o.target; message = o.message }) ∷ []) (kind_again o.kind)
+
+  queue_again : flat_map letters_in (parts_of a copies notices) ≡ a.queue
+  queue_again =
+      flat_map-append letters_in (map script_part (entries a.scripts)) moments
+      ∙ ap₂ ◌++◌ (none_in letters_in script_part (λ x. refl) (entries a.scripts)) (flat_map-append letters_in (map reply_part (entries a.replies)) mail
+      ∙ ap₂ ◌++◌ (none_in letters_in reply_part (λ x. refl) (entries a.replies)) (flat_map-append letters_in (copy_parts None copies) out
+      ∙ ap₂ ◌++◌ (none_in_copies letters_in (λ n folder message. refl) (λ n folder first. refl) None copies) (flat_map-append letters_in (map letter_part a.queue) (map notice_part notices)
+      ∙ ap₂ ◌++◌ (one_in letters_in letter_part letter_again a.queue) (none_in letters_in notice_part (λ x. refl) notices) ∙ append-nil a.queue)))
+
+  notices_again : flat_map notices_in (parts_of a copies notices) ≡ notices
+  notices_again =
+      flat_map-append notices_in (map script_part (entries a.scripts)) moments
+      ∙ ap₂ ◌++◌ (none_in notices_in script_part (λ x. refl) (entries a.scripts)) (flat_map-append notices_in (map reply_part (entries a.replies)) mail
+      ∙ ap₂ ◌++◌ (none_in notices_in reply_part (λ x. refl) (entries a.replies)) (flat_map-append notices_in (copy_parts None copies) out
+      ∙ ap₂ ◌++◌ (none_in_copies notices_in (λ n folder message. refl) (λ n folder first. refl) None copies) (flat_map-append notices_in (map letter_part a.queue) (map notice_part notices)
+      ∙ ap₂ ◌++◌ (none_in notices_in letter_part (λ x. refl) a.queue) (one_in notices_in notice_part (λ x. refl) notices))))
+
+  -- ---- the folders
+
+  no_copies : (last : List ℕ) → copies_of last out ≡ []
+  no_copies last =
+      passed letter_part (λ l x. refl) (λ l x. refl) last a.queue (map notice_part notices) ∙ ap (copies_of last) (sym (append-nil (map notice_part notices)))
+      ∙ passed notice_part (λ l x. refl) (λ l x. refl) last notices []
+
+  folders_again : AreAlike copies → folders_from (copies_of [] (parts_of a copies notices)) ≡ folders_from copies
+  folders_again same =
+      let only : copies_of [] (parts_of a copies notices) ≡ copies_of [] (copy_parts None copies) =
+      passed script_part (λ l x. refl) (λ l x. refl) [] (entries a.scripts) moments ∙ passed reply_part (λ l x. refl) (λ l x. refl) [] (entries a.replies) mail ∙ front_copies out no_copies [] (copy_parts None copies) in
+      ap folders_from only ∙ folders_same (copies_of [] (copy_parts None copies)) copies (copies_again None [] copies same (never copies))
+    where
+      never : (cs : List KeptCopy) → AllByRecursion (λ d. goes_on None d.id ≡ true → d.message ≡ []) cs
+      never [] = tt
+      never (c ∷ cs) = ((λ no. absurd (Rattle.std.proofs.Common.true≢false (sym no))), never cs)
+
+  -- ---- all of it
+
+  pub account_again : (user : List ℕ) (next_copy next_notice : ℕ) → AreAlike copies → a.folders ≡ folders_from copies → a.notices ≡ map (λ e. e.1) notices → whole (head_of user a next_copy next_notice) (parts_of a copies notices) empty ≡ a
+  account_again user next_copy next_notice same folders kept =
+      let scripts = scripts_again in
+      let replies = replies_again in
+      let queue = queue_again in
+      let again = folders_again same ∙ sym folders in
+      let notes = ap (map (λ (e : ℕ × KeptNotice). e.1)) notices_again ∙ sym kept in
+      λ i. record {
+        address = a.address;
+        password = a.password;
+        scripts = scripts i;
+        active = a.active;
+        folders = again i;
+        queue = queue i;
+        replies = replies i;
+        notices = notes i;
+        next_out = a.next_out;
+      }

@@ -1,0 +1,85 @@
+-- What an account has, as the head and the parts of its text.
+use Rattle.std.specs.Prelude.{◌==◌, ◌++◌, ℕ, Bool, false, List, [], ◌∷◌, map, Option, Some, None, if◌then◌else◌}
+use Rattle.std.specs.FinMap.{entries}
+use Rattle.accountfiles.specs.declared.head.Head.{Head}
+use Rattle.accountfiles.specs.declared.head.Numbers.{Numbers}
+use Rattle.accountfiles.specs.declared.head.Owner.{Owner}
+use Rattle.accountfiles.specs.declared.part.LetterKind.{LetterKind}
+use Rattle.accountfiles.specs.declared.part.LetterKind.TheVariants.{Redirect, Answer}
+use Rattle.accountfiles.specs.declared.part.Part.{Part}
+use Rattle.accountfiles.specs.declared.part.Part.TheVariants.{Script, Reply, Mail, Copy, Letter, Notice}
+use Rattle.mailtables.specs.declared.queue.Kind.{Kind}
+use Rattle.mailtables.specs.declared.queue.Kind.TheVariants as kind
+use Rattle.mailstore.specs.declared.account.Counters.{Counters}
+use Rattle.mailstore.specs.declared.profile.Profile.{Profile}
+use Rattle.mailstore.specs.declared.notice.Notice.{Notice as KeptNotice}
+use Rattle.mailstore.specs.declared.queue.Outgoing.{Outgoing}
+use Rattle.mailstore.specs.Account.{Account}
+use Rattle.mailstore.specs.CopyRows.{Copy as KeptCopy}
+use Rattle.accountcopies.specs.declared.run.Run.{Run}
+
+-- ---- what it has once
+
+abbrev pub owner_of : List ℕ → Account → Owner
+owner_of user a = record { name = user; address = a.address; salt = a.password.salt; digest = a.password.digest; active = a.active }
+
+-- the counters of copies and of notices no account tells
+abbrev pub numbers_of : Account → ℕ → ℕ → Numbers
+numbers_of a next_copy next_notice = record { rounds = a.password.rounds; next_copy = next_copy; next_out = a.next_out; next_notice = next_notice }
+
+abbrev pub head_of : List ℕ → Account → ℕ → ℕ → Head
+head_of user a next_copy next_notice = record { owner = owner_of user a; numbers = numbers_of a next_copy next_notice }
+
+-- the same by what is read of it
+abbrev pub head_by : List ℕ → Profile → Counters → Head
+head_by user profile counters = record {
+  owner = record { name = user; address = profile.address; salt = profile.salt; digest = profile.digest; active = profile.active };
+  numbers = record { rounds = profile.rounds; next_copy = counters.copy; next_out = counters.out; next_notice = counters.notice };
+}
+
+-- ---- copies of one message that stand one behind another
+
+-- a copy with this number of its message goes on with the run
+abbrev pub goes_on : Option Run → ℕ → Bool
+goes_on None id = false
+goes_on (Some run) id = id == run.id
+
+-- the number of the first copy of the run in which this copy stands, by its own number and its message's
+abbrev pub first_in : Option Run → ℕ → ℕ → ℕ
+first_in None n id = n
+first_in (Some run) n id = if id == run.id then run.first else n
+
+-- and that run
+abbrev pub run_with : Option Run → ℕ → ℕ → Run
+run_with run n id = record { id = id; first = first_in run n id }
+
+-- ---- its parts
+
+abbrev pub script_part : List ℕ × List ℕ → Part
+script_part e = Script e.0 e.1
+
+abbrev pub reply_part : (List ℕ × List ℕ) × ℕ → Part
+reply_part e = Reply e.0.0 e.0.1 e.1
+
+-- a copy behind one of the same message says no more than where it is
+abbrev pub copy_part : Option Run → KeptCopy → Part
+copy_part run c = if goes_on run c.id then Copy c.n c.folder (first_in run c.n c.id) else Mail c.n c.folder c.message
+
+abbrev pub copy_parts : Option Run → List KeptCopy → List Part
+copy_parts run [] = []
+copy_parts run (c ∷ copies) = copy_part run c ∷ copy_parts (Some (run_with run c.n c.id)) copies
+
+abbrev pub way_of : Kind → LetterKind
+way_of kind.Redirect = Redirect
+way_of kind.Reply = Answer
+
+abbrev pub letter_part : Outgoing → Part
+letter_part out = Letter out.id (way_of out.kind) out.sender out.target out.message
+
+abbrev pub notice_part : ℕ × KeptNotice → Part
+notice_part e = Notice e.0 e.1.moment e.1.text
+
+-- scripts by name, moments by handle and sender, copies by number, messages on their way out by number, notices by number
+abbrev pub parts_of : Account → List KeptCopy → List (ℕ × KeptNotice) → List Part
+parts_of a copies notices =
+    map script_part (entries a.scripts) ++ (map reply_part (entries a.replies) ++ (copy_parts None copies ++ (map letter_part a.queue ++ map notice_part notices)))

@@ -1,0 +1,62 @@
+-- Where the parts of an account are.
+use Rattle.std.specs.Prelude.{◌≡◌, ◌++◌, ℕ, Bool, true, false, List, [], ◌∷◌, map, Option, Some, None, if◌then◌else◌}
+use Rattle.std.specs.List.{list_any}
+use Rattle.std.specs.FinMap.{keys}
+use Rattle.sqlite.specs.Effect.{Database}
+use Rattle.accountfiles.specs.Netstring.{same_text}
+use Rattle.mailtables.specs.Rows.{Tables, HoldsTables}
+use Rattle.mailtables.specs.Schema.{mail_schema}
+use Rattle.mailstore.specs.declared.filing.Filing.{Filing}
+use Rattle.mailstore.specs.declared.notice.Notice.{Notice as KeptNotice}
+use Rattle.mailstore.specs.Account.{Account}
+use Rattle.mailstore.specs.CopyRows.{Copy as KeptCopy, filing_of}
+use Rattle.mailstore.specs.ReplyRows.{reply_key_of}
+use Rattle.mailstore.specs.Shows.{rows_of, IsShown}
+use Rattle.accountcopies.specs.declared.place.Place.{Place}
+use Rattle.accountcopies.specs.declared.place.Place.TheVariants as place
+use Rattle.accountcopies.specs.declared.run.Run.{Run}
+use Rattle.accountcopies.specs.Parts.{first_in, goes_on, run_with}
+
+-- whatever rows of our tables the database has, where the user's show the account, this holds of them
+abbrev pub OfShown : Database → (user : List ℕ) (a : Account) → ((own : Tables) → IsShown user own a → Type 0) → Type 0
+OfShown db user a P = (tables : Tables) → HoldsTables mail_schema db tables → (s : IsShown user (rows_of user tables) a) → P (rows_of user tables) s
+
+-- ---- the places
+
+abbrev pub copy_place : Option Run → Filing → Place
+copy_place run f = if goes_on run f.id then place.Copy f (first_in run f.n f.id) else place.Mail f
+
+abbrev pub copy_places : Option Run → List Filing → List Place
+copy_places run [] = []
+copy_places run (f ∷ filings) = copy_place run f ∷ copy_places (Some (run_with run f.n f.id)) filings
+
+-- each part of the account has its place, in the same order
+abbrev pub places_of : Account → List KeptCopy → List (ℕ × KeptNotice) → List Place
+places_of a copies notices =
+    map place.Script (keys a.scripts) ++ (map place.Reply (map reply_key_of (keys a.replies))
+    ++ (copy_places None (map filing_of copies) ++ (map (λ out. place.Letter out.id) a.queue ++ map place.Notice (map (λ e. e.0) notices))))
+
+-- ---- what is read of them
+
+abbrev pub ArePlaces : List ℕ → List Place → Database → Account → Type 0
+ArePlaces user places db a = OfShown db user a (λ own s. places ≡ places_of a s.copies.entries s.notices.entries)
+
+-- the places of the copies join the others
+abbrev pub AreCopyPlaces : List ℕ → List Place → List Place → Database → Account → Type 0
+AreCopyPlaces user old new db a = OfShown db user a (λ own s. new ≡ old ++ copy_places None (map filing_of s.copies.entries))
+
+-- and those of the notices
+abbrev pub AreNoticePlaces : List ℕ → List Place → List Place → Database → Account → Type 0
+AreNoticePlaces user old new db a = OfShown db user a (λ own s. new ≡ old ++ map place.Notice (map (λ e. e.0) s.notices.entries))
+
+-- ---- the active script
+
+-- the place is that of the script with the name
+abbrev pub is_script : List ℕ → Place → Bool
+is_script name (place.Script other) = same_text name other
+is_script name other = false
+
+-- the active script, if there is one, has a place
+abbrev pub has_active : Option (List ℕ) → List Place → Bool
+has_active None places = true
+has_active (Some name) places = list_any (is_script name) places

@@ -1,0 +1,27 @@
+-- What the rows say of a place.
+use Rattle.std.specs.Prelude.{◌≡◌, ℕ, List, Option, Some, option_map}
+use Rattle.std.specs.FinMap.{get}
+use Rattle.sqlite.specs.Effect.{Database}
+use Rattle.accountfiles.specs.declared.part.Part.{Part}
+use Rattle.accountfiles.specs.declared.part.Part.TheVariants as part
+use Rattle.mailtables.specs.Rows.{Tables}
+use Rattle.mailstore.specs.Account.{Account, row_with}
+use Rattle.mailstore.specs.Listing.{notice_with}
+use Rattle.mailstore.specs.Shows.{HasOctets, IsShown}
+use Rattle.accountcopies.specs.declared.place.Place.{Place}
+use Rattle.accountcopies.specs.declared.place.Place.TheVariants as place
+use Rattle.accountcopies.specs.Parts.{letter_part}
+use Rattle.accountcopies.specs.Places.{OfShown}
+
+-- it is the part at the place, of an account that these rows show
+abbrev pub Says : (user : List ℕ) (a : Account) (p : Part) → Place → (own : Tables) → IsShown user own a → Type 0
+Says user a p (place.Script name) own s = Some p ≡ option_map (part.Script name) (get a.scripts name)
+Says user a p (place.Reply key) own s = Some p ≡ option_map (part.Reply key.handle key.sender) (get a.replies (key.handle, key.sender))
+Says user a p (place.Mail copy) own s = (octets : List ℕ) × HasOctets user copy.id octets own × (p ≡ part.Mail copy.n copy.folder octets)
+Says user a p (place.Copy copy first) own s = p ≡ part.Copy copy.n copy.folder first
+Says user a p (place.Letter id) own s = Some p ≡ option_map letter_part (row_with id a.queue)
+Says user a p (place.Notice n) own s = Some p ≡ option_map (λ e. part.Notice n e.moment e.text) (notice_with n s.notices.entries)
+
+-- the same of the rows that a database has
+abbrev pub SaysAt : List ℕ → Place → Part → Database → Account → Type 0
+SaysAt user place p db a = OfShown db user a (Says user a p place)

@@ -1,0 +1,100 @@
+//! What an account has, without its texts and messages.
+ghost use Rattle.std.specs.Prelude.{◌≡◌, [], true, IfOk, IfErr};
+ghost use Rattle.sqlite.specs.Held.{state};
+ghost use Rattle.accountfiles.specs.Text.{IsHead};
+ghost use Rattle.mailstore.specs.AccountRows.{profile_of};
+ghost use Rattle.mailstore.specs.Promises.{Reads, ReadsEntered};
+ghost use Rattle.mailstore.specs.Refusals.{IsTransient};
+ghost use Rattle.accountcopies.specs.Parts.{head_by};
+ghost use Rattle.accountcopies.specs.Places.{has_active as has_active_in};
+ghost use Rattle.accountcopies.specs.Reading.{AreRead};
+
+use crate::place::{Place, has_active, list_places};
+use accountfiles::{Head, Numbers, Owner, is_head};
+use mailstore::{Counters, Profile, Refusal, Store};
+use octets::{List, Octets};
+use sqlite::Alter;
+use std::alloc::{AllocError, Global};
+
+/// What an account has: what it has once, and where each of its parts is, in the order of its text. Memory is in proportion to names
+/// and numbers alone: it has no text of a script, no message, and no text of a notice.
+#[derive(Debug, Drop)]
+pub struct Contents {
+    pub head: Head,
+    pub places: List<Place>,
+}
+
+/// What the user's open account has.
+///
+/// Time is linear in the rows of the account, memory in their names and numbers.
+///
+/// # Errors
+///
+/// `NoUser` without an account and where it is closed; `Memory`; `Store`, also of an account that has no text: what it has once is longer
+/// than 33,554,432 octets, a counter is past 2^63 - 1, or the active script isn't there.
+pub fn list_contents<S: Alter>(
+    alloc: Global,
+    store: &mut Store<S>,
+    user: &[u8],
+) -> Result<Contents, Refusal>
+    ensures reads { Reads user.now (λ contents a. AreRead contents [] (state S.Store store.old).now a) (state S.Store store.old) (state S.Store store.new) result }
+    ensures named { IfOk result (λ contents. contents.head.owner.name ≡ user.now) }
+{
+    let profile = store.enter(user)?;
+    list_of(alloc, store, user, profile)
+}
+
+/// What the account has that was entered, and of which this is the profile.
+fn list_of<S: Alter>(
+    alloc: Global,
+    store: &mut Store<S>,
+    user: &[u8],
+    profile: Profile,
+) -> Result<Contents, Refusal>
+    ensures reads { ReadsEntered user.now (λ contents a. profile ≡ profile_of a → AreRead contents [] (state S.Store store.old).now a) (state S.Store store.old)
+        (state S.Store store.new) result }
+    ensures named { IfOk result (λ contents. contents.head.owner.name ≡ user.now) }
+{
+    let counters = store.counters_of(user)?;
+    let places = list_places(alloc, store, user)?;
+    let head = head_of(alloc, user, profile, counters)?;
+    contents_of(head, places)
+}
+
+/// What the account has once.
+fn head_of(
+    alloc: Global,
+    user: &[u8],
+    profile: Profile,
+    counters: Counters,
+) -> Result<Head, AllocError>
+    ensures { IfOk result (λ head. head ≡ head_by user.now profile counters) }
+{
+    let owner = Owner {
+        name: Octets::from_slice(alloc, user)?,
+        address: profile.address,
+        salt: profile.salt,
+        digest: profile.digest,
+        active: profile.active,
+    };
+    let numbers = Numbers {
+        rounds: profile.rounds,
+        next_copy: counters.copy,
+        next_out: counters.out,
+        next_notice: counters.notice,
+    };
+    Ok(Head { owner, numbers })
+}
+
+/// Both, where a text can have this head and the active script has a place.
+fn contents_of(head: Head, places: List<Place>) -> Result<Contents, Refusal>
+    ensures made { IfOk result (λ contents. contents ≡ record { head = head; places = places }) }
+    ensures head { IfOk result (λ contents. IsHead contents.head) }
+    ensures active { IfOk result (λ contents. has_active_in contents.head.owner.active contents.places ≡ true) }
+    ensures named { IfErr result IsTransient }
+{
+    if !is_head(&head) || !has_active(head.owner.active.as_ref(), places.as_slice()) {
+        return Err(Refusal::Store);
+    }
+    Ok(Contents { head, places })
+}

@@ -1,0 +1,224 @@
+//! One part of an account.
+ghost use Rattle.std.specs.Prelude.{◌≡◌, ◌<◌, length, true, Some, option_map, IfOk, IfErr};
+ghost use Rattle.sqlite.specs.Held.{state};
+ghost use Rattle.accountfiles.specs.declared.part.Part.{Part};
+ghost use Rattle.mailtables.specs.declared.queue.Kind.{Kind};
+ghost use Rattle.mailstore.specs.Promises.{ReadsEntered};
+ghost use Rattle.mailstore.specs.Refusals.{IsTransient};
+ghost use Rattle.accountcopies.specs.Parts.{letter_part, way_of as way_by};
+ghost use Rattle.accountcopies.specs.Reading.{IsNextPart};
+ghost use Rattle.accountcopies.specs.Saying.{SaysAt};
+
+use crate::contents::Contents;
+use crate::place::Place;
+use accountfiles::{LetterKind, Part, may_have};
+use mailstore::{Filing, Kind, Notice, Outgoing, Refusal, ReplyKey, Store};
+use octets::Octets;
+use sqlite::Alter;
+use std::alloc::Global;
+
+/// The part at the place, of an account whose contents were listed and which is as it was.
+///
+/// One row is found by its key, of a message that folders have two; no other text is read. Memory is in proportion to the part.
+///
+/// # Errors
+///
+/// `Memory`; `Store`, also where the part isn't there, and where no text can have it: a field is longer than 33,554,432 octets, or a
+/// moment is past 2^63 - 1.
+pub fn read_part<S: Alter>(
+    alloc: Global,
+    store: &mut Store<S>,
+    contents: &Contents,
+    at: usize,
+) -> Result<Part, Refusal>
+    requires { at < length contents.now.places }
+    ensures { ReadsEntered contents.now.head.owner.name (λ part a. IsNextPart contents.now at part (state S.Store store.old).now a) (state S.Store store.old)
+        (state S.Store store.new) result }
+{
+    let user = contents.head.owner.name.as_slice();
+    let part = part_at(alloc, store, user, &contents.places.as_slice()[at])?;
+    if !may_have(contents.head.numbers, &part) {
+        return Err(Refusal::Store);
+    }
+    Ok(part)
+}
+
+/// What the account that was entered has at the place.
+fn part_at<S: Alter>(
+    alloc: Global,
+    store: &mut Store<S>,
+    user: &[u8],
+    place: &Place,
+) -> Result<Part, Refusal>
+    ensures { ReadsEntered user.now (λ part a. SaysAt user.now place.now part (state S.Store store.old).now a) (state S.Store store.old) (state S.Store store.new) result }
+{
+    match place {
+        Place::Script(name) => read_script(alloc, store, user, name),
+        Place::Reply(key) => read_reply(alloc, store, user, key),
+        Place::Mail(copy) => read_mail(alloc, store, user, copy),
+        Place::Copy { copy, first } => read_copy(alloc, store, user, copy, *first),
+        Place::Letter(id) => read_letter(store, user, *id),
+        Place::Notice(number) => read_notice(store, user, *number),
+    }
+}
+
+fn read_script<S: Alter>(
+    alloc: Global,
+    store: &mut Store<S>,
+    user: &[u8],
+    name: &Octets,
+) -> Result<Part, Refusal>
+    ensures { ReadsEntered user.now (λ part a. SaysAt user.now (Place.Script name.now) part (state S.Store store.old).now a) (state S.Store store.old) (state S.Store store.new) result }
+{
+    let text = store.script_of(user, name.as_slice())?;
+    script(alloc, name, text)
+}
+
+fn read_reply<S: Alter>(
+    alloc: Global,
+    store: &mut Store<S>,
+    user: &[u8],
+    key: &ReplyKey,
+) -> Result<Part, Refusal>
+    ensures { ReadsEntered user.now (λ part a. SaysAt user.now (Place.Reply key.now) part (state S.Store store.old).now a) (state S.Store store.old) (state S.Store store.new) result }
+{
+    let moment = store.moment_of(user, key.handle.as_slice(), key.sender.as_slice())?;
+    reply(alloc, key, moment)
+}
+
+fn read_mail<S: Alter>(
+    alloc: Global,
+    store: &mut Store<S>,
+    user: &[u8],
+    copy: &Filing,
+) -> Result<Part, Refusal>
+    ensures { ReadsEntered user.now (λ part a. SaysAt user.now (Place.Mail copy.now) part (state S.Store store.old).now a) (state S.Store store.old) (state S.Store store.new) result }
+{
+    let message = store.message_of(user, copy.id)?;
+    mail(alloc, copy, message)
+}
+
+/// A copy behind another one of the same message, which is there.
+fn read_copy<S: Alter>(
+    alloc: Global,
+    store: &mut Store<S>,
+    user: &[u8],
+    copy: &Filing,
+    first: u64,
+) -> Result<Part, Refusal>
+    ensures { ReadsEntered user.now (λ part a. SaysAt user.now (Place.Copy copy.now first) part (state S.Store store.old).now a) (state S.Store store.old) (state S.Store store.new) result }
+{
+    let is_shared = store.has_other_copy(user, copy)?;
+    copy_behind(alloc, copy, first, is_shared)
+}
+
+fn read_letter<S: Alter>(store: &mut Store<S>, user: &[u8], id: u64) -> Result<Part, Refusal>
+    ensures { ReadsEntered user.now (λ part a. SaysAt user.now (Place.Letter id) part (state S.Store store.old).now a) (state S.Store store.old) (state S.Store store.new) result }
+{
+    let row = store.outgoing_of(user, id)?;
+    letter(row)
+}
+
+fn read_notice<S: Alter>(store: &mut Store<S>, user: &[u8], number: u64) -> Result<Part, Refusal>
+    ensures { ReadsEntered user.now (λ part a. SaysAt user.now (Place.Notice number) part (state S.Store store.old).now a) (state S.Store store.old) (state S.Store store.new) result }
+{
+    let found = store.notice_of(user, number)?;
+    notice(number, found)
+}
+
+fn script(alloc: Global, name: &Octets, text: Option<Octets>) -> Result<Part, Refusal>
+    ensures made { IfOk result (λ part. Some part ≡ option_map (Part.Script name.now) text) }
+    ensures named { IfErr result IsTransient }
+{
+    let Some(text) = text else {
+        return Err(Refusal::Store);
+    };
+    Ok(Part::Script {
+        name: name.try_clone(alloc)?,
+        text,
+    })
+}
+
+fn reply(alloc: Global, key: &ReplyKey, moment: Option<u64>) -> Result<Part, Refusal>
+    ensures made { IfOk result (λ part. Some part ≡ option_map (Part.Reply key.now.handle key.now.sender) moment) }
+    ensures named { IfErr result IsTransient }
+{
+    let Some(moment) = moment else {
+        return Err(Refusal::Store);
+    };
+    Ok(Part::Reply {
+        handle: key.handle.try_clone(alloc)?,
+        sender: key.sender.try_clone(alloc)?,
+        moment,
+    })
+}
+
+fn mail(alloc: Global, copy: &Filing, message: Octets) -> Result<Part, Refusal>
+    ensures made { IfOk result (λ part. part ≡ Part.Mail copy.now.n copy.now.folder message) }
+    ensures named { IfErr result IsTransient }
+{
+    Ok(Part::Mail {
+        number: copy.n,
+        folder: copy.folder.try_clone(alloc)?,
+        message,
+    })
+}
+
+/// A copy behind another one; without another one it is refused.
+fn copy_behind(
+    alloc: Global,
+    copy: &Filing,
+    first: u64,
+    is_shared: bool,
+) -> Result<Part, Refusal>
+    ensures made { IfOk result (λ part. part ≡ Part.Copy copy.now.n copy.now.folder first) }
+    ensures named { IfErr result IsTransient }
+{
+    if !is_shared {
+        return Err(Refusal::Store);
+    }
+    Ok(Part::Copy {
+        number: copy.n,
+        folder: copy.folder.try_clone(alloc)?,
+        first,
+    })
+}
+
+fn letter(row: Option<Outgoing>) -> Result<Part, Refusal>
+    ensures made { IfOk result (λ part. Some part ≡ option_map letter_part row) }
+    ensures named { IfErr result IsTransient }
+{
+    let Some(row) = row else {
+        return Err(Refusal::Store);
+    };
+    Ok(Part::Letter {
+        id: row.id,
+        kind: way_of(row.kind),
+        sender: row.sender,
+        target: row.target,
+        message: row.message,
+    })
+}
+
+fn way_of(kind: Kind) -> LetterKind
+    ensures { result ≡ way_by kind }
+{
+    match kind {
+        Kind::Redirect => LetterKind::Redirect,
+        Kind::Reply => LetterKind::Answer,
+    }
+}
+
+fn notice(number: u64, found: Option<Notice>) -> Result<Part, Refusal>
+    ensures made { IfOk result (λ part. Some part ≡ option_map (λ e. Part.Notice number e.moment e.text) found) }
+    ensures named { IfErr result IsTransient }
+{
+    let Some(found) = found else {
+        return Err(Refusal::Store);
+    };
+    Ok(Part::Notice {
+        number,
+        moment: found.moment,
+        text: found.text,
+    })
+}

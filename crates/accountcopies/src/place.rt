@@ -1,0 +1,189 @@
+//! Where the parts of an account are.
+ghost use Rattle.std.specs.Prelude.{◌≡◌, ◌++◌, List, None, OnOk, IfErr, map, option_copied};
+ghost use Rattle.std.specs.FinMap.{keys};
+ghost use Rattle.sqlite.specs.Held.{state};
+ghost use Rattle.mailstore.specs.Promises.{ReadsEntered};
+ghost use Rattle.mailstore.specs.ReplyRows.{reply_key_of};
+ghost use Rattle.mailstore.specs.Refusals.{IsTransient};
+ghost use Rattle.accountcopies.specs.Places.{copy_place as copy_place_of, copy_places, ArePlaces, AreCopyPlaces, AreNoticePlaces, is_script as is_script_of, has_active as has_active_in};
+
+use crate::run::Run;
+use mailstore::{Filing, Head, Refusal, ReplyKey, Store};
+use octets::{List, Octets, Texts};
+use sqlite::Alter;
+use std::alloc::Global;
+
+/// Where a part of an account is found.
+#[derive(Debug, Drop)]
+pub enum Place {
+    /// A script, by its name.
+    Script(Octets),
+    /// The moment of a reply, by its key.
+    Reply(ReplyKey),
+    /// A copy in a folder, behind none of the same message.
+    Mail(Filing),
+    /// A copy in a folder, behind another one of the same message; `first` is the number of the first of these.
+    Copy { copy: Filing, first: u64 },
+    /// A message on its way out, by its number.
+    Letter(u64),
+    /// A notice, by its number.
+    Notice(u64),
+}
+
+/// Where all parts of an account are that was entered, in the order of its text.
+pub(crate) fn list_places<S: Alter>(
+    alloc: Global,
+    store: &mut Store<S>,
+    user: &[u8],
+) -> Result<List<Place>, Refusal>
+    ensures { ReadsEntered user.now (λ places a. ArePlaces user.now places (state S.Store store.old).now a) (state S.Store store.old) (state S.Store store.new) result }
+{
+    let mut places = List::new(alloc);
+    list_scripts(store, user, &mut places)?;
+    list_replies(store, user, &mut places)?;
+    list_copies(store, user, &mut places)?;
+    list_letters(store, user, &mut places)?;
+    list_notices(store, user, &mut places)?;
+    Ok(places)
+}
+
+fn list_scripts<S: Alter>(
+    store: &mut Store<S>,
+    user: &[u8],
+    places: &mut List<Place>,
+) -> Result<(), Refusal>
+    ensures { ReadsEntered user.now (λ _ a. places.new ≡ places.old ++ map Place.Script (keys a.scripts)) (state S.Store store.old) (state S.Store store.new) result }
+{
+    let names = store.scripts_of(user)?;
+    push_scripts(places, names)
+}
+
+fn list_replies<S: Alter>(
+    store: &mut Store<S>,
+    user: &[u8],
+    places: &mut List<Place>,
+) -> Result<(), Refusal>
+    ensures { ReadsEntered user.now (λ _ a. places.new ≡ places.old ++ map Place.Reply (map reply_key_of (keys a.replies))) (state S.Store store.old) (state S.Store store.new) result }
+{
+    let all = store.reply_keys_of(user)?;
+    push_replies(places, all)
+}
+
+fn list_copies<S: Alter>(
+    store: &mut Store<S>,
+    user: &[u8],
+    places: &mut List<Place>,
+) -> Result<(), Refusal>
+    ensures { ReadsEntered user.now (λ _ a. AreCopyPlaces user.now places.old places.new (state S.Store store.old).now a) (state S.Store store.old) (state S.Store store.new) result }
+{
+    let filings = store.filings_of(user)?;
+    push_copies(places, filings)
+}
+
+fn list_letters<S: Alter>(
+    store: &mut Store<S>,
+    user: &[u8],
+    places: &mut List<Place>,
+) -> Result<(), Refusal>
+    ensures { ReadsEntered user.now (λ _ a. places.new ≡ places.old ++ map (λ out. Place.Letter out.id) a.queue) (state S.Store store.old) (state S.Store store.new) result }
+{
+    let heads = store.queue_heads_of(user)?;
+    push_letters(places, heads)
+}
+
+fn list_notices<S: Alter>(
+    store: &mut Store<S>,
+    user: &[u8],
+    places: &mut List<Place>,
+) -> Result<(), Refusal>
+    ensures { ReadsEntered user.now (λ _ a. AreNoticePlaces user.now places.old places.new (state S.Store store.old).now a) (state S.Store store.old) (state S.Store store.new) result }
+{
+    let numbers = store.notice_numbers_of(user)?;
+    push_notices(places, numbers)
+}
+
+fn push_scripts(places: &mut List<Place>, names: Texts) -> Result<(), Refusal>
+    ensures pushed { OnOk result (places.new ≡ places.old ++ map Place.Script names) }
+    ensures named { IfErr result IsTransient }
+{
+    for name in names.into_vec() {
+        places.push(Place::Script(name))?;
+    }
+    Ok(())
+}
+
+fn push_replies(places: &mut List<Place>, all: List<ReplyKey>) -> Result<(), Refusal>
+    ensures pushed { OnOk result (places.new ≡ places.old ++ map Place.Reply all) }
+    ensures named { IfErr result IsTransient }
+{
+    for key in all.into_vec() {
+        places.push(Place::Reply(key))?;
+    }
+    Ok(())
+}
+
+/// Each copy says whether it stands behind another one of the same message.
+fn push_copies(places: &mut List<Place>, filings: List<Filing>) -> Result<(), Refusal>
+    ensures pushed { OnOk result (places.new ≡ places.old ++ copy_places None filings) }
+    ensures named { IfErr result IsTransient }
+{
+    let mut run = None;
+    for copy in filings.into_vec() {
+        let next = Run::with(run, copy.n, copy.id);
+        places.push(copy_place(run, copy))?;
+        run = Some(next);
+    }
+    Ok(())
+}
+
+/// The place of a copy behind this run.
+fn copy_place(run: Option<Run>, copy: Filing) -> Place
+    ensures { result ≡ copy_place_of run copy }
+{
+    if Run::goes_on(run, copy.id) {
+        let first = Run::with(run, copy.n, copy.id).first;
+        Place::Copy { copy, first }
+    } else {
+        Place::Mail(copy)
+    }
+}
+
+fn push_letters(places: &mut List<Place>, heads: List<Head>) -> Result<(), Refusal>
+    ensures pushed { OnOk result (places.new ≡ places.old ++ map (λ head. Place.Letter head.id) heads) }
+    ensures named { IfErr result IsTransient }
+{
+    for head in heads.as_slice() {
+        places.push(Place::Letter(head.id))?;
+    }
+    Ok(())
+}
+
+fn push_notices(places: &mut List<Place>, numbers: List<u64>) -> Result<(), Refusal>
+    ensures pushed { OnOk result (places.new ≡ places.old ++ map Place.Notice numbers) }
+    ensures named { IfErr result IsTransient }
+{
+    for number in numbers.as_slice() {
+        places.push(Place::Notice(*number))?;
+    }
+    Ok(())
+}
+
+/// Whether the active script, if there is one, has a place.
+pub(crate) fn has_active(active: Option<&Octets>, places: &[Place]) -> bool
+    ensures { result ≡ has_active_in (option_copied active.entry) places.now }
+{
+    match active {
+        Some(name) => places.iter().any(|place| is_script(name.as_slice(), place)),
+        None => true,
+    }
+}
+
+/// Whether the place is that of the script with the name.
+fn is_script(name: &[u8], place: &Place) -> bool
+    ensures { result ≡ is_script_of name.now place.now }
+{
+    match place {
+        Place::Script(other) => name == other.as_slice(),
+        _ => false,
+    }
+}

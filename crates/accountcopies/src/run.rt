@@ -1,0 +1,35 @@
+//! Copies of one message that stand one behind another.
+ghost use Rattle.std.specs.Prelude.{◌≡◌};
+
+/// Copies of one message that stand one behind another, in the order of their numbers.
+#[derive(Clone, Copy)]
+pub(crate) struct Run {
+    /// The number of their message.
+    pub(crate) id: u64,
+    /// The number of the first of them.
+    pub(crate) first: u64,
+}
+
+impl Run {
+    ghost use Rattle.accountcopies.specs.Parts.{goes_on, run_with};
+
+    /// Whether a copy of the message with this number goes on with the run.
+    pub(crate) fn goes_on(run: Option<Run>, id: u64) -> bool
+        ensures { result ≡ goes_on run id }
+    {
+        match run {
+            Some(run) => id == run.id,
+            None => false,
+        }
+    }
+
+    /// The run of a copy behind this one, by the copy's number and its message's.
+    pub(crate) fn with(run: Option<Run>, n: u64, id: u64) -> Run
+        ensures { result ≡ run_with run n id }
+    {
+        match run {
+            Some(run) if id == run.id => run,
+            _ => Run { id, first: n },
+        }
+    }
+}

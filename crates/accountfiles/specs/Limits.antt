@@ -1,0 +1,22 @@
+-- Which parts an account with these numbers may have.
+use Rattle.std.specs.Prelude.{◌≡◌, true, ℕ, List, [], ◌∷◌}
+use Rattle.accountfiles.specs.Netstring.{AreFields}
+use Rattle.accountfiles.specs.Fields.{part_fields}
+use Rattle.accountfiles.specs.Order.{fits}
+use Rattle.accountfiles.specs.declared.head.Numbers.{Numbers}
+use Rattle.accountfiles.specs.declared.part.Part.{Part}
+use Rattle.accountfiles.specs.declared.part.Part.TheVariants.{Script, Reply, Mail, Copy, Letter, Notice}
+
+-- the fields of a part that are no numbers
+abbrev pub texts_of : Part → List (List ℕ)
+texts_of (Script name text) = name ∷ text ∷ []
+texts_of (Reply handle sender moment) = handle ∷ sender ∷ []
+texts_of (Mail number folder message) = folder ∷ message ∷ []
+texts_of (Copy number folder first) = folder ∷ []
+texts_of (Letter id kind sender target message) = sender ∷ target ∷ message ∷ []
+texts_of (Notice number moment text) = text ∷ []
+
+-- the account gave its numbers, a database can have its moment, and no field is longer than a message may be
+pub record MayHave (numbers : Numbers) (part : Part) : Type 0 where
+  pub given : fits numbers part ≡ true
+  pub small : AreFields (part_fields part)

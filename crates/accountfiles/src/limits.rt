@@ -1,0 +1,84 @@
+//! What a text can have: numbers that were given, and fields that are no longer than a message may be.
+ghost use Rattle.std.specs.Prelude.{◌≡◌, ◌<◌, ◌^◌, ◌↔◌, true, IsTrue, option_copied, option_to_list};
+ghost use Rattle.accountfiles.specs.Fields.{owner_fields};
+ghost use Rattle.accountfiles.specs.Limits.{MayHave, texts_of};
+ghost use Rattle.accountfiles.specs.Netstring.{AreFields, IsField};
+ghost use Rattle.accountfiles.specs.Order.{are_numbers as are_numbers_in};
+ghost use Rattle.accountfiles.specs.Text.{IsHead};
+
+use crate::head::{Head, Numbers, Owner};
+use crate::netstring::FIELD_LIMIT;
+use crate::order::{are_numbers, fits};
+use crate::part::Part;
+use octets::Octets;
+
+/// Whether a text can have this once: its counters are at least 1 and below 2^63, and no field has more than 33,554,432 octets.
+pub fn is_head(head: &Head) -> bool
+    ensures { IsTrue result ↔ IsHead head.now }
+{
+    has_counters(head.numbers) && has_owner_fields(&head.owner)
+}
+
+/// Whether the counters are at least 1 and below 2^63.
+fn has_counters(numbers: Numbers) -> bool
+    ensures { IsTrue result ↔ ((numbers.rounds < 2 ^ 32) × (are_numbers_in numbers ≡ true)) }
+{
+    are_numbers(numbers)
+}
+
+/// Whether the text of an account with these numbers can have the part: the account gave its numbers, its moment is below 2^63, and
+/// no field has more than 33,554,432 octets.
+pub fn may_have(numbers: Numbers, part: &Part) -> bool
+    ensures { IsTrue result ↔ MayHave numbers part.now }
+{
+    fits(&numbers, part) && has_texts(part)
+}
+
+fn is_field(text: &Octets) -> bool
+    ensures { IsTrue result ↔ IsField text.now }
+{
+    text.len() as u64 <= FIELD_LIMIT
+}
+
+fn has_owner_fields(owner: &Owner) -> bool
+    ensures { IsTrue result ↔ AreFields (owner_fields owner.now) }
+{
+    is_field(&owner.name)
+        && is_field(&owner.address)
+        && is_field(&owner.salt)
+        && is_field(&owner.digest)
+        && is_name(owner.active.as_ref())
+}
+
+/// Whether the name, if there is one, is a field.
+fn is_name(name: Option<&Octets>) -> bool
+    ensures { IsTrue result ↔ AreFields (option_to_list (option_copied name.entry)) }
+{
+    match name {
+        Some(name) => is_field(name),
+        None => true,
+    }
+}
+
+/// Whether no text of the part is too long. A number never is.
+fn has_texts(part: &Part) -> bool
+    ensures { IsTrue result ↔ AreFields (texts_of part.now) }
+{
+    match part {
+        Part::Script { name, text } => is_field(name) && is_field(text),
+        Part::Reply { handle, sender, .. } => is_field(handle) && is_field(sender),
+        Part::Mail {
+            folder,
+            message,
+            ..
+        } => is_field(folder) && is_field(message),
+        Part::Copy { folder, .. } => is_field(folder),
+        Part::Letter {
+            sender,
+            target,
+            message,
+            ..
+        } => is_field(sender) && is_field(target) && is_field(message),
+        Part::Notice { text, .. } => is_field(text),
+    }
+}

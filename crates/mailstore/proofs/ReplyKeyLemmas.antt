@@ -1,0 +1,97 @@
+-- The query for the keys of a user's replies.
+use Rattle.std.proofs.Common.{◌≡◌, ℕ, pos, List, [], ◌∷◌, codes, map, filter, false, Ok, Err, Result, IfOk, IfSome, refl, sym, ap, ◌∙◌, subst, Less, IsPermutation}
+use Rattle.std.specs.FinMap.{get, entries, keys, from_entries}
+use Rattle.std.proofs.lemmas.List.Sorted.{IsPermutation-map, IsPermutation-sym, IsPermutation-trans}
+use Rattle.sqlite_value.specs.declared.value.Value.TheVariants.{Blob}
+use Rattle.sqlite_value.specs.declared.keys.Collation.TheVariants.{Binary}
+use Rattle.sqlite_value.specs.declared.keys.Key.{Key}
+use Rattle.sqlite_value.specs.Keys.{ascending}
+use Rattle.sqlite_value.specs.Order.{Row, column}
+use Rattle.sqlite_value.proofs.OrderLemmas.{value_cmp-Blob}
+use Rattle.sqlite_schema.specs.declared.command.Command.TheVariants.{Select}
+use Rattle.sqlite_sql.specs.Term.{Term, col}
+use Rattle.sqlite_sql.specs.Query.{Query, Output, output_cmp}
+use Rattle.sqlite_sql.proofs.QueryLemmas.{output_cmp_total}
+use Rattle.sqlite_tied.specs.Compute.{everything}
+use Rattle.sqlite_keyed.proofs.ListLemmas.{map-map, ascending-map, ascending_weaker}
+use Rattle.sqlite_keyed.proofs.SortLemmas.{sorted_unique}
+use Rattle.sqlite_typed.proofs.TestLemmas.{last_key, then_key}
+use Rattle.sqlite.specs.Listing.{understood, reads_listing}
+use Rattle.sqlite.specs.State.{State, Shown}
+use Rattle.sqlite.proofs.Callers.{IsPlain, command_of}
+use Rattle.mailtables.specs.Forms.{over}
+use Rattle.mailtables.specs.ReplyTable.{reply, reply_tree}
+use Rattle.mailtables.specs.Rows.{Tables, HoldsTables, has_key}
+use Rattle.mailtables.specs.Schema.{mail_schema}
+use Rattle.mailtables.proofs.AnswerLemmas.{cells_in_order}
+use Rattle.mailtables.proofs.ListLemmas.{owner_key}
+use Rattle.mailtables.proofs.ReadLemmas.{answered}
+use Rattle.mailtables.proofs.SchemaFacts.{reply_listed}
+use Rattle.mailtables.proofs.TextFacts.{by_one}
+use Rattle.mailstore.specs.declared.reply.ReplyKey.{ReplyKey}
+use Rattle.mailstore.specs.Account.{reply_cmp, Accounts, Replies}
+use Rattle.mailstore.specs.FirstCells.{first_two}
+use Rattle.mailstore.specs.Listing.{select_reply_keys}
+use Rattle.mailstore.specs.ReplyRows.{reply_row, reply_key_of, key_cells, AreKeyRows}
+use Rattle.mailstore.specs.ScriptRows.{AreApart}
+use Rattle.mailstore.specs.Shows.{rows_of, Presents}
+use Rattle.mailstore.proofs.AccountLemmas.{reply_total, reply_antisymmetric}
+use Rattle.mailstore.proofs.MapLemmas.{entries_permutation, entries_rise}
+use Rattle.mailstore.proofs.OneLemmas.{map_one}
+use Rattle.mailstore.proofs.ReadLemmas.{at_user}
+
+abbrev keys_shown : List Term
+keys_shown = col 1 2 ∷ col 1 3 ∷ []
+
+abbrev by_handle : List (Term × Key)
+by_handle = (col 1 2, ascending Binary) ∷ (col 1 3, ascending Binary) ∷ []
+
+select_reply_keys_is : command_of (understood mail_schema select_reply_keys) ≡ Select (over reply_tree by_one keys_shown by_handle) (codes "handle" ∷ codes "sender" ∷ [])
+unfolding understood everything
+select_reply_keys_is = refl
+
+pub select_reply_keys_plain : IsPlain (understood mail_schema select_reply_keys) × (reads_listing mail_schema select_reply_keys ≡ false)
+unfolding understood everything
+select_reply_keys_plain = ((refl, refl), refl)
+
+abbrev key_query : Query
+key_query = (over reply_tree by_one keys_shown by_handle).body
+
+key_output : (List ℕ × List ℕ) × ℕ → Output
+key_output e = (Blob e.0.0 ∷ Blob e.0.1 ∷ [], key_cells (reply_key_of e.0))
+
+keys_rise : (x y : (List ℕ × List ℕ) × ℕ) → reply_cmp x.0 y.0 ≡ Less → output_cmp key_query (key_output x) (key_output y) ≡ Less
+unfolding key_output
+keys_rise x y low = then_key (value_cmp-Blob x.0.0 y.0.0) (last_key (value_cmp-Blob x.0.1 y.0.1)) ∙ low
+
+module _ (old new : State) (rows : List Row) (tables : Tables) (h : HoldsTables mail_schema old.now tables) where
+  keys_found : (owner : List ℕ) (es : List ((List ℕ × List ℕ) × ℕ)) → rows_of owner tables reply_tree ≡ map (reply_row owner) es → AreApart es → Shown select_reply_keys (owner_key owner) old new rows
+      → rows ≡ map key_cells (map reply_key_of (keys (from_entries {R = reply_cmp} es)))
+  unfolding key_output
+  keys_found owner es are apart shown =
+      let p = has_key (owner_key owner) in
+      let m : Replies = from_entries es in
+      let show = λ (cells : Row). let o : Output = (column cells 1 ∷ column cells 2 ∷ [], column cells 1 ∷ column cells 2 ∷ []) in o in
+      let found = cells_in_order old.now.trees reply_tree by_one keys_shown by_handle (owner_key owner) (tables reply_tree) (h.each reply reply_listed) p (λ n cells. refl) show (λ n cells. refl) rows
+      (answered mail_schema select_reply_keys (owner_key owner) old new h.is select_reply_keys_plain.0 reply_tree by_one keys_shown _ _ select_reply_keys_is select_reply_keys_plain.1 rows shown) in
+      let outs : map show (filter p (tables reply_tree)) ≡ map key_output es = ap (map show) are ∙ map-map show (reply_row owner) es in
+      let ordered = IsPermutation-sym _ _ (entries_permutation reply_cmp reply_total reply_antisymmetric es apart) in
+      let same = IsPermutation-trans _ _ _ (IsPermutation-map key_output _ _ ordered) (subst (λ l. IsPermutation l found.0) outs found.1) in
+      let rising = ascending-map (λ x y. output_cmp key_query x y ≡ Less) key_output (entries m)
+      (ascending_weaker _ (λ x y. output_cmp key_query (key_output x) (key_output y) ≡ Less) keys_rise (entries m) (entries_rise reply_cmp reply_total reply_antisymmetric m)) in
+      let is = sorted_unique (output_cmp key_query) (output_cmp_total key_query) (map key_output (entries m)) found.0 rising same found.2 in
+      found.3 ∙ ap (map (λ (o : Output). o.1)) is ∙ map-map (λ (o : Output). o.1) key_output (entries m) ∙ sym (ap (map key_cells) (map-map reply_key_of (λ (e : (List ℕ × List ℕ) × ℕ). e.0) (entries m)) ∙ map-map key_cells (λ (e : (List ℕ × List ℕ) × ℕ). reply_key_of e.0) (entries m))
+
+pub keys_read : (old new : State) (rows : List Row) (accounts : Accounts) (p : Presents old.now accounts) (user : List ℕ) → Shown select_reply_keys (owner_key user) old new rows → IfSome (get accounts user) (AreKeyRows rows)
+keys_read old new rows accounts p user shown = at_user accounts user p.0 p.2 _ (λ a s.
+    keys_found old new rows p.0 p.1 user s.replies.entries s.replies.rows_are s.replies.apart shown ∙ ap (λ m. map key_cells (map reply_key_of (keys m))) (sym s.replies.shown))
+
+key_one : (x y : ReplyKey) → key_cells x ≡ key_cells y → x ≡ y
+key_one x y e =
+    let handle : x.handle ≡ y.handle = cc in
+    let sender : x.sender ≡ y.sender = cc in
+    λ i. record { handle = handle i; sender = sender i }
+
+pub keys_are : {E : Type 0} (r : Result (List ReplyKey) E) (rows : List Row) (wanted : List ReplyKey) → rows ≡ map key_cells wanted → IfOk r (λ all. map key_cells all ≡ map first_two rows) → IfOk r (λ all. all ≡ wanted)
+keys_are (Err e) rows wanted are h = tt
+keys_are (Ok all) rows wanted are h = map_one key_cells key_one all wanted (h ∙ ap (map first_two) are ∙ map-map first_two key_cells wanted)
