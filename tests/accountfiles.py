@@ -7,37 +7,7 @@ right one is what it was spelled from; what is cut, changed, out of order or pas
     python3 tests/accountfiles.py > crates/cases/data/accountfiles.cases
 """
 import hashlib, random
-
-LIMIT = 33_554_432
-
-
-class Long(bytes):
-    """Octets that are all the same, so that a case has room for them."""
-
-
-def netstring(field):
-    field = str(field).encode() if isinstance(field, int) else field
-    return [str(len(field)).encode() + b":", field, b","]
-
-
-def line(*fields):
-    return [piece for field in fields for piece in netstring(field)] + [b"\n"]
-
-
-def ended(pieces):
-    """The pieces with the line of their SHA-256."""
-    return pieces + line(b"sum", hashlib.sha256(b"".join(pieces)).hexdigest().encode())
-
-
-OWNER = (b"alice", b"alice@example.com", b"salt", b"digest")
-NUMBERS = (10000, 1, 1, 1)
-
-
-def account(parts=(), owner=OWNER, numbers=NUMBERS, active=None, version=b"1"):
-    pieces = line(b"sieved-account", version) + line(b"account", *owner, *([] if active is None else [active])) + line(b"numbers", *numbers)
-    for part in parts:
-        pieces += line(*part)
-    return ended(pieces)
+from accounttexts import LIMIT, NUMBERS, OWNER, Long, account, column, ended, line
 
 
 def shown(field):
@@ -48,18 +18,6 @@ def shown(field):
 def listing(parts=(), owner=OWNER, numbers=NUMBERS, active=None):
     lines = [(b"account",) + owner + ((active,) if active is not None else ()), (b"numbers",) + numbers] + list(parts)
     return b"".join(b" ".join(shown(field) for field in fields) + b";" for fields in lines) + b"again"
-
-
-def percent(octets):
-    """As a column of a table has it."""
-    if isinstance(octets, Long):
-        return f"%{{{chr(octets[0])}*{len(octets)}}}"
-    return "".join(chr(o) if 32 < o < 127 and chr(o) not in "%#" else f"%{o:02X}" for o in octets)
-
-
-def column(pieces):
-    text = "".join(percent(piece) for piece in pieces)
-    return {"": "-", "-": "%2D"}.get(text, text)
 
 
 def row(pieces, wanted):

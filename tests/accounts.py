@@ -6,7 +6,7 @@
 The words are run with --wait beside `sieved daemon`, which has the store. Prints a line for each trial, a last one that counts them, and
 ends with 1 where one failed. `tests/run` runs it. It needs python3 alone.
 """
-import base64, os, sqlite3, subprocess, sys, tempfile
+import base64, os, random, signal, sqlite3, subprocess, sys, tempfile, time
 import trials
 from managesieve import SIEVED, Store, connect, end
 
@@ -229,6 +229,133 @@ def notices():
     return "a full disk takes none; those up to a moment go, and the others stay"
 
 
+# A thousand messages: into two folders, sent on, answered, or a notice, by their field X-Way.
+WAYS = b"""require ["fileinto", "copy", "vacation"];
+if header :is "X-Way" "list" { fileinto "lists"; fileinto "all"; stop; }
+if header :is "X-Way" "on" { redirect :copy "carol@example.com"; }
+if header :is "X-Way" "away" { vacation "Away."; }
+if header :is "X-Way" "twice" { vacation "a"; vacation "b"; }
+"""
+SOME = [["list", "on", "away", "twice", "none"][number % 5] for number in range(1_000)]
+
+
+def word_of(store, word, *more, data=b""):
+    """Runs a word over a store: its status, and what it wrote on both streams."""
+    done = subprocess.run(store.words(word, *more), input=data, capture_output=True)
+    return done.returncode, done.stdout, done.stderr
+
+
+def wrote(store, word, *more, data=b""):
+    status, said, told = word_of(store, word, *more, data=data)
+    assert (status, told) == (0, b""), (word, more, status, told)
+    return said
+
+
+def way(number, kind):
+    """The sender of a message, and its octets."""
+    sender = f"s{number}@example.net"
+    return sender, f"From: {sender}\r\nTo: alice@example.org\r\nSubject: {number}\r\nX-Way: {kind}\r\n\r\n{'A line.' * (number % 50)}\r\n".encode()
+
+
+def filled(ways):
+    """A store with alice's account, to whom these came, and bob's."""
+    store = Store(["alice", "bob"], PROGRAM[0])
+    wrote(store, "put", "--activate", "alice", "main", data=WAYS)
+    wrote(store, "put", "alice", "other", data=b"keep;")
+    for number, kind in enumerate(ways):
+        sender, octets = way(number, kind)
+        wrote(store, "deliver", "--from", sender, "--to", "alice@example.org", "--at", str(1_700_000_000 + number), "alice", data=octets)
+    for id in "1", "7":
+        wrote(store, "done", "alice", id)
+    return store
+
+
+def looks(store):
+    """What the words tell of alice's account."""
+    folders = [line.rsplit(b" ", 1) for line in wrote(store, "folders", "alice").splitlines()]
+    ids = [line.split(b" ")[0] for line in wrote(store, "queue", "alice").splitlines()]
+    told = [wrote(store, word, "alice") for word in ("folders", "queue", "notices", "scripts")]
+    told += [wrote(store, "scripts", "alice", name) for name in ("main", "other")]
+    told += [wrote(store, "show", "alice", name, str(number)) for name, count in folders for number in sorted({1, int(count), *range(7, int(count), 41)})]
+    return told + [wrote(store, "queue", "alice", id) for id in ids[::23]] + [line for line in wrote(store, "users").splitlines() if b"alice" in line]
+
+
+def exported():
+    """An account of a thousand messages leaves one store and enters another: all words tell the same of it, and its text is the same."""
+    old, new = filled(SOME), Store(["bob"], PROGRAM[0])
+    text = wrote(old, "export", "alice")
+    assert wrote(old, "export", "alice") == text and wrote(old, "users").count(b"\n") == 2
+    assert wrote(new, "import", data=text) == b"imported alice\n"
+    there = looks(old)
+    assert looks(new) == there and len(there) > 60, "the words tell something else"
+    assert wrote(new, "export", "alice") == text
+    for sender, wanted in ("s2@example.net", b"file INBOX\nvacation quiet 9\n"), ("new@example.net", b"file INBOX\nvacation sent\n"):
+        for store in old, new:
+            data = f"From: {sender}\r\nTo: alice@example.org\r\nX-Way: away\r\n\r\nx\r\n".encode()
+            assert wrote(store, "deliver", "--from", sender, "--to", "alice@example.org", "--at", "1700001000", "alice", data=data) == wanted
+    assert looks(new) == looks(old), "the next message, row and number are others"
+    assert word_of(new, "import", data=text) == (65, b"", b"sieved: user exists\n")
+    for wrong in text[:-1], text[:-100], text + b"\n", text.replace(b"A line.", b"A mine.", 1), b"":
+        assert word_of(Store([], PROGRAM[0]), "import", data=wrong) == (65, b"", b"sieved: bad input\n")
+    return f"{len(text):,} octets, which come back the same; {len(there)} answers of words are the same"
+
+
+def exported_daemon():
+    """Beside a daemon: an account is printed and closed, and is that of the other daemon's store then, with its password."""
+    with Host("alice", "bob") as old, Host() as new:
+        client = old.client("alice")
+        assert client.put(b"m", b"keep;").startswith(b"OK")
+        assert old.deliver("alice", "bob@example.net", "alice@example.org") == (0, "file INBOX\n")
+        text = subprocess.run(old.store.words("export", "--wait", "--and-close", "alice"), capture_output=True, check=True).stdout
+        assert client.ask(b"LISTSCRIPTS") == LOG_IN and old.client("bob").said == b'OK "Logged in."\r\n'
+        assert old.deliver("alice", "bob@example.net", "alice@example.org") == (75, "sieved: account is closed\n")
+        assert old.word("users") == (0, "closed alice\nbob - bob@example.org\n")
+        assert old.word("export", "alice") == (67, "sieved: no such user\n")
+        assert new.word("import", data=text) == (0, "imported alice\n")
+        client = new.client("alice")
+        assert client.said == b'OK "Logged in."\r\n' and client.ask(b"LISTSCRIPTS") == LISTED
+        assert new.deliver("alice", "bob@example.net", "alice@example.org") == (0, "file INBOX\n")
+        assert new.word("folders", "alice") == (0, "INBOX 2\n")
+        assert old.word("open", "alice") == (0, "opened alice\n")
+        assert subprocess.run(old.store.words("export", "--wait", "alice"), capture_output=True, check=True).stdout == text
+        assert old.word_on_a_full_disk("export", "--and-close", "alice") == (75, "sieved: input or output failed\n")
+        assert old.word("users") == (0, "alice - alice@example.org\nbob - bob@example.org\n")
+    return "closed behind its text, and open in the other store; a full disk closes nothing"
+
+
+def exported_short():
+    """Who reads the text goes away, or the program is killed: the account is open, or the text is whole."""
+    store = filled(SOME[:300])
+    text = wrote(store, "export", "alice")
+    is_open = lambda: b"closed alice\n" not in wrote(store, "users")
+    assert len(text) > 70_000, "a pipe has room for all of it"
+    for count in 0, 1, 1_000:
+        with subprocess.Popen(store.words("export", "--and-close", "alice"), stdout=subprocess.PIPE, stderr=subprocess.PIPE, bufsize=0) as process:
+            while count:
+                count -= len(process.stdout.read(count))
+            process.stdout.close()
+            told = process.stderr.read()
+        assert (process.returncode, told) == (75, b"sieved: input or output failed\n") and is_open(), (process.returncode, told)
+    draw, counts = random.Random(7), {True: 0, False: 0}
+    for turn in range(60):
+        with tempfile.TemporaryFile() as file:
+            with subprocess.Popen(store.words("export", "--and-close", "alice"), stdout=file, stderr=subprocess.DEVNULL) as process:
+                time.sleep(draw.random() * 0.06)
+                process.send_signal(signal.SIGKILL)
+            file.seek(0)
+            written = file.read()
+        opened = is_open()
+        counts[opened] += 1
+        assert text.startswith(written), "what is written is no front of the text"
+        assert opened or written == text, f"turn {turn}: closed, and {len(written)} of {len(text)} octets are written"
+        if not opened:
+            wrote(store, "open", "alice")
+        elif written != text:
+            assert word_of(Store([], PROGRAM[0]), "import", data=written) == (65, b"", b"sieved: bad input\n")
+    assert wrote(store, "export", "alice") == text
+    return f"killed 60 times: {counts[True]} left it open, {counts[False]} closed it behind its whole text"
+
+
 def check():
     """Scripts are checked in files and on standard input, without a store."""
     with tempfile.TemporaryDirectory() as folder:
@@ -255,7 +382,7 @@ def check():
     return "lines for those that are wrong, and the worst status"
 
 
-TRIALS = {trial.__name__: trial for trial in (password, salts, address, closed, removal, users, scripts, put_refused, notices, check)}
+TRIALS = {trial.__name__: trial for trial in (password, salts, address, closed, removal, users, scripts, put_refused, notices, exported, exported_daemon, exported_short, check)}
 
 if __name__ == "__main__":
     trials.main(TRIALS, lambda program: PROGRAM.__setitem__(0, program))

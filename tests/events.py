@@ -9,7 +9,9 @@ each user's answers and possessions are the same alone.
 """
 import base64
 import datetime
+import hashlib
 import random
+import accounttexts
 
 DAY = 86400
 SESSIONS = {1: "uma", 2: "uma", 3: "vic", 4: "vic", 5: "wes"}
@@ -142,6 +144,37 @@ def sent(lines):
     return [line + "\r" for line in lines[:-1]] + lines[-1:]
 
 
+def later(kept, more):
+    """Of two moments for one reply the later one stays."""
+    return {**kept, **{key: max(moment, kept.get(key, 0)) for key, moment in more.items()}}
+
+
+def digest(word, salt=b"0123456789abcdef", rounds=10_000):
+    """As docs/STORE.md has it."""
+    found = hashlib.sha256(salt + word).digest()
+    for _ in range(rounds):
+        found = hashlib.sha256(found + salt + word).digest()
+    return found
+
+
+DIGESTS = {user: digest(word.encode()) for user, word in PASSWORDS.items()}
+
+
+def text_of(user, drawn):
+    """The text of an account, as README.md of crates/accountfiles spells it. Of replies it has those under a handle that is named."""
+    parts = [(b"script", name.encode(), (SCRIPTS[key][0] if key in SCRIPTS else key).encode()) for name, key in sorted(drawn["scripts"].items())]
+    parts += [(b"reply", b"\x01" + key[1].encode(), sender.encode(), moment) for (key, sender), moment in sorted(drawn["kept"].items())]
+    number = 1
+    for folders, octets in drawn["messages"]:
+        parts += [(b"copy", number + at, folder.encode(), number) if at else (b"mail", number, folder.encode(), octets.encode()) for at, folder in enumerate(folders)]
+        number += len(folders)
+    parts += [(b"redirect", id, sender.encode(), target.encode(), octets.encode()) for id, sender, target, octets in drawn["letters"]]
+    parts += [(b"notice", at, moment, text.encode()) for at, (moment, text) in enumerate(drawn["notices"], 1)]
+    numbers = 0 if drawn["state"] == "closed" else 10_000, number, drawn["ids"], len(drawn["notices"]) + 1
+    owner = user.encode(), drawn["address"].encode(), b"0123456789abcdef", DIGESTS[user]
+    return b"".join(accounttexts.account(parts, owner, numbers, drawn["active"].encode() if drawn["active"] else None))
+
+
 class Session:
     def __init__(self):
         self.user, self.failures, self.pending, self.closed = None, 0, False, False
@@ -169,6 +202,8 @@ class Model:
         acc = self.accounts.get(user)
         if kind == "adduser":
             return self.add(user, acc)
+        if kind == "import":
+            return self.bring(user, rest[1], acc)
         if kind in KEEPING:
             return keep(acc, kind, *rest[1:])
         if acc is None or acc["state"] == "removed" or acc["state"] == "closed" and kind != "deliver":
@@ -192,6 +227,23 @@ class Model:
         kept = {name: acc[name] for name in ("kept", "ids")} if acc else {}
         self.accounts[user] = {**account(user), **kept}
         return ["added"]
+
+    def bring(self, user, drawn, acc):
+        """An account that comes whole, over the moments that one that is closed keeps."""
+        if drawn["address"] == "nobody" or any(key in WRONG for key in drawn["scripts"].values()):
+            return ["refused: bad account"]
+        if acc and acc["state"] == "open":
+            return ["refused: user exists"]
+        if acc and (acc["folders"] or acc["queue"]):
+            return ["refused: user has mail"]
+        new = {**account(user), **{name: drawn[name] for name in ("address", "state", "scripts", "active", "ids")}}
+        new.update(scripts=dict(drawn["scripts"]), notices=list(drawn["notices"]), kept=later(acc["kept"] if acc else {}, drawn["kept"]))
+        new["queue"] = [(id, "redirect", sender, target, len(octets)) for id, sender, target, octets in drawn["letters"]]
+        for folders, octets in drawn["messages"]:
+            for folder in folders:
+                new["folders"].setdefault(folder, []).append(octets)
+        self.accounts[user] = new
+        return ["imported"]
 
     def give(self, number, octets, ended):
         session = self.sessions[number]
@@ -397,7 +449,20 @@ def chosen_event(rng, streams, clock):
         return ("deliver", user, sender, chosen_message(rng, user), clock[0], rng.choice([None, None, "lists", "two", "away", "none", "twice"]))
     if dice < 0.96:
         return chosen_keeping(rng, user, clock[0])
-    return ("adduser", user) if dice < 0.985 else ("takeout", user, rng.randrange(1, 6))
+    if dice < 0.98:
+        return ("import", user, chosen_account(rng, user, clock[0]))
+    return ("adduser", user) if dice < 0.99 else ("takeout", user, rng.randrange(1, 6))
+
+
+def chosen_account(rng, user, moment):
+    """What the text of an account says: few of each part, or none."""
+    scripts = {name: rng.choice([*SCRIPTS, *SCRIPTS, *WRONG]) for name in rng.sample(["a", "b", "main"], rng.randrange(3))}
+    messages = [(rng.sample(["INBOX", "all", "lists"], rng.choice([1, 1, 2])), octets_of({**chosen_message(rng, user), "more": ""})) for _ in range(rng.randrange(3))]
+    letters = [(2 * at + 1, "x@example.net", "c@example.com", octets_of({**chosen_message(rng, user), "more": ""})) for at in range(rng.randrange(3))]
+    return {"address": rng.choice([f"{user}@example.org"] * 5 + ["nobody"]), "state": rng.choice(["open"] * 4 + ["closed"]), "scripts": scripts,
+            "active": rng.choice([None, *scripts, *scripts]), "messages": messages, "letters": letters, "ids": 2 * len(letters) + rng.choice([1, 2]),
+            "notices": [(moment - DAY, "vacation executed twice")] * rng.randrange(2),
+            "kept": {(("named", "h"), sender): moment - rng.choice([0, DAY, 2 * DAY]) for sender in rng.sample(["bob@example.net", "dana@example.net"], rng.randrange(3))}}
 
 
 def chosen_keeping(rng, user, moment):
@@ -450,6 +515,8 @@ def section(event, state):
         return lines + f"== deliver {who}\n{octets_of(event[3]).replace(RECEIVED, '%{Received: x%0A*101}').replace(chr(13), '')}\n"
     if kind in ("password", "address"):
         return f"== {kind} {who}\n{event[2]}\n"
+    if kind == "import":
+        return f"== import {who}\n" + "".join(chr(o) if o == 10 or 31 < o < 127 and o != 37 else f"%{o:02X}" for o in text_of(who, event[2])) + "\n"
     if kind in ("store", "storeactive"):
         return f"== {kind} {who} {event[2]}".rstrip() + f"\n{SCRIPTS[event[3]][0] if event[3] in SCRIPTS else event[3].replace(chr(13), '')}\n"
     if kind == "adduser":
@@ -495,7 +562,7 @@ def world(note, events, users):
 
 def main():
     print(HEAD)
-    events = events_of(4983)
+    events = events_of(7978)
     users = ["uma", "vic", "wes"]
     model, answers = world("all events", events, users)
     for user in users:

@@ -238,6 +238,20 @@ def notices_until(**more):
     return word(room, "notices", "--until", "6", "alice", **more)
 
 
+def export(**more):
+    return word(stops.full_room(), "export", "alice", scripts=[b"main", b"other"], **more)
+
+
+def export_closes(**more):
+    return word(stops.full_room(), "export", "--and-close", "alice", scripts=[b"main", b"other"], **more)
+
+
+def import_text(**more):
+    text, room = stops.full_room().run("export", "alice"), Room(users=False)
+    room.run("init")
+    return word(room, "import", data=text, scripts=[b"main", b"other"], **more)
+
+
 def check():
     return word(Room(), "check", data=SCRIPT)
 
@@ -650,9 +664,9 @@ TEXTS = ["addresses", "targets", "bare", "spellings", "words", "texts", "tokens"
          "heads", "dates", "scripts", "tests", "vacations"]
 
 WORDS = (try_word, init, adduser, deliver, folders, show, queue, queue_row, done, notices, drain,
-         users, passwd, address, scripts_word, script_word, put_file, remove, open_word, notices_until, check,
+         users, passwd, address, scripts_word, script_word, put_file, remove, open_word, notices_until, export, export_closes, import_text, check,
          put, put_again, activate, delete, rename, get, listed, checked, serve, planted)
-AGAIN = (try_word, deliver, done, drain, put, put_file, remove, notices_until)
+AGAIN = (try_word, deliver, done, drain, put, put_file, remove, notices_until, export_closes, import_text)
 TRIALS = {trial.__name__.removesuffix("_word"): trial for trial in WORDS} | ENGINE
 TRIALS |= {f"{trial.__name__.removesuffix('_word')}_none_left": lambda trial=trial: trial(**NONE_LEFT) for trial in AGAIN}
 TRIALS |= {f"text_{name}": lambda name=name: texts(name) for name in TEXTS}

@@ -9,7 +9,7 @@ that are lost, all of them, or all but one; a write that is torn at a sector; on
 The program opens each. It has to show the accounts as before or as after, and once the word has answered as after. The same
 state of two moments is opened once. Nothing is thought durable that wasn't synced: a name needs a sync of its folder.
 
-The trials: init, adduser, deliver, done, drain, session; `upgrade_last` and `upgrade_fourth`, the first word over a store that a program of
+The trials: init, adduser, deliver, done, imported, exported, drain, session; `upgrade_last` and `upgrade_fourth`, the first word over a store that a program of
 version 1 wrote (crates/cases/data); `again`, where the power goes once more as what it left is opened;
 `unsynced`, a disk that loses a commit between its write and its sync, over which the next word reads the disk; and `planted`, in
 which a sync is left out of the log, an answer stands before one, or a commit before the last write, and a state has to be found
@@ -474,6 +474,41 @@ def done():
     return sweep(log, look, judge)
 
 
+def full_room():
+    """A store with mail in folders, a queue, a reply that is remembered and a notice, of which `export` prints all."""
+    room = Room()
+    room.talk(put_script(b"main", SCRIPT), b'SETACTIVE "main"\r\n', put_script(b"other", LONG + b"keep;\r\n"))
+    for number in range(3):
+        room.run("deliver", "--from", "bob@example.net", "--to", "alice@example.org", "--at", "1700000000", "alice", data=MAIL % number)
+    room.run("deliver", "--to", "alice@example.org", "--at", "1700000000", "alice", data=b"Received: x\r\n" * 101 + MAIL % 3)
+    return room
+
+
+def imported():
+    """An account that comes whole is there, with all that its text says, or isn't."""
+    text = full_room().run("export", "alice")
+    room = Room(users=False)
+    room.run("init")
+    log, said = room.recorded("import", data=text)
+    look = Look([b"main", b"other"])
+    judge, before, after = one_change(log, look)
+    assert said == b"imported alice\n" and before[:2] == (67, b"") and after[:2] == (0, b"INBOX 1\na 3\nb 3\n"), (said, before[:2], after[:2])
+    return sweep(log, look, judge)
+
+
+def exported():
+    """An account whose text is printed is open, or closed behind that: all calls that write it come before the first that closes it."""
+    room = full_room()
+    text = room.run("export", "alice")
+    log, said = room.recorded("export", "--and-close", "alice")
+    look = Look([b"main", b"other"])
+    before, after = (look.at(left_by(log, State(moment)))[0] for moment in (0, len(log.calls)))
+    kinds = [call.kind for call in log.calls]
+    assert said == text and before[:2] == (0, b"INBOX 1\na 3\nb 3\n") and after[:2] == (67, b""), (len(said), before[:2], after[:2])
+    assert "said" not in kinds[kinds.index("write"):], "it wrote the store before the text was written"
+    return sweep(log, look, lambda state, answers: "as after" if state[0] == after else "as before" if state[0] == before else None)
+
+
 def moving():
     """The log of a drain of three messages, what its states are judged by, and what opens them."""
     room = Room()
@@ -739,7 +774,7 @@ def is_found(log, look, judge):
     return False
 
 
-TRIALS = {trial.__name__: trial for trial in (init, adduser, deliver, done, drain, session, upgrade_last, upgrade_fourth, again, unsynced, planted)}
+TRIALS = {trial.__name__: trial for trial in (init, adduser, deliver, done, imported, exported, drain, session, upgrade_last, upgrade_fourth, again, unsynced, planted)}
 
 
 if __name__ == "__main__":

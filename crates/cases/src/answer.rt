@@ -28,6 +28,7 @@ fn add_answer(alloc: Global, out: &mut Octets, answer: &Answer) -> Result<(), Al
         Answer::Out(progress, octets) => add_sent(out, *progress, octets.as_slice()),
         Answer::Delivered(report) => add_report(alloc, out, report),
         Answer::Added => add_line(out, b"", b"added"),
+        Answer::Imported => add_line(out, b"", b"imported"),
         Answer::Taken(row) => add_row(out, row),
         Answer::MailTaken => add_line(out, b"", b"mail taken"),
         Answer::Changed => add_line(out, b"", b"changed"),

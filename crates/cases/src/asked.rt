@@ -88,6 +88,11 @@ fn add(out: &mut Octets, asked: Subcommand<'_>) -> Result<(), AllocError> {
             add_at(out, "remove", asked.location, &[mail, asked.user])
         }
         Subcommand::Open(asked) => add_at(out, "open", asked.location, &[asked.user]),
+        Subcommand::Export(asked) => {
+            let and_close = if asked.and_close { "closes" } else { "" };
+            add_at(out, "export", asked.location, &[and_close, asked.user])
+        }
+        Subcommand::Import(asked) => add_at(out, "import", asked.location, &[]),
         Subcommand::Deliver(asked) => {
             add_location(out, "deliver", asked.location)?;
             add_envelope(out, asked.from, asked.to)?;

@@ -1,4 +1,5 @@
 //! The events that sections are.
+use accountfiles::ReadError;
 use base64::engine::general_purpose::STANDARD;
 use casefiles::Part::Text;
 use casefiles::{Section, add_parts, decode, split_at_first, with_ends};
@@ -73,6 +74,7 @@ pub fn event(
         "giveup" => Ok(Some(Event::GiveUp(session(note)))),
         "close" => Ok(Some(Event::Close(session(note)))),
         "adduser" => new_user(alloc, note, section.text),
+        "import" => import(alloc, section),
         "deliver" => delivery(alloc, post, section, note),
         "takeout" => take_out(alloc, note),
         "takemail" => take_mail(alloc, note),
@@ -163,6 +165,16 @@ fn new_user(alloc: Global, name: &str, text: &str) -> Result<Option<Event>, Allo
         salt: *b"0123456789abcdef",
         password,
     }))
+}
+
+/// An account that comes whole: its text.
+fn import(alloc: Global, section: &Section<'_>) -> Result<Option<Event>, AllocError> {
+    let text = with_ends(alloc, section.text, false)?;
+    match accountfiles::read(alloc, text.as_slice()) {
+        Ok(file) => Ok(Some(Event::Import(file))),
+        Err(ReadError::NotAnAccount) => Ok(None),
+        Err(ReadError::Memory) => Err(AllocError),
+    }
 }
 
 /// A message to be delivered to this user.

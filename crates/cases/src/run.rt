@@ -21,7 +21,7 @@ pub const CLOCK: Option<u64> = Some(1_700_000_000);
 const RANDOM: Option<[u8; 16]> = Some(*b"0123456789abcdef");
 
 /// What a run may tell, those too that no case can bring about.
-const FAULTS: [Fault; 24] = [
+const FAULTS: [Fault; 25] = [
     Fault::Refused(Refusal::Memory),
     Fault::Refused(Refusal::Store),
     Fault::Busy,
@@ -40,6 +40,7 @@ const FAULTS: [Fault; 24] = [
     Fault::Refused(Refusal::BadScriptName),
     Fault::Refused(Refusal::ScriptTooLarge),
     Fault::Refused(Refusal::TooManyScripts),
+    Fault::Refused(Refusal::BadAccount),
     Fault::NoMessage,
     Fault::NoMaildir,
     Fault::NoScript,

@@ -18,11 +18,12 @@ pub enum Table {
     Asked,
     Streams,
     Runs,
+    Exports,
     Devices,
 }
 
 /// All of them, in the order in which they are tried.
-pub const TABLES: [Table; 27] = [
+pub const TABLES: [Table; 28] = [
     Table::Text(TextTable::Ascii),
     Table::Text(TextTable::Addresses),
     Table::Text(TextTable::Targets),
@@ -48,6 +49,7 @@ pub const TABLES: [Table; 27] = [
     Table::Asked,
     Table::Streams,
     Table::Runs,
+    Table::Exports,
     Table::Devices,
     Table::Text(TextTable::Vacations),
 ];
@@ -64,6 +66,7 @@ impl Table {
             Table::Asked => "asked.cases",
             Table::Streams => "streams.cases",
             Table::Runs => "runs.cases",
+            Table::Exports => "exports.cases",
             Table::Devices => "devices.cases",
         }
     }
@@ -74,7 +77,7 @@ impl Table {
             Table::Text(table) => table.try_all(alloc, tally, file),
             Table::Scripts | Table::Tests => script::try_all(alloc, tally, file),
             Table::Sessions | Table::Events => session::try_all(alloc, tally, file),
-            Table::Runs | Table::Devices => {
+            Table::Runs | Table::Exports | Table::Devices => {
                 try_rows(alloc, tally, &mut MemoryRuns::new(alloc)?, file)
             }
             Table::Asked | Table::Streams => try_rows(alloc, tally, &mut Rows, file),

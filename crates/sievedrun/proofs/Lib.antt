@@ -1,9 +1,13 @@
 mod CheckLemmas
 mod DrainExamples
 mod DrainLemmas
+mod ExportExamples
+mod ExportLemmas
 pub mod FramingLemmas
+mod ImportLemmas
 mod LeaveLemmas
 mod MoveLemmas
+mod PartLemmas
 mod PutLemmas
 mod ReportLemmas
 mod WordExamples

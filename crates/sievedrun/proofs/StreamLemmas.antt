@@ -77,7 +77,7 @@ pub front_on : (a b c : Option (List ℕ)) (first text : List ℕ) → Appends a
 front_on a b c first text before more = (length first + more.0, subst (Appends a c) (sym (take-append-add first text more.0)) (written_on a b c first (take more.0 text) before more.1))
 
 -- a front of a text is one of it and more
-front_of : (a b : Option (List ℕ)) (text more : List ℕ) → AppendsFront a b text → AppendsFront a b (text ++ more)
+pub front_of : (a b : Option (List ℕ)) (text more : List ℕ) → AppendsFront a b text → AppendsFront a b (text ++ more)
 front_of a b text more front =
     let n = length (take front.0 text) in
     (n, subst (Appends a b) (sym (ap (take n) (sym (ap (λ l. l ++ more) (take-append-drop front.0 text)) ∙ append_assoc (take front.0 text) (drop front.0 text) more) ∙ take-append_seam (take front.0 text) (drop front.0 text ++ more))) front.1)

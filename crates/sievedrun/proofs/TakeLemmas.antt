@@ -29,8 +29,16 @@ abbrev AreNotices : List Notice → Account → Type 0
 AreNotices notices a = notices ≡ a.notices
 
 -- nobody denies a store that is out
-abbrev undenied : Fault → Type 0
+abbrev pub undenied : Fault → Type 0
 undenied fault = ⊥
+
+-- so what keeps a word from its work then comes suddenly
+pub undenied_sudden : (fault : Fault) → IsHindered ⊥ ⊥ undenied fault → IsSudden ⊥ fault
+undenied_sudden fault (inl e) = inl e
+undenied_sudden fault (inr (inl e)) = inr (inl e)
+undenied_sudden fault (inr (inr (inl none))) = absurd none.1
+undenied_sudden fault (inr (inr (inr (inl none)))) = absurd none.1
+undenied_sudden fault (inr (inr (inr (inr none)))) = absurd none.0
 
 module _ (user : List ℕ) (until : ℕ) where
   -- none could be read
@@ -73,14 +81,7 @@ module _ (user : List ℕ) (until : ℕ) where
         where
           by : (r : Result (Unit {0}) Fault) (later : Accounts) → OfOpen accounts user (AreNotices notices) → Puts undenied (taking user until) (λ x. said_of (TakeNotices until)) r accounts later → TakesListed user until old out r accounts later
           by (Ok x) later f put = (text, lists accounts f, printed, put)
-          by (Err fault) later f put = (put.0, inr (text, lists accounts f, inr (printed, elim put.1 [ inl hindered ↦ inl (sudden fault hindered) | inr refused ↦ inr refused ])))
-            where
-              sudden : (fault : Fault) → IsHindered ⊥ ⊥ undenied fault → IsSudden ⊥ fault
-              sudden fault (inl e) = inl e
-              sudden fault (inr (inl e)) = inr (inl e)
-              sudden fault (inr (inr (inl none))) = absurd none.1
-              sudden fault (inr (inr (inr (inl none)))) = absurd none.1
-              sudden fault (inr (inr (inr (inr none)))) = absurd none.0
+          by (Err fault) later f put = (put.0, inr (text, lists accounts f, inr (printed, elim put.1 [ inl hindered ↦ inl (undenied_sudden fault hindered) | inr refused ↦ inr refused ])))
 
 -- over tables, of a store that was taken and handed back
 pub store_turned : (held new : Database) (taken given : State) → OpensAs held taken.now → IsKnown held → HasCleanDisk given → IsTrue given.is_open → new ≡ given.now → (Became : Accounts → Accounts → Type 0) → TurnsStore Became taken given → TurnsTables Became held new

@@ -2,6 +2,8 @@
 use Rattle.std.specs.Prelude.{◌≡◌, ◌⊎◌, ℕ, List, [], ◌∷◌, ◌++◌, codes, Option, Some, None, Result, Ok, Err}
 use Rattle.std.specs.Io.KnownBytes.{Appends}
 use Rattle.std_io.specs.declared.io.kind.ErrorKind.{ErrorKind}
+use Rattle.accountfiles.specs.declared.account_file.ReadError.{ReadError}
+use Rattle.accountfiles.specs.declared.account_file.ReadError.TheVariants as unread
 use Rattle.keepers.specs.Causes.{file_text}
 use Rattle.mailstore.specs.declared.refusal.Refusal.{Refusal}
 use Rattle.mailstore.specs.declared.refusal.Refusal.TheVariants as refusal
@@ -31,6 +33,7 @@ status_of (Refused refusal.UserHasMail) = 65
 status_of (Refused refusal.BadScriptName) = 65
 status_of (Refused refusal.ScriptTooLarge) = 65
 status_of (Refused refusal.TooManyScripts) = 65
+status_of (Refused refusal.BadAccount) = 65
 status_of Busy = 75
 status_of Stream = 75
 status_of NoMessage = 65
@@ -58,6 +61,7 @@ text_of (Refused refusal.UserHasMail) = codes "user has mail"
 text_of (Refused refusal.BadScriptName) = codes "bad script name"
 text_of (Refused refusal.ScriptTooLarge) = codes "script too large"
 text_of (Refused refusal.TooManyScripts) = codes "too many scripts"
+text_of (Refused refusal.BadAccount) = codes "bad input"
 text_of Busy = codes "busy"
 text_of Stream = codes "input or output failed"
 text_of NoMessage = codes "no such message"
@@ -93,6 +97,11 @@ abbrev pub sink_fault : SinkError → Fault
 sink_fault sink.Memory = memory
 sink_fault sink.NoMaildir = NoMaildir
 sink_fault sink.Failed = Stream
+
+-- the fault that it is where what was read is the text of no account
+abbrev pub read_fault : ReadError → Fault
+read_fault unread.Memory = memory
+read_fault unread.NotAnAccount = BadInput
 
 -- what a failure to read or to write, or lack of memory, is told as
 abbrev pub IsFailure : Fault → Type 0

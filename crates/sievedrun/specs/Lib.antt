@@ -1,5 +1,6 @@
 pub mod Checks
 pub mod Draining
+pub mod Exports
 pub mod Faults
 pub mod Framing
 pub mod Promise

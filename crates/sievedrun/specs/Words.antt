@@ -1,9 +1,13 @@
 -- What a word of the command line does: what becomes of the accounts, what is printed, and why it is refused.
 use Prim.Native.Nat.{zero}
-use Rattle.std.specs.Prelude.{◌≡◌, ◌≢◌, ◌⊎◌, ℕ, suc, Bool, true, false, List, [], ◌++◌, codes, decimal, filter, map, nat_le, slice_get, IsTrue, Option, Some, None, option_copied, Result, Ok, Err, OnOk, cond, length, ◌==◌, ◌&&◌}
+use Rattle.std.specs.Prelude.{◌≡◌, ◌≢◌, ◌⊎◌, ℕ, suc, Bool, true, false, List, [], ◌++◌, codes, decimal, filter, map, nat_le, slice_get, IsTrue, Option, Some, None, option_copied, Result, Ok, Err, MatchResult, OnOk, cond, length, ◌==◌, ◌&&◌}
 use Rattle.std.specs.FinMap.{entries, get, keys}
 use Rattle.std.specs.Io.KnownBytes.{IsAtEnd, Keeps}
 use Rattle.std.specs.List.{flat_map}
+use Rattle.accountfiles.specs.Text.{IsTextOf}
+use Rattle.accountfiles.specs.declared.account_file.AccountFile.{AccountFile}
+use Rattle.accountfiles.specs.declared.head.Head.{Head}
+use Rattle.accountfiles.specs.declared.part.Part.{Part}
 use Rattle.octets.specs.Decimal.{Writes}
 use Rattle.maildirs.specs.Directory.{directory}
 use Rattle.maildirs.specs.declared.separator.Separator.{Separator}
@@ -13,18 +17,20 @@ use Rattle.mailsinks.specs.declared.kept.KeptMail.{KeptMail}
 use Rattle.mailsinks.specs.declared.sink.SinkError.{SinkError}
 use Rattle.mailstore.specs.Account.{Account, Accounts, is_closed, is_removed, no_accounts, messages_in, row_with}
 use Rattle.mailstore.specs.HeadRows.{head_of}
-use Rattle.mailstore.specs.Promises.{HasNoOpen, OfOpen}
+use Rattle.mailstore.specs.Promises.{HasNoOpen, OfOpen, OverAccounts}
+use Rattle.mailstore.specs.Promises.{Keeps as KeepsStore}
 use Rattle.mailstore.specs.Schema.{no_schema}
 use Rattle.mailstore.specs.Shows.{Presents}
 use Rattle.mailstore.specs.Tally.{size_of}
 use Rattle.mailstore.specs.Users.{IsNextUser}
+use Rattle.mailstore.specs.Whole.{IsCopyOf}
 use Rattle.mailstore.specs.declared.refusal.Refusal.{Refusal}
 use Rattle.mailstore.specs.declared.refusal.Refusal.TheVariants.{NoRow}
 use Rattle.mailengine.specs.World.{Next}
 use Rattle.mailengine.specs.declared.answer.Answer.{Answer}
 use Rattle.mailengine.specs.declared.answer.Answer.TheVariants as answer
 use Rattle.mailengine.specs.declared.event.Event.{Event}
-use Rattle.mailengine.specs.declared.event.Event.TheVariants.{Deliver, AddUser, TakeOut, Keep}
+use Rattle.mailengine.specs.declared.event.Event.TheVariants.{Deliver, AddUser, Import, TakeOut, Keep}
 use Rattle.mailengine.specs.declared.upkeep.Upkeep.{Upkeep}
 use Rattle.mailengine.specs.declared.upkeep.Upkeep.TheVariants as upkeep
 use Rattle.mailstore.specs.declared.notice.Notice.{Notice}
@@ -46,6 +52,7 @@ use Rattle.sievedwords.specs.declared.reading.ReadError.TheVariants.{Said, NotTe
 use Rattle.sievedwords.specs.declared.subcommand.Subcommand.{Subcommand}
 use Rattle.sievedwords.specs.declared.subcommand.Subcommand.TheVariants as word
 use Rattle.sievedrun.specs.Draining.{StaysAsItWas, TurnsTables, HasDrained}
+use Rattle.sievedrun.specs.Exports.{IsCutOff}
 use Rattle.sievedrun.specs.Faults.{memory, no_user, status_of, line_of, troubles, AreTold, IsSudden, IsHindered, IsPrinted}
 use Rattle.sievedrun.specs.Promise.{first_line, world_of, status_after}
 use Rattle.sievedrun.specs.Streams.{ReadsAll, AppendsSome, InputFailed, IsWritten}
@@ -53,7 +60,7 @@ use Rattle.sievedrun.specs.TryScript.{Tries}
 use Rattle.sievedrun.specs.Values.{IsNoNumber, IsNoUntil, IsSalt, HasNoSalt, IsWhen, HasNoWhen, IsSeparator, HasNoSeparator, envelope_with}
 use Rattle.sievedrun.specs.declared.fault.Fault.{Fault}
 use Rattle.sieveexec.specs.declared.when.When.{When}
-use Rattle.sievedrun.specs.declared.fault.Fault.TheVariants.{Refused, NoMessage, NoScript, Invalid, BadArgument}
+use Rattle.sievedrun.specs.declared.fault.Fault.TheVariants.{Refused, Stream, NoMessage, NoScript, Invalid, BadInput, BadArgument}
 
 -- ---- how a word ends, whatever it does
 
@@ -148,10 +155,19 @@ pub record Dequeues (user digits : List ℕ) (event : Event) : Type 0 where
   pub written : Writes digits id
   pub same : event ≡ TakeOut user id
 
+-- `import`: all that was read is the text of this account
+pub record Brings (given : Option (List ℕ)) (event : Event) : Type 0 where
+  pub text : List ℕ
+  pub read : ReadsAll given text
+  pub file : AccountFile
+  pub spelled : IsTextOf text file.head file.parts
+  pub same : event ≡ Import file
+
 -- what is printed of an event that was made, by its answer
 abbrev pub Tells : Event → Answer → List ℕ → Type 0
 Tells (AddUser name address salt password) answer.Added text = text ≡ with_end (codes "added " ++ name)
 Tells (Deliver user envelope message when default) (answer.Delivered report) text = text ≡ delivery_report report
+Tells (Import file) answer.Imported text = text ≡ with_end (codes "imported " ++ file.head.owner.name)
 Tells (TakeOut user id) (answer.Taken row) text = text ≡ with_end (codes "taken " ++ decimal id)
 Tells (Keep user upkeep) answer.Changed text = text ≡ with_end (codes "changed " ++ user)
 Tells (Keep user upkeep) answer.Stored text = text ≡ with_end (codes "stored " ++ script_of upkeep)
@@ -220,6 +236,29 @@ abbrev pub DoesPut : (Fault → Type 0) → (Event → Type 0) → Option (List 
 DoesPut Denied Own old new result =
     TurnsTables (λ accounts later.
     Finishes (Makes Own) (λ fault all. IsHindered InputFailed ⊥ Denied fault ⊎ RefusesEvent Own fault all) old new result accounts later ⊎ RefusesScript Own old new result accounts later)
+
+-- ---- `import`, whose text may be that of no account
+
+-- all that was read is the text of no account
+abbrev pub IsNoAccount : Option (List ℕ) → Type 0
+IsNoAccount given = (text : List ℕ) × ReadsAll given text × ((head : Head) (parts : List Part) → IsTextOf text head parts → ⊥)
+
+-- no account was read: memory was refused, a read failed, or all that was read is the text of none
+abbrev pub IsNotRead : Option (List ℕ) → Fault → Type 0
+IsNotRead given fault = (fault ≡ memory) ⊎ ((fault ≡ Stream) × InputFailed) ⊎ ((fault ≡ BadInput) × IsNoAccount given)
+
+-- that is told, no account changed, and nothing is printed
+pub record RefusesText (given old new : Option (List ℕ)) (result : Result (Unit {0}) Fault) (accounts later : Accounts) : Type 0 where
+  pub none : IsNoAccount given
+  pub told : result ≡ Err BadInput
+  pub stays : later ≡ accounts
+  pub silent : Keeps old new
+
+-- the word over tables
+abbrev pub DoesImport : (Fault → Type 0) → Option (List ℕ) → Option (List ℕ) → Option (List ℕ) → Result (Unit {0}) Fault → Database → Database → Type 0
+DoesImport Denied given old new result =
+    TurnsTables (λ accounts later.
+    Finishes (Makes (Brings given)) (λ fault all. IsHindered InputFailed ⊥ Denied fault ⊎ RefusesEvent (Brings given) fault all) old new result accounts later ⊎ RefusesText given old new result accounts later)
 
 -- ---- words that only read
 
@@ -378,7 +417,7 @@ ListsUntil until a text = text ≡ notice_listing (notices_until until a.notices
 abbrev pub taking : List ℕ → ℕ → Event
 taking user until = Keep user (upkeep.TakeNotices until)
 
--- none could be listed, and nothing is printed: memory was refused, the store failed, or there is no open account of the name
+-- nothing could be shown, and nothing is printed: memory was refused, the store failed, or there is no open account of the name
 abbrev pub IsUnlisted : List ℕ → Option (List ℕ) → Option (List ℕ) → Fault → Accounts → Type 0
 IsUnlisted user old new fault accounts = Keeps old new × (IsSudden ⊥ fault ⊎ ((fault ≡ no_user) × HasNoOpen user accounts))
 
@@ -403,6 +442,46 @@ IsKeptFrom Wrong Denied old new (Err fault) accounts later = IsHindered ⊥ Wron
 abbrev pub TakesNotices : (Fault → Type 0) → Option (List ℕ) → Option (List ℕ) → List ℕ → List ℕ → Result (Unit {0}) Fault → Database → Database → Type 0
 TakesNotices Denied old new user digits result =
     TurnsTables (λ accounts later. IsKeptFrom (IsNoUntil digits) Denied old new result accounts later ⊎ ((until : ℕ) × Writes digits until × TakesListed user until old new result accounts later))
+
+-- ---- `export`, which may close the account whose text it printed
+
+-- the event that closes it
+abbrev pub closing : List ℕ → Event
+closing user = Keep user upkeep.CloseAccount
+
+-- the text of the user's open account is written whole, and flushed
+abbrev pub HasExported : List ℕ → Option (List ℕ) → Option (List ℕ) → Accounts → Type 0
+HasExported user old new accounts = (text : List ℕ) × OfOpen accounts user (IsCopyOf text user) × IsPrinted (Ok tt) old new text
+
+-- it isn't: nothing is written; or it broke off, and a front of the text is
+abbrev pub IsUnprinted : List ℕ → Option (List ℕ) → Option (List ℕ) → Fault → Accounts → Type 0
+IsUnprinted user old new fault accounts = IsUnlisted user old new fault accounts ⊎ OfOpen accounts user (IsCutOff user old new fault)
+
+-- reads of a store, of which that comes
+pub record PrintsText (user : List ℕ) (out_old out_new : Option (List ℕ)) (old new : State) (result : Result (Unit {0}) Fault) : Type 0 where
+  pub keeps : KeepsStore old new result
+  pub printed : HasCleanDisk new → OverAccounts old (λ accounts. MatchResult result (λ done. HasExported user out_old out_new accounts) (λ fault. IsUnprinted user out_old out_new fault accounts))
+
+-- what becomes of the accounts behind that: nothing, or the user's was closed
+abbrev pub BecomesClosed : Bool → List ℕ → Accounts → Accounts → Type 0
+BecomesClosed false user accounts later = later ≡ accounts
+BecomesClosed true user accounts later = Next (world_of accounts) (closing user) answer.Closed (world_of later)
+
+-- the text is written, and the account isn't closed: memory was refused, the store failed, or the machine refuses to close it
+abbrev pub IsUnclosed : Bool → List ℕ → Option (List ℕ) → Option (List ℕ) → Fault → Accounts → Type 0
+IsUnclosed false user old new fault accounts = ⊥
+IsUnclosed true user old new fault accounts = HasExported user old new accounts × (IsSudden ⊥ fault ⊎ RefusesEvent (λ e. e ≡ closing user) fault accounts)
+
+-- after Ok the text is written whole and flushed, and only behind that the account was closed, where that is asked for; after a fault no account changed, and
+-- nothing is written, a front of the text, or all of it
+abbrev pub Exports : Bool → List ℕ → Option (List ℕ) → Option (List ℕ) → Result (Unit {0}) Fault → Accounts → Accounts → Type 0
+Exports closes user old new (Ok done) accounts later = HasExported user old new accounts × BecomesClosed closes user accounts later
+Exports closes user old new (Err fault) accounts later =
+    (later ≡ accounts) × (IsUnprinted user old new fault accounts ⊎ IsUnclosed closes user old new fault accounts)
+
+-- the word over tables
+abbrev pub DoesExport : (Fault → Type 0) → Option (List ℕ) → Option (List ℕ) → Bool → List ℕ → Result (Unit {0}) Fault → Database → Database → Type 0
+DoesExport Denied old new closes user result = TurnsTables (λ accounts later. IsKeptFrom ⊥ Denied old new result accounts later ⊎ Exports closes user old new result accounts later)
 
 -- ---- `init`
 
@@ -458,7 +537,7 @@ module _ (Denied : StoreLocation → Fault → Type 0) (Sunk : SinkError → Typ
   abbrev pub Idle : Type 0
   Idle = StaysAsItWas tells had has × (left ≡ given)
 
-  -- each word does its own work; only `init` makes a store, only `drain` moves messages into the sink, and only `adduser`, `passwd`, `put` and `deliver` read
+  -- each word does its own work; only `init` makes a store, only `drain` moves messages into the sink, and only `adduser`, `passwd`, `put`, `import` and `deliver` read
   abbrev pub Does : Subcommand → Result (Unit {0}) Fault → Database → Database → Type 0
   Does (word.Init a) result old new = Idle × DoesInit (Denied a.location) out_old out_new result old new
   Does (word.AddUser a) result old new =
@@ -472,6 +551,8 @@ module _ (Denied : StoreLocation → Fault → Type 0) (Sunk : SinkError → Typ
   Does (word.Put a) result old new = StaysAsItWas tells had has × DoesPut (DeniedAtEnd (Denied a.location) left) (Offered a.user.now a.script.now a.activate given) out_old out_new result old new
   Does (word.Open a) result old new = Idle × DoesEvent ⊥ ⊥ (Denied a.location) (IsKeeping a.user.now upkeep.OpenAccount) out_old out_new result old new
   Does (word.Remove a) result old new = Idle × DoesEvent ⊥ ⊥ (Denied a.location) (IsKeeping a.user.now (upkeep.RemoveAccount a.mail)) out_old out_new result old new
+  Does (word.Export a) result old new = Idle × DoesExport (Denied a.location) out_old out_new a.and_close a.user.now result old new
+  Does (word.Import a) result old new = StaysAsItWas tells had has × DoesImport (DeniedAtEnd (Denied a.location) left) given out_old out_new result old new
   Does (word.Deliver a) result old new =
       StaysAsItWas tells had has
       × DoesEvent (PostFailed (option_copied a.at) clock) (HasNoWhen (option_copied a.at) (option_copied a.zone)) (DeniedAtEnd (Denied a.location) left)
@@ -501,6 +582,8 @@ Reaches Given At (word.Scripts a) = Given a.location
 Reaches Given At (word.Put a) = Given a.location
 Reaches Given At (word.Open a) = Given a.location
 Reaches Given At (word.Remove a) = Given a.location
+Reaches Given At (word.Export a) = Given a.location
+Reaches Given At (word.Import a) = Given a.location
 Reaches Given At (word.Deliver a) = Given a.location
 Reaches Given At (word.Folders a) = Given a.location
 Reaches Given At (word.Show a) = Given a.location

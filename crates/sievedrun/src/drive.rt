@@ -12,7 +12,9 @@ ghost use Rattle.sievedrun.specs.Words.{Does, IsSaid, IsUnread, Reaches, RunsWor
 
 use crate::commands::{run_adduser, run_deliver, run_init, run_show};
 use crate::drain::run_drain;
+use crate::export::run_export;
 use crate::fault::{Fault, refuse};
+use crate::import::run_import;
 use crate::listing::run_folders;
 use crate::notices::run_notices;
 use crate::queue::{run_done, run_queue};
@@ -134,6 +136,8 @@ fn act<R: Read, W: Write, K: Keeper, T: MailSink>(
         Subcommand::Put(asked) => run_put(alloc, asked, input, output, keeper),
         Subcommand::Open(asked) => run_open(alloc, asked, output, keeper),
         Subcommand::Remove(asked) => run_remove(alloc, asked, output, keeper),
+        Subcommand::Export(asked) => run_export(alloc, asked, output, keeper),
+        Subcommand::Import(asked) => run_import(alloc, asked, input, output, keeper),
         Subcommand::Deliver(asked) => {
             run_deliver(alloc, asked, clock, default, input, output, keeper)
         },

@@ -5,6 +5,7 @@ ghost use Rattle.sievedrun.specs.declared.fault.Fault.TheVariants.{Refused};
 ghost use Rattle.sievedrun.specs.Streams.{IsWritten};
 
 use crate::stream;
+use accountfiles::ReadError;
 use keepers::Unavailable;
 use mailsinks::SinkError;
 use mailstore::Refusal;
@@ -37,7 +38,7 @@ pub enum Fault {
     /// A script isn't valid. Where a run ends so, the line that tells why is on the output, and nothing else is told.
     #[error("not valid")]
     Invalid,
-    /// The input is no count, script and message.
+    /// The input is no count, script and message, or the text of no account.
     #[error("bad input")]
     BadInput,
     /// A value that is no number or salt, or a word that is not UTF-8.
@@ -107,6 +108,7 @@ fn refusal_line(refusal: Refusal) -> &'static [u8]
         Refusal::BadScriptName => b"sieved: bad script name\n",
         Refusal::ScriptTooLarge => b"sieved: script too large\n",
         Refusal::TooManyScripts => b"sieved: too many scripts\n",
+        Refusal::BadAccount => b"sieved: bad input\n",
     }
 }
 
@@ -157,6 +159,20 @@ impl From<SinkError> for Fault {
             SinkError::Memory => Fault::Refused(Refusal::Memory),
             SinkError::NoMaildir => Fault::NoMaildir,
             SinkError::Failed => Fault::Stream,
+        }
+    }
+}
+
+impl From<ReadError> for Fault {
+    ghost use Rattle.std.specs.Prelude.{◌≡◌};
+    ghost use Rattle.sievedrun.specs.Faults.{read_fault};
+
+    ghost from_gives = { λ error fault. fault ≡ read_fault error };
+
+    fn from(error: ReadError) -> Fault {
+        match error {
+            ReadError::Memory => Fault::Refused(Refusal::Memory),
+            ReadError::NotAnAccount => Fault::BadInput,
         }
     }
 }

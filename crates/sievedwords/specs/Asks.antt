@@ -22,6 +22,8 @@ use Rattle.sievedwords.specs.declared.subcommand.scripts.Scripts.{Scripts}
 use Rattle.sievedwords.specs.declared.subcommand.put.Put.{Put}
 use Rattle.sievedwords.specs.declared.subcommand.remove.Remove.{Remove}
 use Rattle.sievedwords.specs.declared.subcommand.open.Open.{Open}
+use Rattle.sievedwords.specs.declared.subcommand.export.Export.{Export}
+use Rattle.sievedwords.specs.declared.subcommand.import.Import.{Import}
 use Rattle.sievedwords.specs.declared.subcommand.folders.Folders.{Folders}
 use Rattle.sievedwords.specs.declared.subcommand.show.Show.{Show}
 use Rattle.sievedwords.specs.declared.subcommand.queue.Queue.{Queue}
@@ -115,6 +117,14 @@ pub record IsOpen (line : CommandLine) (m : ArgMatches) (a : Open) : Type 0 wher
   pub location : IsLocation m a.location
   pub user : a.user.now ≡ text_in m (codes "name")
 
+pub record IsExport (line : CommandLine) (m : ArgMatches) (a : Export) : Type 0 where
+  pub location : IsLocation m a.location
+  pub and_close : IsFlag m (codes "and-close") a.and_close
+  pub user : a.user.now ≡ text_in m (codes "user")
+
+pub record IsImport (line : CommandLine) (m : ArgMatches) (a : Import) : Type 0 where
+  pub location : IsLocation m a.location
+
 pub record IsDeliver (line : CommandLine) (m : ArgMatches) (a : Deliver) : Type 0 where
   pub location : IsLocation m a.location
   pub from : IsAddress line (text_in m (codes "from")) a.from.now
@@ -202,6 +212,8 @@ AsksFor line m word.Scripts (asked.Scripts a) = IsScripts line m a
 AsksFor line m word.Put (asked.Put a) = IsPut line m a
 AsksFor line m word.Remove (asked.Remove a) = IsRemove line m a
 AsksFor line m word.Open (asked.Open a) = IsOpen line m a
+AsksFor line m word.Export (asked.Export a) = IsExport line m a
+AsksFor line m word.Import (asked.Import a) = IsImport line m a
 AsksFor line m word.Deliver (asked.Deliver a) = IsDeliver line m a
 AsksFor line m word.Folders (asked.Folders a) = IsFolders line m a
 AsksFor line m word.Show (asked.Show a) = IsShow line m a

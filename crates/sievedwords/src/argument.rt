@@ -46,6 +46,7 @@ pub enum Argument {
     Script,
     AnyScript,
     Activate,
+    AndClose,
     Until,
     Memory,
     Files,
@@ -92,7 +93,8 @@ impl Argument {
             | Argument::Check
             | Argument::SendEightBit
             | Argument::WithMail
-            | Argument::Activate => Form::Flag,
+            | Argument::Activate
+            | Argument::AndClose => Form::Flag,
             Argument::Db
             | Argument::From
             | Argument::To
@@ -166,6 +168,7 @@ impl Argument {
             Argument::WithMail => "mail",
             Argument::Script | Argument::AnyScript => "script",
             Argument::Activate => "activate",
+            Argument::AndClose => "and-close",
             Argument::Until => "until",
             Argument::Memory => "memory",
             Argument::Files => "file",
@@ -181,7 +184,8 @@ impl Argument {
             | Argument::Check
             | Argument::SendEightBit
             | Argument::WithMail
-            | Argument::Activate => "",
+            | Argument::Activate
+            | Argument::AndClose => "",
             Argument::Separator => ".|/",
             Argument::From | Argument::To | Argument::AnyTo => "A",
             Argument::At
@@ -250,6 +254,7 @@ impl Argument {
             Argument::Script => "The script's name",
             Argument::AnyScript => "The name of the script that is printed",
             Argument::Activate => "Makes it the active script",
+            Argument::AndClose => "Closes the account once the text is written",
             Argument::Until =>
                 "Takes the notices up to this second since 1970, once they are printed",
             Argument::Memory => "How much all connections may hold, in MiB [default: 64]",
@@ -286,6 +291,7 @@ impl Argument {
                 | Argument::WithMail
                 | Argument::AnyScript
                 | Argument::Activate
+                | Argument::AndClose
                 | Argument::Until
                 | Argument::Memory
                 | Argument::Files

@@ -10,7 +10,9 @@ pub mod daemon;
 pub mod deliver;
 pub mod done;
 pub mod drain;
+pub mod export;
 pub mod folders;
+pub mod import;
 pub mod init;
 pub mod notices;
 pub mod open;
@@ -33,7 +35,9 @@ use self::daemon::{DAEMON, Daemon};
 use self::deliver::{DELIVER, Deliver};
 use self::done::{DONE, Done};
 use self::drain::{DRAIN, Drain};
+use self::export::{EXPORT, Export};
 use self::folders::{FOLDERS, Folders};
+use self::import::{IMPORT, Import};
 use self::init::{INIT, Init};
 use self::notices::{NOTICES, Notices};
 use self::open::{OPEN, Open};
@@ -64,6 +68,8 @@ pub enum Subcommand<'a> {
     Put(Put<'a>),
     Remove(Remove<'a>),
     Open(Open<'a>),
+    Export(Export<'a>),
+    Import(Import<'a>),
     Deliver(Deliver<'a>),
     Folders(Folders<'a>),
     Show(Show<'a>),
@@ -91,6 +97,8 @@ pub enum Word {
     Put,
     Remove,
     Open,
+    Export,
+    Import,
     Deliver,
     Folders,
     Show,
@@ -107,7 +115,7 @@ pub enum Word {
 
 impl Word {
     /// All, in the order of the help.
-    pub const ALL: [Word; 22] = [
+    pub const ALL: [Word; 24] = [
         Word::Try,
         Word::Init,
         Word::AddUser,
@@ -118,6 +126,8 @@ impl Word {
         Word::Put,
         Word::Remove,
         Word::Open,
+        Word::Export,
+        Word::Import,
         Word::Deliver,
         Word::Folders,
         Word::Show,
@@ -166,6 +176,8 @@ impl Word {
             Word::Put => &PUT,
             Word::Remove => &REMOVE,
             Word::Open => &OPEN,
+            Word::Export => &EXPORT,
+            Word::Import => &IMPORT,
             Word::Deliver => &DELIVER,
             Word::Folders => &FOLDERS,
             Word::Show => &SHOW,
@@ -196,6 +208,8 @@ impl Word {
             Word::Put => Subcommand::Put(Put::read(given)),
             Word::Remove => Subcommand::Remove(Remove::read(given)),
             Word::Open => Subcommand::Open(Open::read(given)),
+            Word::Export => Subcommand::Export(Export::read(given)),
+            Word::Import => Subcommand::Import(Import::read(given)),
             Word::Deliver => Subcommand::Deliver(Deliver::read(given)),
             Word::Folders => Subcommand::Folders(Folders::read(given)),
             Word::Show => Subcommand::Show(Show::read(given)),

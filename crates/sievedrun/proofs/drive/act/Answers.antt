@@ -101,6 +101,26 @@ pub returns-in-Remove-clause-reaches : goal.returns-in-Remove-clause-reaches
 returns-in-Remove-clause-reaches g c =
     subst (λ asked. OnOk c.run_remove.result (Reaches (HasGiven g.K.Keeper.gives g.K.Keeper.will_wait) (g.T.MailSink.is_at c.args.sink.now) asked)) (sym c.in-Remove.is) (c.run_remove.ensures.given)
 
+pub returns-in-Export-clause-does : goal.returns-in-Export-clause-does
+returns-in-Export-clause-does g c tells =
+    let kept = g.T.MailSink.kept c.args.sink.now in
+    subst (λ asked. Does (HasDenied g.K.Keeper.refuses g.K.Keeper.will_wait) (HasRefused g.T.MailSink.refuses) c.args.clock c.args.random (contents c.args.default) (g.R.Read.remaining c.args.input.now) (g.R.Read.remaining c.args.input.now) g.T.MailSink.tells kept kept (g.W.Write.contents c.args.output.now) (g.W.Write.contents c.run_export.new.output) asked c.run_export.result
+    (g.K.Keeper.holds c.args.keeper.now) (g.K.Keeper.holds c.run_export.new.keeper)) (sym c.in-Export.is) (((λ told. refl), refl), c.run_export.ensures.does tells)
+
+pub returns-in-Export-clause-reaches : goal.returns-in-Export-clause-reaches
+returns-in-Export-clause-reaches g c =
+    subst (λ asked. OnOk c.run_export.result (Reaches (HasGiven g.K.Keeper.gives g.K.Keeper.will_wait) (g.T.MailSink.is_at c.args.sink.now) asked)) (sym c.in-Export.is) (c.run_export.ensures.given)
+
+pub returns-in-Import-clause-does : goal.returns-in-Import-clause-does
+returns-in-Import-clause-does g c tells =
+    let kept = g.T.MailSink.kept c.args.sink.now in
+    subst (λ asked. Does (HasDenied g.K.Keeper.refuses g.K.Keeper.will_wait) (HasRefused g.T.MailSink.refuses) c.args.clock c.args.random (contents c.args.default) (g.R.Read.remaining c.args.input.now) (g.R.Read.remaining c.run_import.new.input) g.T.MailSink.tells kept kept (g.W.Write.contents c.args.output.now) (g.W.Write.contents c.run_import.new.output) asked c.run_import.result
+    (g.K.Keeper.holds c.args.keeper.now) (g.K.Keeper.holds c.run_import.new.keeper)) (sym c.in-Import.is) ((λ told. refl), c.run_import.ensures.does tells)
+
+pub returns-in-Import-clause-reaches : goal.returns-in-Import-clause-reaches
+returns-in-Import-clause-reaches g c =
+    subst (λ asked. OnOk c.run_import.result (Reaches (HasGiven g.K.Keeper.gives g.K.Keeper.will_wait) (g.T.MailSink.is_at c.args.sink.now) asked)) (sym c.in-Import.is) (c.run_import.ensures.given)
+
 pub returns-in-Deliver-clause-does : goal.returns-in-Deliver-clause-does
 returns-in-Deliver-clause-does g c tells =
     let kept = g.T.MailSink.kept c.args.sink.now in

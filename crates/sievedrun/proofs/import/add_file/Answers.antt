@@ -1,0 +1,42 @@
+-- The store was taken, the account was put to the machine, and the store was handed back.
+use Rattle.std.proofs.Common.{◌≡◌, Err, subst, sym, rules}
+use Rattle.sqlite.specs.Held.{state}
+use Rattle.mailengine.specs.declared.answer.Answer.TheVariants.{Imported}
+use Rattle.mailengine.specs.declared.event.Event.TheVariants.{Import}
+use Rattle.sievedrun.specs.Draining.{TurnsTables}
+use Rattle.sievedrun.specs.Serving.{HasDenied}
+use Rattle.sievedrun.specs.Words.{Puts}
+use Rattle.sievedrun.specs.declared.fault.Fault.TheVariants.{Refused}
+use Rattle.sievedrun.proofs.ImportLemmas.{import_made, import_refused}
+use Rattle.sievedrun.proofs.WordLemmas.{carried_turned, put_denied}
+use Rattle.sievedrun.proofs.import.add_file.Goals as goal
+
+pub returns-in_err-store-clause-puts : goal.returns-in_err-store-clause-puts
+returns-in_err-store-clause-puts g c tells =
+    put_denied (HasDenied g.K.Keeper.refuses g.K.Keeper.will_wait c.args.location) (Import c.args.file.now) (λ done. Imported) c.in_err-store.field-0.0 c.from_residual.result (search rules)
+    c.in_err-store.ensures.denied (g.K.Keeper.holds c.args.keeper.now) (g.K.Keeper.holds c.take_store.new.keeper) (c.in_err-store.ensures.refused tells)
+
+pub returns-in_err-added-clause-puts : goal.returns-in_err-added-clause-puts
+returns-in_err-added-clause-puts g c tells =
+    let got = c.in_ok-store.ensures.taken tells in
+    let sure = g.met.K.Keeper.sure c.import-added.new.store tells in
+    let Denied = HasDenied g.K.Keeper.refuses g.K.Keeper.will_wait c.args.location in
+    let refusal = c.in_err-added.field-0.0 in
+    let is : c.from_residual-in_err-added.result ≡ Err (Refused refusal) = search rules in
+    subst (λ r. TurnsTables (Puts Denied (Import c.args.file.now) (λ done. Imported) r) (g.K.Keeper.holds c.args.keeper.now) (g.K.Keeper.holds c.hand_back.new.self)) (sym is)
+    (carried_turned (g.K.Keeper.holds c.args.keeper.now) (g.K.Keeper.holds c.hand_back.new.self) (state g.K.S.Store c.in_ok-store.store) (state g.K.S.Store c.import-added.new.store) got.0 got.2 sure.0 sure.1
+    (c.hand_back.ensures.held tells) (Puts {X = Unit {0}} Denied (Import c.args.file.now) (λ done. Imported) (Err (Refused refusal)))
+    (λ clean accounts shown.
+    let turned = c.in_err-added.ensures.acts.carries clean accounts shown in
+    (turned.0, import_refused Denied c.args.file.now refusal accounts turned.0 turned.1, turned.2)))
+
+pub returns-clause-puts : goal.returns-clause-puts
+returns-clause-puts g c tells =
+    let got = c.in_ok-store.ensures.taken tells in
+    let sure = g.met.K.Keeper.sure c.import-added.new.store tells in
+    let Denied = HasDenied g.K.Keeper.refuses g.K.Keeper.will_wait c.args.location in
+    carried_turned (g.K.Keeper.holds c.args.keeper.now) (g.K.Keeper.holds c.hand_back.new.self) (state g.K.S.Store c.in_ok-store.store) (state g.K.S.Store c.import-added.new.store) got.0 got.2 sure.0 sure.1
+    (c.hand_back.ensures.held tells) _
+    (λ clean accounts shown.
+    let turned = c.in_ok-added.ensures.acts.carries clean accounts shown in
+    (turned.0, import_made Denied c.args.file.now tt accounts turned.0 turned.1, turned.2))

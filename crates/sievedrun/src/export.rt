@@ -1,0 +1,126 @@
+//! The word that prints an account as a text, and may close it behind that.
+ghost use Rattle.std.specs.Prelude.{◌≡◌, ◌+◌, ◌<◌, false, length, IsTrue, OnOk};
+ghost use Rattle.accountfiles.specs.Writing.{text_in};
+ghost use Rattle.sqlite.specs.Held.{state};
+ghost use Rattle.sievedrun.specs.Exports.{PutsParts};
+ghost use Rattle.sievedrun.specs.Faults.{IsPut};
+ghost use Rattle.sievedrun.specs.Serving.{HasDenied, HasGiven};
+ghost use Rattle.sievedrun.specs.Words.{DoesExport, Exports, PrintsText, TurnsStore};
+
+use crate::commands::take_store;
+use crate::fault::Fault;
+use crate::stream::{put, write_all};
+use crate::upkeep::done_by;
+use accountcopies::{Contents, list_contents, read_part};
+use accountfiles::{Line, Writer};
+use keepers::Keeper;
+use mailengine::{Upkeep, keep};
+use mailstore::Store;
+use sievedwords::Export;
+use sqlite::Alter;
+use std::alloc::Global;
+use std::io::Write;
+
+/// `export`: the text of the user's account, which is closed behind it where that is asked for, in one holding of the store.
+///
+/// Time is linear in the text. Memory is that of the names and numbers of what the account has, and of its largest text or message.
+pub fn run_export<W: Write, K: Keeper>(
+    alloc: Global,
+    asked: Export<'_>,
+    output: &mut W,
+    keeper: &mut K,
+) -> Result<(), Fault>
+    ensures back { K.is_out keeper.old ≡ false → K.is_out keeper.new ≡ false }
+    ensures does { IsTrue K.tells → DoesExport (HasDenied K.refuses K.will_wait asked.entry.location) (W.contents output.old) (W.contents output.new)
+        asked.entry.and_close asked.entry.user.now result (K.holds keeper.old) (K.holds keeper.new) }
+    ensures given { OnOk result (HasGiven K.gives K.will_wait asked.entry.location) }
+{
+    let mut store = take_store(asked.location, false, keeper)?;
+    let exported = export(
+        alloc,
+        &mut store,
+        asked.user.as_bytes(),
+        asked.and_close,
+        output,
+    );
+    keeper.hand_back(store);
+    exported
+}
+
+/// Prints the text of the user's account, and closes it once that is written and flushed, where that is asked for.
+fn export<S: Alter, W: Write>(
+    alloc: Global,
+    store: &mut Store<S>,
+    user: &[u8],
+    closes: bool,
+    output: &mut W,
+) -> Result<(), Fault>
+    ensures { TurnsStore (Exports closes user.now (W.contents output.old) (W.contents output.new) result) (state S.Store store.old) (state S.Store store.new) }
+{
+    print_text(alloc, store, user, output)?;
+    if !closes {
+        return Ok(());
+    }
+    done_by(keep(alloc, store, user, &Upkeep::CloseAccount))
+}
+
+/// Prints the text of the user's account, a part at a time, and flushes.
+fn print_text<S: Alter, W: Write>(
+    alloc: Global,
+    store: &mut Store<S>,
+    user: &[u8],
+    output: &mut W,
+) -> Result<(), Fault>
+    ensures { PrintsText user.now (W.contents output.old) (W.contents output.new) (state S.Store store.old) (state S.Store store.new) result }
+{
+    let contents = list_contents(alloc, store, user)?;
+    let (mut writer, head) = Writer::begin(alloc, &contents.head)?;
+    put(output, head.as_slice())?;
+    put_parts(alloc, store, &contents, &mut writer, output)?;
+    let end = writer.end(alloc)?;
+    write_all(output, end.as_slice())
+}
+
+/// Reads each part, and puts its line.
+fn put_parts<S: Alter, W: Write>(
+    alloc: Global,
+    store: &mut Store<S>,
+    contents: &Contents,
+    writer: &mut Writer,
+    output: &mut W,
+) -> Result<(), Fault>
+    ensures { PutsParts contents.now 0 (length contents.now.places) writer.old writer.new (W.contents output.old) (W.contents output.new)
+        (state S.Store store.old) (state S.Store store.new) result }
+{
+    for at in 0..contents.places.len() {
+        put_part(alloc, store, contents, at, writer, output)?;
+    }
+    Ok(())
+}
+
+/// Reads the part at a place, and puts its line.
+fn put_part<S: Alter, W: Write>(
+    alloc: Global,
+    store: &mut Store<S>,
+    contents: &Contents,
+    at: usize,
+    writer: &mut Writer,
+    output: &mut W,
+) -> Result<(), Fault>
+    requires { at < length contents.now.places }
+    ensures { PutsParts contents.now at (at + 1) writer.old writer.new (W.contents output.old) (W.contents output.new)
+        (state S.Store store.old) (state S.Store store.new) result }
+{
+    let part = read_part(alloc, store, contents, at)?;
+    let line = writer.part(alloc, &part)?;
+    put_pieces(output, &line)
+}
+
+/// Puts a line, which isn't flushed yet.
+fn put_pieces<W: Write>(output: &mut W, line: &Line<'_>) -> Result<(), Fault>
+    ensures { IsPut result (W.contents output.old) (W.contents output.new) (text_in line.now) }
+{
+    put(output, line.front.as_slice())?;
+    put(output, line.last)?;
+    put(output, line.back)
+}

@@ -1,0 +1,73 @@
+//! The word that adds the account of a text.
+ghost use Rattle.std.specs.Prelude.{◌≡◌, ◌≢◌, ◌⊎◌, false, IsTrue, IfErr, IfOk, OnOk};
+ghost use Rattle.std.specs.Io.KnownBytes.{IsAtEnd};
+ghost use Rattle.mailengine.specs.declared.answer.Answer.TheVariants.{Imported};
+ghost use Rattle.mailengine.specs.declared.event.Event.TheVariants as machine;
+ghost use Rattle.sievedrun.specs.Draining.{TurnsTables};
+ghost use Rattle.sievedrun.specs.Promise.{status_after};
+ghost use Rattle.sievedrun.specs.Serving.{HasDenied, HasGiven};
+ghost use Rattle.sievedrun.specs.Streams.{ReadsToEnd};
+ghost use Rattle.sievedrun.specs.Words.{Brings, DeniedAtEnd, DoesImport, IsNotRead, Puts};
+
+use crate::commands::take_store;
+use crate::fault::Fault;
+use crate::stream::{read_all, write_line};
+use accountfiles::AccountFile;
+use keepers::Keeper;
+use sievedwords::{Import, StoreLocation};
+use std::alloc::Global;
+use std::io::{Read, Write};
+
+/// `import`: the account whose text is the input is added.
+///
+/// Time is linear in the text. Memory is that of the text and of its parts, and, once the text is let go, of its parts and of what the
+/// transaction takes.
+pub fn run_import<R: Read, W: Write, K: Keeper>(
+    alloc: Global,
+    asked: Import<'_>,
+    input: &mut R,
+    output: &mut W,
+    keeper: &mut K,
+) -> Result<(), Fault>
+    ensures unread { status_after result ≡ 64 → input.new ≡ input.old }
+    ensures reads { OnOk result (ReadsToEnd R.remaining input.old input.new) }
+    ensures back { K.is_out keeper.old ≡ false → K.is_out keeper.new ≡ false }
+    ensures does { IsTrue K.tells → DoesImport (DeniedAtEnd (HasDenied K.refuses K.will_wait asked.entry.location) (R.remaining input.new)) (R.remaining input.old)
+        (W.contents output.old) (W.contents output.new) result (K.holds keeper.old) (K.holds keeper.new) }
+    ensures given { OnOk result (HasGiven K.gives K.will_wait asked.entry.location) }
+{
+    let file = read_file(alloc, input)?;
+    add_file(alloc, asked.location, &file, keeper)?;
+    write_line(output, b"imported ", file.head.owner.name.as_slice())
+}
+
+/// The account whose text is all of the input.
+fn read_file<R: Read>(alloc: Global, input: &mut R) -> Result<AccountFile, Fault>
+    ensures late { status_after result ≢ 64 }
+    ensures read { IfOk result (λ file. Brings (R.remaining input.old) (machine.Import file)) }
+    ensures end { OnOk result (IsAtEnd (R.remaining input.new)) }
+    ensures reads { OnOk result (ReadsToEnd R.remaining input.old input.new) }
+    ensures fault { IfErr result (IsNotRead (R.remaining input.old)) }
+{
+    let octets = read_all(alloc, input)?;
+    Ok(accountfiles::read(alloc, octets.as_slice())?)
+}
+
+/// The account is added, in a store that is taken and handed back.
+fn add_file<K: Keeper>(
+    alloc: Global,
+    location: StoreLocation<'_>,
+    file: &AccountFile,
+    keeper: &mut K,
+) -> Result<(), Fault>
+    ensures late { status_after result ≢ 64 }
+    ensures back { K.is_out keeper.old ≡ false → K.is_out keeper.new ≡ false }
+    ensures puts { IsTrue K.tells → TurnsTables
+        (Puts (HasDenied K.refuses K.will_wait location.entry) (machine.Import file.now) (λ done. Imported) result) (K.holds keeper.old) (K.holds keeper.new) }
+    ensures given { OnOk result (HasGiven K.gives K.will_wait location.entry) }
+{
+    let mut store = take_store(location, false, keeper)?;
+    let added = mailengine::import(alloc, &mut store, file);
+    keeper.hand_back(store);
+    Ok(added?)
+}
