@@ -128,6 +128,7 @@ abbrev pub IsFirst : Option BorrowedLexeme → List Lexeme → Type 0
 IsFirst None lexemes = lexemes ≡ []
 IsFirst (Some first) lexemes = (more : List Lexeme) × (lexemes ≡ lexeme_view first ∷ more)
 
--- one lexeme is passed
-abbrev pub Passes : List Lexeme → List Lexeme → Type 0
-Passes from to = (first : Lexeme) × (from ≡ first ∷ to)
+-- what is read, where the first of it was read apart; nothing where nothing was
+abbrev pub with_first : Option BorrowedLexeme → List Lexeme → List Lexeme
+with_first None more = []
+with_first (Some first) more = lexeme_view first ∷ more

@@ -1,5 +1,5 @@
 //! Arguments, by the grammar alone (RFC 5228, 8.2).
-ghost use Rattle.std.specs.Prelude.{◌≡◌, ℕ, List, [], ◌∷◌, ◌++◌, Result, Ok, Some, None, MatchOption, IfOk, true, false};
+ghost use Rattle.std.specs.Prelude.{◌≡◌, ℕ, List, [], ◌∷◌, ◌++◌, Result, Ok, Some, None, MatchBool, MatchOption, IfOk, true, false};
 ghost use Rattle.sievelex.specs.declared.token.Mark.TheVariants as K;
 ghost use Rattle.sievelex.specs.Encoded.{decoded};
 ghost use Rattle.sievesyntax.specs.Lexemes.{Lexemes, text, mark};
@@ -53,31 +53,34 @@ fn read_argument<'a>(
     ensures begun { IfFault result (IsEnd reader.old → ⊥) }
     ensures fault { IfFault result (StandsNowhere IsArgument reader.old) }
 {
-    let Some((lexeme, after)) = reader.split_first() else {
+    if !begins_argument(reader) {
+        return Ok(None);
+    }
+    let Some(lexeme) = reader.next() else {
         return Ok(None);
     };
     match lexeme {
-        Lexeme::Tag(tag) => {
-            *reader = after;
-            Ok(Some(Argument::Tag(tag)))
-        }
-        Lexeme::Number(number) => {
-            *reader = after;
-            Ok(Some(Argument::Number(number)))
-        }
-        Lexeme::Text(string) => {
-            *reader = after;
-            Ok(Some(Argument::Text(Said::in_text(string))))
-        }
+        Lexeme::Tag(tag) => { Ok(Some(Argument::Tag(tag))) }
+        Lexeme::Number(number) => { Ok(Some(Argument::Number(number))) }
+        Lexeme::Text(string) => { Ok(Some(Argument::Text(Said::in_text(string)))) }
         Lexeme::Encoded(written) => {
-            *reader = after;
             Ok(Some(Argument::Text(Said::apart(read_encoded(alloc, written)?))))
         }
         Lexeme::Mark(Mark::OpenBracket) => {
-            *reader = after;
             Ok(Some(Argument::Strings(read_strings(alloc, reader)?)))
         }
         _ => Ok(None),
+    }
+}
+
+/// Whether an argument begins here.
+fn begins_argument(reader: &Reader<'_>) -> bool
+    ensures { MatchBool result (IsEnd reader.now → ⊥) (IsEnd reader.now) }
+{
+    match reader.first() {
+        None | Some(Lexeme::Keyword(_)) => false,
+        Some(Lexeme::Mark(mark)) => mark == Mark::OpenBracket,
+        Some(_) => true,
     }
 }
 
@@ -112,10 +115,9 @@ pub(crate) fn read_separator(reader: &mut Reader<'_>, close: Mark) -> Result<boo
     ensures no_comma { IfFault result ((to : Lexemes) → reader.old ≡ mark K.Comma ∷ to → ⊥) }
     ensures no_close { IfFault result ((to : Lexemes) → reader.old ≡ mark close ∷ to → ⊥) }
 {
-    let Some((lexeme, after)) = reader.split_first() else {
+    let Some(lexeme) = reader.next() else {
         return Err(ReadError::Fault(FaultKind::Unexpected));
     };
-    *reader = after;
     match lexeme {
         Lexeme::Mark(mark) if mark == Mark::Comma => Ok(true),
         Lexeme::Mark(mark) if mark == close => Ok(false),
@@ -128,10 +130,9 @@ fn read_text<'a>(alloc: Global, reader: &mut Reader<'a>) -> Result<Said<'a>, Rea
     ensures found { IfOk result (λ string. reader.old ≡ text string ∷ reader.new) }
     ensures fault { IfFault result ((string : List ℕ) (to : Lexemes) → reader.old ≡ text string ∷ to → ⊥) }
 {
-    let Some((lexeme, after)) = reader.split_first() else {
+    let Some(lexeme) = reader.next() else {
         return Err(ReadError::Fault(FaultKind::Unexpected));
     };
-    *reader = after;
     match lexeme {
         Lexeme::Text(string) => Ok(Said::in_text(string)),
         Lexeme::Encoded(written) => Ok(Said::apart(read_encoded(alloc, written)?)),

@@ -199,7 +199,7 @@ fn take_elsif(reader: &mut Reader<'_>) -> bool
     ensures { MatchBool result (reader.old ≡ keyword W.Elsif ∷ reader.new) (IsPastElsif reader.old × (reader.new ≡ reader.old)) }
 {
     match reader.first() {
-        Some(Lexeme::Keyword(Keyword::Elsif)) => reader.pass(),
+        Some(Lexeme::Keyword(Keyword::Elsif)) => reader.next().is_some(),
         _ => false,
     }
 }
@@ -209,7 +209,7 @@ fn take_else(reader: &mut Reader<'_>) -> bool
     ensures { MatchBool result (reader.old ≡ keyword W.Else ∷ reader.new) (IsPastElse reader.old × (reader.new ≡ reader.old)) }
 {
     match reader.first() {
-        Some(Lexeme::Keyword(Keyword::Else)) => reader.pass(),
+        Some(Lexeme::Keyword(Keyword::Else)) => reader.next().is_some(),
         _ => false,
     }
 }

@@ -72,7 +72,7 @@ fn take_require(reader: &mut Reader<'_>) -> bool
     ensures { MatchBool result (reader.old ≡ keyword W.Require ∷ reader.new) (IsPastRequires reader.old × (reader.new ≡ reader.old)) }
 {
     match reader.first() {
-        Some(Lexeme::Keyword(Keyword::Require)) => reader.pass(),
+        Some(Lexeme::Keyword(Keyword::Require)) => reader.next().is_some(),
         _ => false,
     }
 }
