@@ -1,5 +1,5 @@
 //! The tokens of a text in little memory: what they are and what they say, without their places.
-ghost use Rattle.std.specs.Prelude.{◌≡◌, ◌+◌, ◌≤◌, ℕ, List, [], ◌∷◌, ◌++◌, length, take, drop, slice_index, IfOk, OnOk, MatchOption};
+ghost use Rattle.std.specs.Prelude.{◌≡◌, ◌+◌, ◌^◌, ◌<◌, ◌≤◌, ℕ, List, [], ◌∷◌, ◌++◌, length, take, drop, slice_index, IfOk, OnOk, MatchOption};
 ghost use Rattle.sievelex.specs.declared.token.Token.{Token};
 ghost use Rattle.sievelex.specs.Finding.{IfFault, IfFaultLine};
 ghost use Rattle.sievelex.specs.Spelling.{SpellsFrom, Spells};
@@ -128,7 +128,8 @@ impl<'a> Model for Cursor<'a> {
 impl<'a> Cursor<'a> {
     /// How many tokens are left.
     pub fn left(&self) -> usize
-        ensures { result ≡ length self.now }
+        ensures left { result ≡ length self.now }
+        ensures small { result < 2 ^ 63 }
     {
         self.kinds.len()
     }
