@@ -84,12 +84,8 @@ def simulate(users, machines, seed):
     sums = loads(even, messages, machines)
     told("and moved until none has 5 % over the mean", sums, moves, users)
     lost = max(range(machines), key=lambda it: sums[it])
-    twice = list(sums)
-    twice[(lost + 1) % machines] += twice.pop(lost) if (lost + 1) % machines < lost else 0
-    if len(twice) == machines:
-        at = (lost + 1) % machines
-        twice[at] += twice[lost]
-        twice.pop(lost)
+    twice = [sums[it] for it in range(machines) if it != lost]
+    twice[0] += sums[lost]
     told("one is lost, and a machine that has its replica serves both", twice, 0, users)
     gone = [user for user in range(users) if even[user] == lost]
     others = [it for it in range(machines) if it != lost]
