@@ -1,13 +1,14 @@
 -- The parts of an account make it again.
-use Rattle.std.proofs.Common.{◌≡◌, ◌<◌, ◌==◌, ◌++◌, ℕ, Bool, true, false, cond, List, [], ◌∷◌, map, fold, append-nil, Option, Some, None, eqb-true, refl, sym, ap, ap₂, ◌∙◌}
+use Rattle.std.proofs.Common.{◌≡◌, ◌<◌, ◌==◌, ◌++◌, ℕ, Bool, true, false, cond, List, [], ◌∷◌, map, fold, append-nil, Option, Some, None, eqb-true, refl, sym, ap, ap₂, ◌∙◌, is_eq, true≢false, filter}
 use Rattle.std.specs.List.{flat_map, AllByRecursion}
-use Rattle.std.specs.FinMap.{FinMap, empty, entries, insert}
+use Rattle.std.specs.FinMap.{empty, entries, get, get-empty, get-insert, insert}
+use Rattle.std.proofs.lemmas.Bool.{false_from_ne_true}
 use Rattle.std.proofs.lemmas.Cmp.{nat_list_cmp_total}
 use Rattle.std.proofs.lemmas.Grind.{flat_map-append}
 use Rattle.std.proofs.lemmas.List.Folds.{fold-map}
 use Rattle.std.proofs.lemmas.List.Sums.{fold-append}
 use Rattle.sqlite_trees.specs.Tree.{IsAscending}
-use Rattle.sqlite_keyed.proofs.ListLemmas.{all_weaker}
+use Rattle.sqlite_keyed.proofs.ListLemmas.{all_both, all_weaker}
 use Rattle.sqlite_rules.specs.Lists.{Has}
 use Rattle.accountfiles.specs.declared.part.Part.{Part}
 use Rattle.accountfiles.specs.declared.part.Part.TheVariants.{Script, Reply, Mail, Copy, Letter, Notice}
@@ -15,15 +16,17 @@ use Rattle.mailtables.specs.declared.queue.Kind.{Kind}
 use Rattle.mailtables.specs.declared.queue.Kind.TheVariants as kind
 use Rattle.mailstore.specs.declared.notice.Notice.{Notice as KeptNotice}
 use Rattle.mailstore.specs.declared.queue.Outgoing.{Outgoing}
-use Rattle.mailstore.specs.Account.{bytes_cmp, reply_cmp, Account, Folders, Replies, Scripts, filed}
+use Rattle.mailstore.specs.Account.{bytes_cmp, reply_cmp, Account, Folders, Replies, Scripts, filed, latest}
 use Rattle.mailstore.specs.CopyRows.{Copy as KeptCopy, folders_from, message_of}
 use Rattle.mailstore.specs.MessageRows.{Message, message_row}
+use Rattle.mailstore.specs.ScriptRows.{AreApart}
 use Rattle.mailstore.specs.Whole.{scripts_with, replies_with, kind_of, letters_in, notices_in, octets_after, copies_in_part, copies_of, whole}
 use Rattle.mailstore.proofs.AccountLemmas.{bytes_antisymmetric, reply_total, reply_antisymmetric}
+use Rattle.mailstore.proofs.MapLemmas.{tied}
 use Rattle.mailstore.proofs.NumberLemmas.{alone_at}
 use Rattle.accountcopies.specs.declared.run.Run.{Run}
 use Rattle.accountcopies.specs.Parts.{head_of, goes_on, first_in, run_with, script_part, reply_part, copy_part, copy_parts, way_of, letter_part, notice_part, parts_of}
-use Rattle.accountcopies.proofs.PutLemmas.{put_all, put_entries}
+use Rattle.accountcopies.proofs.PutLemmas.{entries_apart, put_all, put_entries}
 
 -- ---- what parts of one kind leave as it is
 
@@ -57,6 +60,24 @@ none_in_copies f mail copy run (c ∷ cs) = ap₂ ◌++◌ (go (goes_on run c.id
     go true = copy c.n c.folder (first_in run c.n c.id)
     go false = mail c.n c.folder c.message
 
+-- ---- moments
+
+-- a moment whose key is new stays as it is
+later_free : (m : Replies) (e d : (List ℕ × List ℕ) × ℕ) → (e.0 ≡ d.0 → ⊥) → get m d.0 ≡ None → get (insert m e.0 e.1) d.0 ≡ None
+later_free m e d apart none =
+    let other = false_from_ne_true (is_eq (reply_cmp d.0 e.0)) (λ same. apart (sym (tied reply_cmp reply_total reply_antisymmetric d.0 e.0 same))) in
+    get-insert reply_total m e.0 e.1 d.0 ∙ ap (λ b. cond b (Some e.1) (get m d.0)) other ∙ none
+
+replies_put : (es : List ((List ℕ × List ℕ) × ℕ)) (m : Replies) → AreApart es → AllByRecursion (λ e. get m e.0 ≡ None) es → fold replies_with m (map reply_part es) ≡ put_all reply_cmp reply_total reply_antisymmetric m es
+replies_put [] m apart free = refl
+replies_put (e ∷ es) m apart free =
+    ap (λ n. fold replies_with n (map reply_part es)) (ap (λ o. insert m e.0 (latest o e.1)) free.0)
+    ∙ replies_put es (insert m e.0 e.1) apart.1 (all_both (λ d. get m d.0 ≡ None) (λ d. e.0 ≡ d.0 → ⊥) (λ d. get (insert m e.0 e.1) d.0 ≡ None) (λ d none differ. later_free m e d differ none) es free.1 apart.0)
+
+all_free : (es : List ((List ℕ × List ℕ) × ℕ)) → AllByRecursion (λ e. get (empty {X = ℕ} {R = reply_cmp}) e.0 ≡ None) es
+all_free [] = tt
+all_free (e ∷ es) = (get-empty reply_cmp e.0, all_free es)
+
 -- ---- folders
 
 -- where a copy is, and its octets
@@ -77,7 +98,7 @@ one_message : (ms : List Message) → IsAscending (λ x y. x.id < y.id) ms → (
 one_message ms rise m n here there same =
     let one = alone_at (λ (x : Message). x.id) (message_row []) ms rise m here in
     let two = alone_at (λ (x : Message). x.id) (message_row []) ms rise n there in
-    let both : m ∷ [] ≡ n ∷ [] = sym one ∙ ap (λ i. Rattle.std.proofs.Common.filter (λ (y : Message). y.id == i) ms) same ∙ two in
+    let both : m ∷ [] ≡ n ∷ [] = sym one ∙ ap (λ i. filter (λ (y : Message). y.id == i) ms) same ∙ two in
     cc
 
 pub alike : (ms : List Message) → IsAscending (λ x y. x.id < y.id) ms → (cs : List KeptCopy) → AllByRecursion (λ c. Has ms (message_of c)) cs → AreAlike cs
@@ -89,21 +110,19 @@ alike ms rise (c ∷ cs) present = (
 
 copies_again : (run : Option Run) (last : List ℕ) (cs : List KeptCopy) → AreAlike cs → AllByRecursion (λ d. goes_on run d.id ≡ true → d.message ≡ last) cs → map said (copies_of last (copy_parts run cs)) ≡ map said cs
 copies_again run last [] same all = refl
-copies_again run last (c ∷ cs) same all = go (goes_on run c.id) refl
+copies_again run last (c ∷ cs) same all = go (goes_on run c.id) refl (λ l more. copies_again (Some (run_with run c.n c.id)) l cs same.1 more)
   where
-    next : Option Run
-    abbrev next = Some (run_with run c.n c.id)
+    -- of those that go on with this one's run
+    alike_to : (l : List ℕ) → c.message ≡ l → AllByRecursion (λ d. goes_on (Some (run_with run c.n c.id)) d.id ≡ true → d.message ≡ l) cs
+    alike_to l is =
+        all_weaker (λ d. c.id ≡ d.id → c.message ≡ d.message) (λ d. goes_on (Some (run_with run c.n c.id)) d.id ≡ true → d.message ≡ l) (λ d told on. sym (told (sym (eqb-true d.id c.id on))) ∙ is) cs same.0
 
-    go : (b : Bool) → goes_on run c.id ≡ b → map said (copies_of last (cond b (Copy c.n c.folder (first_in run c.n c.id)) (Mail c.n c.folder c.message) ∷ copy_parts (Some (run_with run c.n c.id)) cs)) ≡ said c ∷ map said cs
-    go true on =
-        let last_is = all.0 on in
-        ap₂ ◌∷◌ (ap (λ m. (c.folder, m)) (sym last_is))
-        (copies_again (Some (run_with run c.n c.id)) last cs same.1
-        (all_weaker (λ d. c.id ≡ d.id → c.message ≡ d.message) (λ d. goes_on (Some (run_with run c.n c.id)) d.id ≡ true → d.message ≡ last) (λ d told is. sym (told (sym (eqb-true d.id c.id is))) ∙ last_is) cs same.0))
-    go false off =
-        ap (λ l. said c ∷ l)
-        (copies_again (Some (run_with run c.n c.id)) c.message cs same.1
-        (all_weaker (λ d. c.id ≡ d.id → c.message ≡ d.message) (λ d. goes_on (Some (run_with run c.n c.id)) d.id ≡ true → d.message ≡ c.message) (λ d told is. sym (told (sym (eqb-true d.id c.id is)))) cs same.0))
+    go : (b : Bool) → goes_on run c.id ≡ b → ((l : List ℕ) → AllByRecursion (λ d. goes_on (Some (run_with run c.n c.id)) d.id ≡ true → d.message ≡ l) cs → map said (copies_of l (copy_parts (Some (run_with run c.n c.id)) cs)) ≡ map said cs)
+        → map said (copies_of last (cond b (Copy c.n c.folder (first_in run c.n c.id)) (Mail c.n c.folder c.message) ∷ copy_parts (Some (run_with run c.n c.id)) cs)) ≡ said c ∷ map said cs
+    go true on more =
+        let here : c.message ≡ last = all.0 on in
+        ap₂ ◌∷◌ (ap (λ m. (c.folder, m)) (sym here)) (more last (alike_to last here))
+    go false off more = ap (λ l. said c ∷ l) (more c.message (alike_to c.message refl))
 
 -- parts that are no copies
 passed : {X : Type 0} (g : X → Part) → ((last : List ℕ) (x : X) → copies_in_part last (g x) ≡ []) → ((last : List ℕ) (x : X) → octets_after last (g x) ≡ last) → (last : List ℕ) (xs : List X) (rest : List Part)
@@ -150,7 +169,7 @@ module _ (a : Account) (copies : List KeptCopy) (notices : List (ℕ × KeptNoti
       fold-append replies_with m (map script_part (entries a.scripts)) moments
       ∙ ap (λ s. fold replies_with s moments) (fold_kept replies_with script_part (λ s x. refl) m (entries a.scripts))
       ∙ fold-append replies_with m (map reply_part (entries a.replies)) mail
-      ∙ ap (λ s. fold replies_with s mail) (fold-map replies_with reply_part m (entries a.replies) ∙ put_entries reply_cmp reply_total reply_antisymmetric a.replies)
+      ∙ ap (λ s. fold replies_with s mail) (replies_put (entries a.replies) m (entries_apart reply_cmp reply_total reply_antisymmetric a.replies) (all_free (entries a.replies)) ∙ put_entries reply_cmp reply_total reply_antisymmetric a.replies)
       ∙ fold-append replies_with a.replies (copy_parts None copies) out
       ∙ ap (λ s. fold replies_with s out) (fold_copies replies_with (λ s n folder message. refl) (λ s n folder first. refl) None copies a.replies)
       ∙ fold-append replies_with a.replies (map letter_part a.queue) (map notice_part notices)
@@ -193,7 +212,7 @@ module _ (a : Account) (copies : List KeptCopy) (notices : List (ℕ × KeptNoti
     where
       never : (cs : List KeptCopy) → AllByRecursion (λ d. goes_on None d.id ≡ true → d.message ≡ []) cs
       never [] = tt
-      never (c ∷ cs) = ((λ no. absurd (Rattle.std.proofs.Common.true≢false (sym no))), never cs)
+      never (c ∷ cs) = ((λ no. absurd (true≢false (sym no))), never cs)
 
   -- ---- all of it
 

@@ -108,15 +108,18 @@ run_on r last knows n id on = ap (λ b. has_come (cond b r.first n) last) on ∙
 
 joined_copies : (rest : List Part) → ((last : Option Part) → Joined last rest) → (run : Option Run) (last : Option Part) → IsRunOf run last → (cs : List KeptCopy) → Joined last (copy_parts run cs ++ rest)
 joined_copies rest more run last knows [] = more last
-joined_copies rest more run last knows (c ∷ cs) = go (goes_on run c.id) refl
+joined_copies rest more run last knows (c ∷ cs) = go (goes_on run c.id) refl (λ p known. joined_copies rest more (Some (run_with run c.n c.id)) (Some p) known cs)
   where
-    go : (b : Bool) → goes_on run c.id ≡ b → Joined last (cond b (Copy c.n c.folder (first_in run c.n c.id)) (Mail c.n c.folder c.message) ∷ (copy_parts (Some (run_with run c.n c.id)) cs ++ rest))
-    go true on =
+    go : (b : Bool) → goes_on run c.id ≡ b → ((p : Part) → IsRunOf (Some (run_with run c.n c.id)) (Some p) → Joined (Some p) (copy_parts (Some (run_with run c.n c.id)) cs ++ rest))
+        → Joined last (cond b (Copy c.n c.folder (first_in run c.n c.id)) (Mail c.n c.folder c.message) ∷ (copy_parts (Some (run_with run c.n c.id)) cs ++ rest))
+    go true on later =
         let r = run_with run c.n c.id in
-        (knows c.n c.id on, joined_copies rest more (Some r) (Some (Copy c.n c.folder r.first)) (run_on r (Some (Copy c.n c.folder r.first)) (eq-eqb r.first r.first refl)) cs)
-    go false off =
+        let p = Copy c.n c.folder r.first in
+        (knows c.n c.id on, later p (run_on r (Some p) (eq-eqb r.first r.first refl)))
+    go false off later =
         let r = run_with run c.n c.id in
-        (refl, joined_copies rest more (Some r) (Some (Mail c.n c.folder c.message)) (run_on r (Some (Mail c.n c.folder c.message)) (eq-eqb c.n r.first (sym (first_new run c.n c.id off)))) cs)
+        let p = Mail c.n c.folder c.message in
+        (refl, later p (run_on r (Some p) (eq-eqb c.n r.first (sym (first_new run c.n c.id off)))))
 
 -- ---- all of it
 

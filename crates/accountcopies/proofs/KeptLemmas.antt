@@ -32,15 +32,19 @@ pub record Learns (user : List ℕ) (P : Database → Account → Type 0) (a b :
   pub found : HasCleanDisk b → OverAccounts a (λ accounts. IfSome (get accounts user) (P a.now))
   pub keeps : Keeps {X = Unit {0}} {E = Refusal} a b (Ok tt)
 
+-- both hold
+abbrev pub Both : (P Q : Database → Account → Type 0) → Database → Account → Type 0
+Both P Q db account = P db account × Q db account
+
 pub learned : {X : Type 0} (user : List ℕ) (P : X → Database → Account → Type 0) (a b : State) (r : Result X Refusal) (x : X) → r ≡ Ok x → ReadsEntered user (λ y. P y a.now) a b r → Learns user (P x) a b
 learned user P a b r x was h = record {
   found = λ clean accounts p. subst (λ o. IfOk o (λ y. IfSome (get accounts user) (P y a.now))) was (h.found clean accounts p);
   keeps = keeps_ok a b r x (Ok tt) was h.keeps;
 }
 
-both_hold : {P Q : Account → Type 0} (o : Option Account) → IfSome o P → IfSome o Q → IfSome o (λ account. P account × Q account)
-both_hold None one two = tt
-both_hold (Some account) one two = (one, two)
+both_hold : (P Q : Account → Type 0) (o : Option Account) → IfSome o P → IfSome o Q → IfSome o (λ account. P account × Q account)
+both_hold P Q None one two = tt
+both_hold P Q (Some account) one two = (one, two)
 
 module _ {Y : Type 0} (user : List ℕ) (P : Database → Account → Type 0) (Q : Y → Database → Account → Type 0) (a b c : State) (early : Learns user P a b) (q : Result Y Refusal) (late : ReadsEntered user (λ y. Q y b.now) b c q) where
   mid_same : HasCleanDisk c → HasOurTables a.now → b.now ≡ a.now
@@ -49,13 +53,13 @@ module _ {Y : Type 0} (user : List ℕ) (P : Database → Account → Type 0) (Q
       (early.keeps.same before ours).now_is (early.keeps.live before)
 
   -- one read more
-  pub learned_then : (y : Y) → q ≡ Ok y → Learns user (λ db account. P db account × Q y db account) a c
+  pub learned_then : (y : Y) → q ≡ Ok y → Learns user (Both P (Q y)) a c
   learned_then y is = record {
     found = λ clean accounts p.
         let ours : HasOurTables a.now = (p.0, p.1) in
         let one = early.found (clean_before b c _ late.keeps.crash clean) accounts p in
         let two = subst (λ o. IfOk o (λ z. IfSome (get accounts user) (Q z b.now))) is (late.found clean accounts (mid_shows a b c (Ok tt) tt refl q early.keeps late.keeps clean accounts p)) in
-        both_hold (get accounts user) one (subst (λ db. IfSome (get accounts user) (Q y db)) (mid_same clean ours) two);
+        both_hold (P a.now) (Q y a.now) (get accounts user) one (subst (λ db. IfSome (get accounts user) (Q y db)) (mid_same clean ours) two);
     keeps = keeps_ok a c q y (Ok tt) is (keeps_then a b c (Ok tt) tt refl q early.keeps late.keeps);
   }
 

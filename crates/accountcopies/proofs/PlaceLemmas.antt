@@ -45,11 +45,11 @@ module _ {K X : Type 0} (R : K → K → Ordering) (total : IsTotalOrder R) (sam
   found_entry : (es : List (K × X)) → AreApart es → (e : K × X) → Has es e → find_in R e.0 es ≡ Some e.1
   found_entry [] apart e there = absurd there
   found_entry (d ∷ es) apart e (inl is) = ap (λ b. cond b (Some d.1) (find_in R e.0 es)) (ap (λ k. is_eq (R e.0 k)) (sym (ap (λ (x : K × X). x.0) is)) ∙ itself R total same e.0) ∙ ap Some (sym (ap (λ (x : K × X). x.1) is))
-  found_entry (d ∷ es) apart e (inr later) = go (is_eq (R e.0 d.0)) refl
+  found_entry (d ∷ es) apart e (inr later) = go (is_eq (R e.0 d.0)) refl (found_entry es apart.1 e later)
     where
-      go : (b : Bool) → is_eq (R e.0 d.0) ≡ b → cond b (Some d.1) (find_in R e.0 es) ≡ Some e.1
-      go true tie = absurd (all_has (λ (y : K × X). d.0 ≡ y.0 → ⊥) es e apart.0 later (sym (tied R total same e.0 d.0 tie)))
-      go false other = found_entry es apart.1 e later
+      go : (b : Bool) → is_eq (R e.0 d.0) ≡ b → find_in R e.0 es ≡ Some e.1 → cond b (Some d.1) (find_in R e.0 es) ≡ Some e.1
+      go true tie more = absurd (all_has (λ (y : K × X). d.0 ≡ y.0 → ⊥) es e apart.0 later (sym (tied R total same e.0 d.0 tie)))
+      go false other more = more
 
   get_entry : (m : FinMap R X) (e : K × X) → Has (entries m) e → get m e.0 ≡ Some e.1
   get_entry m e there = get-entries m e.0 ∙ found_entry (entries m) (entries_apart R total same m) e there

@@ -56,3 +56,13 @@ copy_whole contents parts db accounts a p there read count =
       small = all_weaker (MayHave contents.head.numbers) (λ q. AreFields (part_fields q)) (λ q may. may.small) parts read.fit;
     } in
     record { head = contents.head; parts = parts; spelled = record { account = account; spelled = refl }; named = refl; makes = makes_again contents parts a own s listed all }
+
+-- of parts that were read so far: they are the first of those that make the account again
+pub copy_front : (contents : Contents) (parts : List Part) (db : Database) (accounts : Accounts) (a : Account) → Presents db accounts → get accounts contents.head.owner.name ≡ Some a → AreRead contents parts db a
+    → (all : List Part) × (parts ≡ take (length parts) all) × (whole contents.head all empty ≡ a)
+copy_front contents parts db accounts a p there read =
+    let user = contents.head.owner.name in
+    let own = rows_of user p.0 in
+    let s : IsShown user own a = subst (IsShownOrAbsent user own) there (p.2.users user) in
+    let every = parts_of a s.copies.entries s.notices.entries in
+    (every, read.first p.0 p.1 s, makes_again contents every a own s (read.listed p.0 p.1 s) refl)

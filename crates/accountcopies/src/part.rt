@@ -165,12 +165,7 @@ fn mail(alloc: Global, copy: &Filing, message: Octets) -> Result<Part, Refusal>
 }
 
 /// A copy behind another one; without another one it is refused.
-fn copy_behind(
-    alloc: Global,
-    copy: &Filing,
-    first: u64,
-    is_shared: bool,
-) -> Result<Part, Refusal>
+fn copy_behind(alloc: Global, copy: &Filing, first: u64, is_shared: bool) -> Result<Part, Refusal>
     ensures made { IfOk result (λ part. part ≡ Part.Copy copy.now.n copy.now.folder first) }
     ensures named { IfErr result IsTransient }
 {

@@ -1,6 +1,7 @@
 //! Where the parts of an account are.
 ghost use Rattle.std.specs.Prelude.{◌≡◌, ◌++◌, List, None, OnOk, IfErr, map, option_copied};
 ghost use Rattle.std.specs.FinMap.{keys};
+ghost use Rattle.std.specs.List.{list_any};
 ghost use Rattle.sqlite.specs.Held.{state};
 ghost use Rattle.mailstore.specs.Promises.{ReadsEntered};
 ghost use Rattle.mailstore.specs.ReplyRows.{reply_key_of};
@@ -152,7 +153,7 @@ fn push_letters(places: &mut List<Place>, heads: List<Head>) -> Result<(), Refus
     ensures pushed { OnOk result (places.new ≡ places.old ++ map (λ head. Place.Letter head.id) heads) }
     ensures named { IfErr result IsTransient }
 {
-    for head in heads.as_slice() {
+    for head in heads.into_vec() {
         places.push(Place::Letter(head.id))?;
     }
     Ok(())
@@ -162,8 +163,8 @@ fn push_notices(places: &mut List<Place>, numbers: List<u64>) -> Result<(), Refu
     ensures pushed { OnOk result (places.new ≡ places.old ++ map Place.Notice numbers) }
     ensures named { IfErr result IsTransient }
 {
-    for number in numbers.as_slice() {
-        places.push(Place::Notice(*number))?;
+    for number in numbers.into_vec() {
+        places.push(Place::Notice(number))?;
     }
     Ok(())
 }
@@ -173,9 +174,16 @@ pub(crate) fn has_active(active: Option<&Octets>, places: &[Place]) -> bool
     ensures { result ≡ has_active_in (option_copied active.entry) places.now }
 {
     match active {
-        Some(name) => places.iter().any(|place| is_script(name.as_slice(), place)),
+        Some(name) => has_script(name.as_slice(), places),
         None => true,
     }
+}
+
+/// Whether one of the places is that of the script with the name.
+fn has_script(name: &[u8], places: &[Place]) -> bool
+    ensures { result ≡ list_any (is_script_of name.now) places.now }
+{
+    places.iter().any(|place| is_script(name, place))
 }
 
 /// Whether the place is that of the script with the name.

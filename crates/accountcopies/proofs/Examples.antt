@@ -1,0 +1,33 @@
+-- Copies as parts of a text at work, and some beside them that aren't.
+use Rattle.std.proofs.Common.{◌≡◌, [], ◌∷◌, codes, None, refl}
+use Rattle.accountfiles.specs.declared.part.Part.TheVariants.{Mail, Copy}
+use Rattle.mailstore.specs.CopyRows.{Copy as KeptCopy}
+use Rattle.accountcopies.specs.Parts.{copy_parts}
+
+abbrev one : KeptCopy
+one = record { folder = codes "a"; n = 1; id = 1; message = codes "m" }
+
+abbrev two : KeptCopy
+two = record { folder = codes "b"; n = 2; id = 1; message = codes "m" }
+
+abbrev three : KeptCopy
+three = record { folder = codes "c"; n = 3; id = 1; message = codes "m" }
+
+abbrev other : KeptCopy
+other = record { folder = codes "a"; n = 4; id = 4; message = codes "o" }
+
+-- a message in two folders stands once
+twice-filed : copy_parts None (one ∷ two ∷ other ∷ []) ≡ Mail 1 (codes "a") (codes "m") ∷ Copy 2 (codes "b") 1 ∷ Mail 4 (codes "a") (codes "o") ∷ []
+twice-filed = refl
+
+-- once its first copy has left, it stands with the next one
+first-gone : copy_parts None (two ∷ three ∷ []) ≡ Mail 2 (codes "b") (codes "m") ∷ Copy 3 (codes "c") 2 ∷ []
+first-gone = refl
+
+-- and not as a copy of one that isn't there
+first-lost : copy_parts None (two ∷ []) ≡ Copy 2 (codes "b") 1 ∷ [] → ⊥
+first-lost e = cc
+
+-- with another one between them it stands twice
+apart : copy_parts None (one ∷ other ∷ two ∷ []) ≡ Mail 1 (codes "a") (codes "m") ∷ Mail 4 (codes "a") (codes "o") ∷ Mail 2 (codes "b") (codes "m") ∷ []
+apart = refl
