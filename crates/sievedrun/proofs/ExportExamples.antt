@@ -31,22 +31,12 @@ text_there head parts is = line_there _ (nil_right (body_of head parts) (sum_lin
 
 -- what broke off before its sum is the text of no account
 cut_none : (head : Head) (parts : List Part) → IsAccount head parts → (k : ℕ) → IsNoAccount (Some (take k (body_of head parts)))
-cut_none head parts account k = (take k body, refl, other)
-  where
-    abbrev body : List ℕ
-    body = body_of head parts
-
-    abbrev more : List ℕ
-    more = drop k body ++ sum_line body
-
-    joined : take k body ++ more ≡ text_of head parts
-    joined = sym (append_assoc (take k body) (drop k body) (sum_line body)) ∙ ap (λ l. l ++ sum_line body) (take-append-drop k body)
-
-    whole : IsTextOf (take k body ++ more) head parts
-    whole = record { account = account; spelled = joined }
-
-    other : (h : Head) (ps : List Part) → IsTextOf (take k body) h ps → ⊥
-    other h ps is = line_there _ (nil_right (drop k body) (sum_line body) (texts_same (take k body) more h head ps parts is whole).0)
+cut_none head parts account k =
+    let body = body_of head parts in
+    let more = drop k body ++ sum_line body in
+    let joined : take k body ++ more ≡ text_of head parts = sym (append_assoc (take k body) (drop k body) (sum_line body)) ∙ ap (λ l. l ++ sum_line body) (take-append-drop k body) in
+    let whole : IsTextOf (take k body ++ more) head parts = record { account = account; spelled = joined } in
+    (take k body, refl, λ h ps is. line_there _ (nil_right (drop k body) (sum_line body) (texts_same (take k body) more h head ps parts is whole).0))
 
 -- near miss: the text of an account, told as that of none
 text_refused : (text : List ℕ) (head : Head) (parts : List Part) → IsTextOf text head parts → IsNoAccount (Some text) → ⊥

@@ -7,7 +7,7 @@ use Rattle.std.specs.Io.KnownBytes.{Appends}
 use Rattle.std.specs.List.{flat_map}
 use Rattle.accountfiles.specs.Text.{body_of, head_text, part_line, sum_line, text_of}
 use Rattle.accountfiles.specs.declared.part.Part.{Part}
-use Rattle.accountcopies.proofs.LawLemmas.{parts_to_come, whole_copy}
+use Rattle.accountcopies.proofs.WholeLemmas.{copy_front, copy_whole}
 use Rattle.accountcopies.specs.Reading.{AreRead}
 use Rattle.accountcopies.specs.declared.contents.Contents.{Contents}
 use Rattle.sqlite.specs.Effect.{Database}
@@ -63,7 +63,7 @@ whole_front old new text put = (length text, subst (Appends old new) (sym (take-
 module _ (contents : Contents) (user : List ℕ) (named : contents.head.owner.name ≡ user) (db : Database) (accounts : Accounts) (a : Account) (p : Presents db accounts) (has : get accounts contents.head.owner.name ≡ Some a) (parts : List Part) (are : AreRead contents parts db a) where
   cut_in : (old new : Option (List ℕ)) (fault : Fault) → Breaks old new fault (body_of contents.head parts) → IsCutOff user old new fault a
   cut_in old new fault breaks =
-      let (all, front, makes) = parts_to_come contents parts db accounts a p has are in
+      let (all, front, makes) = copy_front contents parts db accounts a p has are in
       let rest = drop (length parts) all in
       let joined : parts ++ rest ≡ all = ap (λ l. l ++ rest) front ∙ take-append-drop (length parts) all in
       let body : body_of contents.head parts ++ flat_map part_line rest ≡ body_of contents.head all =
@@ -169,7 +169,7 @@ module _ (user : List ℕ) (s0 s1 : State) (q : Result Contents Refusal) (reads 
               let there = listed (before clean) accounts p in
               let many : length put.parts ≡ length contents.places = subst (λ o. OnOk o (0 + length put.parts ≡ count)) ok put.all ∙ all in
               by r (printed_then o0 o2 o3 (body_of contents.head put.parts) (sum_line (body_of contents.head put.parts)) r body_put last) accounts there.0 there.1
-              (subst (λ n. IsCopyOf (text_of contents.head put.parts) n there.0) named (whole_copy contents put.parts s0.now accounts there.0 p (has_it accounts there) (parts_read clean accounts p) many));
+              (subst (λ n. IsCopyOf (text_of contents.head put.parts) n there.0) named (copy_whole contents put.parts s0.now accounts there.0 p (has_it accounts there) (parts_read clean accounts p) many));
         }
           where
             by : (r : Result (Unit {0}) Fault) → IsPrinted r o0 o3 (text_of contents.head put.parts) → (accounts : Accounts) (a : Account) → open_of accounts user ≡ Some a → IsCopyOf (text_of contents.head put.parts) user a → Told user o0 o3 accounts r

@@ -10,7 +10,7 @@ use Rattle.mailstore.specs.declared.refusal.Refusal.{Refusal}
 use Rattle.mailstore.specs.declared.refusal.Refusal.TheVariants.{UserExists, UserHasMail}
 use Rattle.mailengine.specs.AccountEvents.{Importing, ImportsUnder, Refuses, Replaces}
 use Rattle.mailengine.specs.Hosts.{MayRefuseImport, TurnsBy}
-use Rattle.mailengine.specs.World.{MayRefuse, World}
+use Rattle.mailengine.proofs.HostLemmas.{importing_may}
 use Rattle.mailengine.specs.declared.answer.Answer.{Answer}
 use Rattle.mailengine.specs.declared.answer.Answer.TheVariants as answer
 use Rattle.mailengine.specs.declared.event.Event.TheVariants.{Import}
@@ -38,10 +38,6 @@ imports_kept head parts accounts later refusal = go
     go (inl h) = by (get accounts head.owner.name) h.1
     go (inr h) = h.1.stays
 
-import_may : (file : AccountFile) (w : World) (refusal : Refusal) → MayRefuseImport file.head file.parts refusal → MayRefuse w (Import file) refusal
-import_may file w refusal (inl is) = subst (MayRefuse w (Import file)) (sym is) tt
-import_may file w refusal (inr may) = subst (MayRefuse w (Import file)) (sym may.0) may.1
-
 module _ (Denied : Fault → Type 0) (file : AccountFile) where
   abbrev Row : Accounts → Answer → Accounts → Type 0
   Row accounts = Importing accounts file.head file.parts
@@ -50,10 +46,10 @@ module _ (Denied : Fault → Type 0) (file : AccountFile) where
   May = MayRefuseImport file.head file.parts
 
   pub import_made : (done : Unit {0}) (accounts later : Accounts) → TurnsBy Row May answer.Imported accounts later → Puts Denied (Import file) (λ x. answer.Imported) (Ok done) accounts later
-  import_made done = next_by (Import file) Row May (λ accounts later said row. (later, row, refl)) (λ accounts. import_may file (world_of accounts)) (imports_kept file.head file.parts) answer.Imported
+  import_made done = next_by (Import file) Row May (λ accounts later said row. (later, row, refl)) (λ accounts. importing_may file (world_of accounts)) (imports_kept file.head file.parts) answer.Imported
 
   pub import_refused : (refusal : Refusal) (accounts later : Accounts) → TurnsBy Row May (answer.Refused refusal) accounts later → Puts {X = Unit {0}} Denied (Import file) (λ x. answer.Imported) (Err (Refused refusal)) accounts later
-  import_refused = refused_by (Import file) Row May (λ accounts later said row. (later, row, refl)) (λ accounts. import_may file (world_of accounts)) (imports_kept file.head file.parts) {X = Unit {0}} Denied (λ x. answer.Imported)
+  import_refused = refused_by (Import file) Row May (λ accounts later said row. (later, row, refl)) (λ accounts. importing_may file (world_of accounts)) (imports_kept file.head file.parts) {X = Unit {0}} Denied (λ x. answer.Imported)
 
 module _ (Denied : Fault → Type 0) (given : Option (List ℕ)) where
   -- the word ended as one that is an event does
