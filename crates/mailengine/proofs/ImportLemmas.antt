@@ -1,17 +1,14 @@
 -- Which texts make accounts that may be kept, by their scripts.
-use Rattle.std.proofs.Common.{◌≡◌, ◌≢◌, ◌⊎◌, ◌<◌, ◌≤◌, ◌+◌, ℕ, suc, Bool, true, false, cond, List, [], ◌∷◌, ◌++◌, fold, length, take, drop, get_or, Option, Some, None, is_some, IsSome, IfSome, MatchBool, append_assoc, add-one, drop-cons, refl, sym, ap, ◌∙◌, subst, inl, inr, arith, true≢false}
-use Rattle.std.specs.Prelude.{◌||◌, ◌&&◌}
+use Rattle.std.proofs.Common.{◌≡◌, ◌≢◌, ◌⊎◌, ◌≤◌, ◌+◌, ℕ, Bool, true, false, cond, List, [], ◌∷◌, ◌++◌, fold, Option, Some, None, is_some, IsSome, IfSome, Ok, Err, Result, IfOk, MatchBool, append_assoc, refl, sym, ap, ◌∙◌, subst, inl, inr, arith}
+use Rattle.std.specs.Prelude.{◌||◌}
 use Rattle.std.specs.List.{AllByRecursion, list_any, count_by, sum_by}
 use Rattle.std.specs.declared.cmp.Ordering.TheVariants.{Equal}
 use Rattle.std.specs.Ordering.{is_eq, is_lt, ordering_then}
 use Rattle.std.specs.Cmp.Lexicographic.{same_text as texts_same}
 use Rattle.std.specs.FinMap.{empty, get, insert, len, contains_key, get-empty, get-insert, len-empty, len-insert}
-use Rattle.std.proofs.lemmas.Bool.{and_parts}
 use Rattle.std.proofs.lemmas.Cmp.{nat_list_cmp_total}
-use Rattle.std.proofs.lemmas.List.{take_more, take-append-drop}
-use Rattle.std.proofs.lemmas.List.Sums.{fold-append, count_by_more_yes, count_by_more_no, sum_by-cons, sum_by-take-drop}
+use Rattle.std.proofs.lemmas.List.Sums.{fold-append, sum_by-cons}
 use Rattle.sqlite_typed.proofs.TestLemmas.{bytes_eq_refl, same_bytes}
-use Rattle.sqlite_keyed.proofs.ListLemmas.{all-append, all_weaker}
 use Rattle.accountfiles.specs.Netstring.{same_text}
 use Rattle.accountfiles.specs.Order.{are_chained, has_active, is_script}
 use Rattle.accountfiles.specs.Text.{IsAccount}
@@ -29,40 +26,6 @@ use Rattle.mailengine.specs.AccountEvents.{IsImportable}
 use Rattle.mailengine.specs.Importable.{IsSoundPart, is_a_script, HasSoundScripts}
 use Rattle.mailengine.specs.Sound.{IsSoundScript, IsSound}
 use Rattle.mailengine.proofs.SoundLemmas.{inserted, still_there, filled_in}
-
--- ---- the parts so far, and one more
-
--- the part's place in the list
-split_at : (parts : List Part) (i : ℕ) (part : Part) → i < length parts → part ≡ get_or parts i part → parts ≡ take i parts ++ part ∷ drop (suc i) parts
-split_at parts i part within is = sym (take-append-drop i parts) ∙ ap (λ l. take i parts ++ l) (drop-cons parts i part within ∙ ap (λ p. p ∷ drop (suc i) parts) (sym is))
-
-in_the_middle : (front more : List Part) (part : Part) → AllByRecursion IsSoundPart (front ++ part ∷ more) → IsSoundPart part
-in_the_middle [] more part all = all.0
-in_the_middle (p ∷ front) more part all = in_the_middle front more part all.1
-
-module _ (parts : List Part) (i : ℕ) (part : Part) (within : i < length parts) (is : part ≡ get_or parts i part) where
-  pub each_more : AllByRecursion IsSoundPart (take i parts) → IsSoundPart part → AllByRecursion IsSoundPart (take (i + 1) parts)
-  each_more all own =
-      let last : AllByRecursion IsSoundPart (part ∷ []) = (own, tt) in
-      subst (AllByRecursion IsSoundPart) (ap (λ p. take i parts ++ p ∷ []) is ∙ sym (take_more parts i part within)) (all-append IsSoundPart (take i parts) (part ∷ []) all last)
-
-  pub counted_more : is_a_script part ≡ true → count_by is_a_script (take (i + 1) parts) ≡ count_by is_a_script (take i parts) + 1
-  counted_more script = count_by_more_yes is_a_script parts i part within (ap is_a_script (sym is) ∙ script)
-
-  pub counted_same : is_a_script part ≡ false → count_by is_a_script (take (i + 1) parts) ≡ count_by is_a_script (take i parts)
-  counted_same other = count_by_more_no is_a_script parts i part within (ap is_a_script (sym is) ∙ other)
-
-  -- a script that may not be kept
-  pub one_unsound : (IsSoundPart part → ⊥) → HasSoundScripts parts → ⊥
-  one_unsound unsound sound = unsound (in_the_middle (take i parts) (drop (suc i) parts) part (subst (AllByRecursion IsSoundPart) (split_at parts i part within is) sound.each))
-
-  -- one more than may be
-  pub one_too_many : is_a_script part ≡ true → count_by is_a_script (take i parts) ≡ 32 → HasSoundScripts parts → ⊥
-  one_too_many script full sound =
-      let more = counted_more script in
-      let all = sum_by-take-drop (λ p. cond (is_a_script p) 1 0) parts (i + 1) in
-      let few = sound.few in
-      omega (arith, more, all, few, full)
 
 -- ---- what the scripts of the parts make
 
@@ -157,6 +120,10 @@ before_script name text (Copy a b c) h = tt
 before_script name text (Letter a b c d e) h = tt
 before_script name text (Notice a b c) h = tt
 
+before_scripts : (name text : List ℕ) (done : List Part) → AllByRecursion (λ q. Before q (Script name text)) done → AllByRecursion (IsOther name) done
+before_scripts name text [] all = tt
+before_scripts name text (q ∷ done) all = (before_script name text q all.0, before_scripts name text done all.1)
+
 -- such parts leave what is kept under the name
 kept_so_far : (name : List ℕ) (done : List Part) (scripts : Scripts) → AllByRecursion (IsOther name) done → get (fold scripts_with scripts done) name ≡ get scripts name
 kept_so_far name [] scripts all = refl
@@ -176,7 +143,7 @@ new_from done (p ∷ rest) chained =
   where
     go : (p : Part) → AllByRecursion (λ q. Before q p) done → AreNew (scripts_with (fold scripts_with empty done) p) rest → AreNew (fold scripts_with empty done) (p ∷ rest)
     go (Script n t) before more =
-        (kept_so_far n done empty (all_weaker (λ q. Before q (Script n t)) (IsOther n) (before_script n t) done before) ∙ get-empty bytes_cmp n, more)
+        (kept_so_far n done empty (before_scripts n t done before) ∙ get-empty bytes_cmp n, more)
     go (Reply a b c) before more = more
     go (Mail a b c) before more = more
     go (Copy a b c) before more = more
@@ -253,3 +220,10 @@ module _ (head : Head) (parts : List Part) (is : IsAccount head parts) where
       let none = len-empty bytes_cmp (List ℕ) in
       let few = importable.sound.few in
       record { each = each_sound parts empty new importable.sound.scripts; few = omega (arith, count, none, few) }
+
+  -- whether it may be kept, once its name and its address are what they have to be
+  pub tested : {E : Type 0} → is_user_name head.owner.name ≡ true → IsOwnAddress head.owner.address → (r : Result Bool E) → IfOk r (λ holds. MatchBool holds (HasSoundScripts parts) (HasSoundScripts parts → ⊥))
+      → IfOk r (λ holds. MatchBool holds (IsImportable head parts) (IsImportable head parts → ⊥))
+  tested named addressed (Err e) told = tt
+  tested named addressed (Ok true) told = importable named addressed told
+  tested named addressed (Ok false) told = λ fit. told (sound_scripts fit)
