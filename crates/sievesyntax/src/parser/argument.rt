@@ -14,6 +14,9 @@ use octets::{List, Octets};
 use sievelex::{FaultKind, Mark, Said, decode};
 use std::alloc::Global;
 
+/// Room for so many strings is made when a list begins: most have no more, and the room is given back with the argument.
+const LIST_ROOM: usize = 4;
+
 /// An argument of a command or a test. What a string says isn't copied where the script spells it as it is.
 #[derive(Drop)]
 pub enum Argument<'a> {
@@ -88,7 +91,7 @@ fn begins_argument(reader: &Reader<'_>) -> bool
 fn read_strings<'a>(alloc: Global, reader: &mut Reader<'a>) -> Result<List<Said<'a>>, ReadError>
     ensures { Parses (λ strings. strings) AreStrings reader.old reader.new result }
 {
-    let mut strings = List::from_vec(Vec::with_capacity(alloc, 1)?);
+    let mut strings = List::from_vec(Vec::with_capacity(alloc, LIST_ROOM)?);
     strings.push(read_text(alloc, reader)?)?;
     read_others(alloc, reader, strings)
 }
