@@ -21,9 +21,12 @@ nil_right : (xs ys : List ℕ) → xs ++ ys ≡ [] → ys ≡ []
 nil_right [] ys is = is
 nil_right (x ∷ xs) ys is = absurd (let no = is in cc)
 
+some_left : (x : ℕ) (xs : List ℕ) → x ∷ xs ≡ [] → ⊥
+some_left x xs is = let no = is in cc
+
 line_there : (fields : List (List ℕ)) → line fields ≡ [] → ⊥
 unfolding line
-line_there fields is = let no : 10 ∷ [] ≡ [] = nil_right (flat_map netstring fields) (10 ∷ []) is in cc
+line_there fields is = some_left 10 [] (nil_right (flat_map netstring fields) (10 ∷ []) is)
 
 -- no text of an account is empty
 text_there : (head : Head) (parts : List Part) → text_of head parts ≡ [] → ⊥

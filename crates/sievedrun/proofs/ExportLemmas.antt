@@ -1,19 +1,20 @@
 -- What comes of an account whose text is printed: all of it is written, or a front; and the account may be closed behind it.
-use Rattle.std.proofs.Common.{◌≡◌, ◌⊎◌, ℕ, List, [], ◌++◌, length, take, drop, Bool, true, false, Option, Some, Result, Ok, Err, IfErr, IfOk, IsTrue, MatchResult, refl, sym, ap, ◌∙◌, subst, inl, inr, append_assoc, append-nil}
-use Rattle.std.proofs.lemmas.List.{take-append-drop}
+use Rattle.std.proofs.Common.{◌≡◌, ◌+◌, ◌⊎◌, ℕ, List, [], ◌++◌, length, take, drop, Bool, true, false, Option, Some, Result, Ok, Err, IfErr, IfOk, OnOk, IsTrue, MatchResult, refl, sym, ap, ◌∙◌, subst, inl, inr, append_assoc, arith}
+use Rattle.std.proofs.lemmas.List.{take_all, take-append-drop}
 use Rattle.std.proofs.lemmas.List.Concat.{flat_map-append}
 use Rattle.std.specs.FinMap.{empty, get}
 use Rattle.std.specs.Io.KnownBytes.{Appends}
 use Rattle.std.specs.List.{flat_map}
 use Rattle.accountfiles.specs.Text.{body_of, head_text, part_line, sum_line, text_of}
 use Rattle.accountfiles.specs.declared.part.Part.{Part}
+use Rattle.accountfiles.specs.declared.writing.Writer.{Writer}
 use Rattle.accountcopies.proofs.WholeLemmas.{copy_front, copy_whole}
 use Rattle.accountcopies.specs.Reading.{AreRead}
 use Rattle.accountcopies.specs.declared.contents.Contents.{Contents}
 use Rattle.sqlite.specs.Effect.{Database}
 use Rattle.sqlite.specs.State.{State, HasCleanDisk}
 use Rattle.mailtables.proofs.WriteLemmas.{clean_before}
-use Rattle.mailstore.specs.Account.{Account, Accounts}
+use Rattle.mailstore.specs.Account.{Account, Accounts, open_of}
 use Rattle.mailstore.specs.Opening.{IsKnown}
 use Rattle.mailstore.specs.Promises.{HasNoOpen, OfOpen, Reads}
 use Rattle.mailstore.specs.Promises.{Keeps as KeepsStore}
@@ -28,10 +29,10 @@ use Rattle.mailengine.specs.Hosts.{ActsKeeping, answer_of}
 use Rattle.mailengine.specs.declared.answer.Answer.{Answer}
 use Rattle.mailengine.specs.declared.upkeep.Upkeep.TheVariants.{CloseAccount}
 use Rattle.sievedrun.specs.Draining.{TurnsTables}
-use Rattle.sievedrun.specs.Exports.{BrokeIn, HasTold, IsCutOff, PutsParts}
+use Rattle.sievedrun.specs.Exports.{BrokeIn, IsCutOff, PutsParts, PutsSome}
 use Rattle.sievedrun.specs.Faults.{memory, no_user, IsHindered, IsPrinted, IsPut, IsSudden}
 use Rattle.sievedrun.specs.Streams.{AppendsFront}
-use Rattle.sievedrun.specs.Words.{DoesExport, Exports, HasExported, IsDoneBy, IsKeptFrom, IsUnprinted, PrintsText, Puts, TurnsStore, closing, said_of}
+use Rattle.sievedrun.specs.Words.{BecomesClosed, DoesExport, Exports, HasExported, IsDoneBy, IsKeptFrom, IsUnprinted, PrintsText, Puts, TurnsStore, closing, said_of}
 use Rattle.sievedrun.specs.declared.fault.Fault.{Fault}
 use Rattle.sievedrun.specs.declared.fault.Fault.TheVariants.{Refused}
 use Rattle.sievedrun.proofs.StreamLemmas.{front_of, front_on, printed_then, put_cut, put_then, written_on}
@@ -57,7 +58,7 @@ breaks_then old mid new fault first text one (inr cut) = inr (put_then old mid n
 
 -- a text that was put whole
 whole_front : (old new : Option (List ℕ)) (text : List ℕ) → Appends old new text → AppendsFront old new text
-whole_front old new text put = (length text, subst (Appends old new) (sym (take-all text)) put)
+whole_front old new text put = (length text, subst (Appends old new) (sym (take_all (length text) text (omega arith))) put)
 
 -- it broke off in what the parts that were read make
 module _ (contents : Contents) (user : List ℕ) (named : contents.head.owner.name ≡ user) (db : Database) (accounts : Accounts) (a : Account) (p : Presents db accounts) (has : get accounts contents.head.owner.name ≡ Some a) (parts : List Part) (are : AreRead contents parts db a) where
@@ -70,11 +71,11 @@ module _ (contents : Contents) (user : List ℕ) (named : contents.head.owner.na
       append_assoc (head_text contents.head) (flat_map part_line parts) (flat_map part_line rest)
       ∙ ap (λ l. head_text contents.head ++ l) (sym (flat_map-append part_line parts rest) ∙ ap (flat_map part_line) joined) in
       let whole_body : Breaks old new fault (body_of contents.head all) = subst (Breaks old new fault) body (breaks_on old new fault (body_of contents.head parts) (flat_map part_line rest) breaks) in
-      record { head = contents.head; parts = all; named = named; makes = makes; written = ended whole_body }
+      record { head = contents.head; parts = all; named = named; makes = makes; written = ended all whole_body }
     where
-      ended : {all : List Part} → Breaks old new fault (body_of contents.head all) → BrokeIn old new fault contents.head all
-      ended (inl sudden) = inl sudden
-      ended {all} (inr cut) = inr (put_cut old new (body_of contents.head all) (sum_line (body_of contents.head all)) fault (Err fault) refl cut)
+      ended : (all : List Part) → Breaks old new fault (body_of contents.head all) → BrokeIn old new fault contents.head all
+      ended all (inl sudden) = inl sudden
+      ended all (inr cut) = inr (put_cut old new (body_of contents.head all) (sum_line (body_of contents.head all)) fault (Err fault) refl cut)
 
 -- ---- the text is printed
 
@@ -190,12 +191,12 @@ module _ (user : List ℕ) (closes : Bool) (s0 s1 : State) (old new : Option (Li
       (accounts, subst (λ o. Exports closes user old new o accounts accounts) (sym told) (refl, inl why), stood clean live accounts p)
 
   module _ (is : q ≡ Ok tt) where
-    whole : HasCleanDisk s1 → (accounts : Accounts) → Presents s0.now accounts → HasExported user old new accounts
-    whole clean accounts p = subst (Told user old new accounts) is (prints.printed clean accounts p)
+    text_whole : HasCleanDisk s1 → (accounts : Accounts) → Presents s0.now accounts → HasExported user old new accounts
+    text_whole clean accounts p = subst (Told user old new accounts) is (prints.printed clean accounts p)
 
     -- it stays
     pub exported : closes ≡ false → TurnsStore (Exports closes user old new (Ok tt)) s0 s1
-    exported stays clean live accounts p = (accounts, (whole clean accounts p, subst (λ b. BecomesClosed b user accounts accounts) (sym stays) refl), stood clean live accounts p)
+    exported stays clean live accounts p = (accounts, (text_whole clean accounts p, subst (λ b. BecomesClosed b user accounts accounts) (sym stays) refl), stood clean live accounts p)
 
     -- closing it was put to the machine
     pub closed : closes ≡ true → (s2 : State) (kept : Result Answer Refusal) → ActsKeeping user CloseAccount s1 s2 kept → (r : Result (Unit {0}) Fault) → IsDoneBy (answer_of kept) r → TurnsStore (Exports closes user old new r) s0 s2
@@ -205,7 +206,7 @@ module _ (user : List ℕ) (closes : Bool) (s0 s1 : State) (old new : Option (Li
         let h = acts.carries clean accounts (λ _. was) in
         (
           h.0,
-          subst (λ b. Exports b user old new r accounts h.0) (sym closing_is) (by r h.0 (whole before accounts p) (kept_put undenied user CloseAccount tt (answer_of kept) r done accounts h.0 h.1)),
+          subst (λ b. Exports b user old new r accounts h.0) (sym closing_is) (by r h.0 (text_whole before accounts p) (kept_put undenied user CloseAccount tt (answer_of kept) r done accounts h.0 h.1)),
           h.2 live,
         )
       where

@@ -2,6 +2,7 @@
 ghost use Rattle.std.specs.Prelude.{◌≡◌, ◌+◌, ◌<◌, false, length, IsTrue, OnOk};
 ghost use Rattle.accountfiles.specs.Writing.{text_in};
 ghost use Rattle.sqlite.specs.Held.{state};
+ghost use Rattle.sqlite.specs.State.{HasCleanDisk};
 ghost use Rattle.sievedrun.specs.Exports.{PutsParts};
 ghost use Rattle.sievedrun.specs.Faults.{IsPut};
 ghost use Rattle.sievedrun.specs.Serving.{HasDenied, HasGiven};
@@ -89,6 +90,7 @@ fn put_parts<S: Alter, W: Write>(
     writer: &mut Writer,
     output: &mut W,
 ) -> Result<(), Fault>
+    requires live { HasCleanDisk (state S.Store store.old) → IsTrue (state S.Store store.old).is_open }
     ensures { PutsParts contents.now 0 (length contents.now.places) writer.old writer.new (W.contents output.old) (W.contents output.new)
         (state S.Store store.old) (state S.Store store.new) result }
 {

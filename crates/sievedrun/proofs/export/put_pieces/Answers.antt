@@ -1,5 +1,5 @@
 -- Three texts in turn.
-use Rattle.std.proofs.Common.{◌++◌, Ok, Err, sym, subst, append_assoc, rules}
+use Rattle.std.proofs.Common.{◌≡◌, ◌++◌, Ok, Err, subst, rules}
 use Rattle.sievedrun.specs.Faults.{IsPut}
 use Rattle.sievedrun.proofs.StreamLemmas.{put_cut, put_then}
 use Rattle.sievedrun.proofs.export.put_pieces.Goals as goal
@@ -9,4 +9,29 @@ returns-in_err-put g c =
     let old = g.W.Write.contents c.args.output.now in
     let new = g.W.Write.contents c.put.new.output in
     let line = c.args.line.now in
-    put_cut old new line.front (line.last.now ++ line.back.now) c.in_err-put.field-0.0 c.from_residual.result (search rules) c.in_err-put.ensures
+    let is : c.as_slice.result.now ≡ line.front = search rules in
+    subst (λ t. IsPut c.from_residual.result old new (t ++ (line.last.now ++ line.back.now))) is
+    (put_cut old new c.as_slice.result.now (line.last.now ++ line.back.now) c.in_err-put.field-0.0 c.from_residual.result (search rules) c.in_err-put.ensures)
+
+pub returns-in_err-put-2 : goal.returns-in_err-put-2
+returns-in_err-put-2 g c =
+    let old = g.W.Write.contents c.args.output.now in
+    let mid = g.W.Write.contents c.put.new.output in
+    let new = g.W.Write.contents c.put-2.new.output in
+    let line = c.args.line.now in
+    let is : c.as_slice.result.now ≡ line.front = search rules in
+    let fault = c.in_err-put-2.field-0.0 in
+    let r = c.from_residual-in_err-put-2.result in
+    put_then old mid new line.front (line.last.now ++ line.back.now) r (subst (IsPut (Ok tt) old mid) is c.in_ok-put.ensures)
+    (put_cut mid new line.last.now line.back.now fault r (search rules) c.in_err-put-2.ensures)
+
+pub returns : goal.returns
+returns g c =
+    let old = g.W.Write.contents c.args.output.now in
+    let mid = g.W.Write.contents c.put.new.output in
+    let last = g.W.Write.contents c.put-2.new.output in
+    let new = g.W.Write.contents c.put-3.new.output in
+    let line = c.args.line.now in
+    let is : c.as_slice.result.now ≡ line.front = search rules in
+    put_then old mid new line.front (line.last.now ++ line.back.now) c.put-3.result (subst (IsPut (Ok tt) old mid) is c.in_ok-put.ensures)
+    (put_then mid last new line.last.now line.back.now c.put-3.result c.in_ok-put-2.ensures c.put-3.ensures)

@@ -1,0 +1,9 @@
+-- The parts so far were read and put.
+use Rattle.std.proofs.Common.{Ok}
+use Rattle.sqlite.specs.Held.{state}
+use Rattle.sievedrun.specs.Exports.{PutsParts}
+use Rattle.sievedrun.proofs.export.put_parts.Given as goal
+
+abbrev pub invariant-loop-at : goal.invariant-loop-at
+invariant-loop-at g l =
+    PutsParts l.fn.contents 0 l.at l.fn.writer l.writer (g.W.Write.contents l.fn.output) (g.W.Write.contents l.output) (state g.S.Store l.fn.store) (state g.S.Store l.store) (Ok tt)
