@@ -200,6 +200,7 @@ fn pack_tokens(alloc: Global, text: &[u8]) -> Result<Packed, ScriptError>
 }
 
 /// Appends what one token is and says.
+#[inline(always)]
 fn append(packed: &mut Packed, content: Content<'_>) -> Result<(), AllocError>
     ensures { OnOk result (Appends content.entry packed.old packed.new) }
 {
@@ -221,6 +222,7 @@ fn append(packed: &mut Packed, content: Content<'_>) -> Result<(), AllocError>
 }
 
 /// Appends a token that says octets.
+#[inline(always)]
 fn append_octets(packed: &mut Packed, kind: PackedKind, octets: &[u8]) -> Result<(), AllocError>
     ensures kinds { OnOk result (packed.new.kinds.items ≡ packed.old.kinds.items ++ kind ∷ []) }
     ensures numbers { OnOk result (packed.new.numbers.items ≡ packed.old.numbers.items ++ length octets.now ∷ []) }
