@@ -1,6 +1,7 @@
 #!/usr/bin/env python3
 """Clicks in Roundcube over the program: 'Forwarding' with a copy that is kept, and 'Out of office' for a minute and for some days; then
-delivers messages. The same for an account whose password and address were changed. Counts what the form of a filter offers.
+delivers messages. The same for an account whose password and address were changed. Counts what the form of a filter offers, and makes a
+filter of each.
 
   tests/webmail.py [--sieved SIEVED] [TRIAL ..]       SIEVED: the program, crates/sieved/out/sieved where none is named
 
@@ -49,6 +50,35 @@ $config['plugins'] = ['managesieve'];
 $config['log_dir'] = '{room}/logs/';
 $config['temp_dir'] = '{room}/temp/';
 """
+# What is clicked as a filter's comparison, the text that is typed, and whether it holds of MESSAGE's subject (RFC 5228, 2.7.1; RFC 5231, 4.1 and 4.2): a letter stands behind a digit. Roundcube takes numbers alone as values.
+COMPARISONS = [
+    ("contains", "unc", True), ("notcontains", "unc", False), ("is", "lunch", True), ("notis", "lunch", False), ("exists", None, True), ("notexists", None, False),
+    ("matches", "L?nc*", True), ("notmatches", "L?nc*", False), ("count-gt", "0", True), ("count-ge", "2", False), ("count-lt", "2", True), ("count-le", "0", False),
+    ("count-eq", "1", True), ("count-ne", "1", False), ("value-gt", "5", True), ("value-ge", "5", True), ("value-lt", "5", False),
+    ("value-le", "5", False), ("value-eq", "5", False), ("value-ne", "5", True),
+]
+# What is looked at, how the rest of the rule is filled in, and whether it holds of MESSAGE, which comes at 2027-08-07, a Saturday, 12:00 UTC (RFC 5228, 5.9; RFC 5260, 4 and 5).
+THINGS = [
+    ("subject", {"_rule_op[0]": "is", "_rule_target[0][]": "Lunch"}, True), ("from", {"_rule_op[0]": "contains", "_rule_target[0][]": "bob@"}, True),
+    ("to", {"_rule_op[0]": "is", "_rule_target[0][]": "carol@example.org"}, False),
+    ("...", {"_custom_header[0][]": "X-Kind", "_rule_op[0]": "is", "_rule_target[0][]": "meal"}, True),
+    ("size", {"_rule_size_op[0]": "over", "_rule_size_target[0]": "1", "_rule_size_item[0]": "K"}, False),
+    ("date", {"_rule_date_part[0]": "year", "_rule_op[0]": "is", "_rule_target[0][]": "2026"}, True),
+    ("currentdate", {"_rule_date_part[0]": "weekday", "_rule_op[0]": "is", "_rule_target[0][]": "6"}, True),
+]
+# The part of the address `alice+food@example.org` that is compared, and the text that it is (RFC 5228, 2.7.4; RFC 5233, 4).
+PARTS = [("all", "alice+food@example.org"), ("domain", "example.org"), ("localpart", "alice+food"), ("user", "alice"), ("detail", "food")]
+# The comparator, and whether X-Count, `042 Eggs`, is `042 EGGS`, `042 eggs` and `42` by it (RFC 4790, 9.1 to 9.3; RFC 5228, 2.7.3).
+COMPARATORS = [("", "042 EGGS", True), ("i;octet", "042 EGGS", False), ("i;ascii-casemap", "042 eggs", True), ("i;ascii-numeric", "42", True)]
+# The action, how it is filled in, and what a delivery does then (RFC 5228, 4; RFC 3894; RFC 5230).
+ACTIONS = [
+    ("fileinto", {"_action_mailbox[0]": "hit"}, ["file hit"]), ("fileinto_copy", {"_action_mailbox[0]": "hit"}, ["file hit", "file INBOX"]),
+    ("redirect", {"_action_target[0]": "far@example.com"}, ["send far@example.com"]),
+    ("redirect_copy", {"_action_target[0]": "far@example.com"}, ["file INBOX", "send far@example.com"]),
+    ("vacation", {"_action_reason[0]": "Away"}, ["file INBOX", "vacation sent"]), ("discard", {}, ["discard"]), ("keep", {}, ["file INBOX"]), ("stop", {}, ["file INBOX"]),
+]
+DATED = (b"From: bob@example.net\nTo: alice+food@example.org\nCc: alice@example.org\nSubject: Lunch\nX-Kind: meal\nX-Count: 042 Eggs\n"
+         b"Date: Sat, 29 Aug 2026 10:00:00 +0200\n\nHi\n")
 MESSAGE = b"From: bob@example.net\nTo: alice@example.org\nSubject: Lunch\n\nHi\n"
 
 
@@ -263,7 +293,58 @@ def offers():
     return "8 actions, 20 comparisons, 7 things to compare, 5 parts of an address, 4 comparators"
 
 
-TRIALS = {trial.__name__: trial for trial in (forwarding_and_absence, changed_account, days_of_absence, offers)}
+def empty_script(host):
+    """By hand, so that the next filter stands alone."""
+    host.sieved("put", "--wait", "--activate", "alice", "roundcube", text=b"# no filter\n")
+
+
+def fill_in(browser, name, value):
+    """Chooses a value or types it, in the field of the form; what is behind 'Advanced options' is shown first."""
+    if browser.run("const field = document.querySelector(`[name='${arguments[0]}']`); return field.tagName", name) == "SELECT":
+        browser.choose(f"select[name='{name}']", value)
+    else:
+        browser.type(f"[name='{name}']:not(textarea[style*='none'])", value)
+
+
+def make_filter(browser, fields):
+    """Makes a new filter of these fields, in their order, by clicking."""
+    browser.open("?_task=settings&_action=plugin.managesieve-action&_framed=1")
+    browser.type("input[name='_name']", "one")
+    for name, value in fields.items():
+        if name == "_rule_comp[0]":
+            browser.click("#ruleadv0")
+        fill_in(browser, name, value)
+    browser.click("button.submit")
+
+
+def one_of_each():
+    """Of each action, comparison, thing to compare, part and comparator a filter is clicked, and a delivery does what was clicked."""
+    moment = calendar.timegm((2027, 8, 7, 12, 0, 0))
+    with a_browser() as (host, browser):
+        log_in(browser)
+        for folder in "INBOX", "hit":
+            subprocess.run(["doveadm", "-c", f"{host.room}/dovecot.conf", "mailbox", "create", "-s", "-u", "alice", folder], capture_output=True)
+        discards = {"_action_type[0]": "discard"}
+        filters = [({"_header[0]": "subject", "_rule_op[0]": op, **({"_rule_target[0][]": text} if text else {}), **discards}, ["discard"] if holds else ["file INBOX"])
+                   for op, text, holds in COMPARISONS]
+        filters += [({"_header[0]": thing, **rest, **discards}, ["discard"] if holds else ["file INBOX"]) for thing, rest, holds in THINGS]
+        filters += [({"_header[0]": "to", "_rule_op[0]": "is", "_rule_target[0][]": text, "_rule_comp[0]": "", "_rule_mod[0]": "address", "_rule_mod_type[0]": part, **discards},
+                     ["discard"]) for part, text in PARTS]
+        filters += [({"_header[0]": "...", "_custom_header[0][]": "X-Count", "_rule_op[0]": "is", "_rule_target[0][]": text, "_rule_comp[0]": comparator, **discards},
+                     ["discard"] if holds else ["file INBOX"]) for comparator, text, holds in COMPARATORS]
+        filters += [({"_header[0]": "subject", "_rule_op[0]": "is", "_rule_target[0][]": "lunch", "_action_type[0]": action, **rest}, said) for action, rest, said in ACTIONS]
+        empty_script(host)
+        for fields, said in filters:
+            make_filter(browser, fields)
+            script = lambda: host.sieved("scripts", "--wait", "alice", "roundcube")
+            wait_for(lambda: "[one]" in script(), f"a script of {fields}", 20)
+            told = deliver(host, moment, DATED)
+            assert told == said, (fields, told, script())
+            empty_script(host)
+    return f"{len(filters)} filters were clicked, and a delivery does what each says"
+
+
+TRIALS = {trial.__name__: trial for trial in (forwarding_and_absence, changed_account, days_of_absence, offers, one_of_each)}
 
 if __name__ == "__main__":
     trials.main(TRIALS, lambda program: scripts.PROGRAM.__setitem__(0, program))

@@ -2,7 +2,7 @@
 ghost use Rattle.std.specs.Prelude.{◌≡◌, ◌↔◌, ◌≤◌, ◌&&◌, All, IsTrue, IfOk, cond};
 ghost use Rattle.sievesyntax.specs.Valid.{IsMailbox};
 ghost use Rattle.sieveexec.specs.Counts.{is_counted, envelope_counted};
-ghost use Rattle.sieveexec.specs.Truth.{truth_at, header_holds, address_holds, envelope_holds, some_named_matches, envelope_matches};
+ghost use Rattle.sieveexec.specs.Truth.{truth_at, is_beyond, header_holds, address_holds, envelope_holds, some_named_matches, envelope_matches};
 
 use crate::date::{current_holds, date_holds};
 use crate::envelope::part_in;
@@ -11,28 +11,31 @@ use crate::joined_address::JoinedAddress;
 use crate::mail::Mail;
 use crate::matching::{count_matches, is_count, matches_some};
 use octets::{List, Octets, Texts};
-use sievesyntax::{Address, AddressPart, Check, EnvelopeTest, Header, is_mailbox};
+use sievesyntax::{Address, AddressPart, Bound, Check, EnvelopeTest, Header, Size, is_mailbox};
 use std::alloc::{AllocError, Global};
 use std::marker::Model;
 
-/// A mail in the course of a run: it keeps what tests have looked at, so that the values of a field are looked up,
-/// unfolded and decoded once for each name, however many tests ask. Contracts see the mail.
+/// A mail in the course of a run: it keeps what tests have looked at, so that the size is counted once, and the values of a
+/// field are looked up, unfolded and decoded once for each name, however many tests ask, and not where none does. Contracts see
+/// the mail.
 #[derive(Drop)]
 pub struct CachedMail<'m, 'a> {
     mail: &'m Mail<'a>,
     texts: FieldCache<'m, 'a, Texts>,
     addresses: FieldCache<'m, 'a, List<JoinedAddress>>,
+    counted: Option<u64>,
 }
 
 impl<'m, 'a> Model for CachedMail<'m, 'a> {
-    ghost use Rattle.std.specs.Prelude.{◌≡◌};
+    ghost use Rattle.std.specs.Prelude.{◌≡◌, IfSome};
     ghost use Rattle.sieveexec.specs.Mails.{MailSpec};
 
     ghost Value = { MailSpec };
 
     ghost view = { λ cached. cached.mail.now };
 
-    ghost invariant = { λ cached. (cached.texts ≡ cached.mail.now) × (cached.addresses ≡ cached.mail.now) };
+    ghost invariant = { λ cached. (cached.texts ≡ cached.mail.now) × (cached.addresses ≡ cached.mail.now)
+        × IfSome cached.counted (λ size. size ≡ cached.mail.now.size) };
 }
 
 impl<'m, 'a> CachedMail<'m, 'a> {
@@ -44,6 +47,7 @@ impl<'m, 'a> CachedMail<'m, 'a> {
             mail,
             texts: FieldCache::new(alloc, mail),
             addresses: FieldCache::new(alloc, mail),
+            counted: None,
         }
     }
 
@@ -58,7 +62,7 @@ impl<'m, 'a> CachedMail<'m, 'a> {
         ensures kept { self.new ≡ self.old }
     {
         match check {
-            Check::Size(size) => Ok(self.mail.is_beyond(*size)),
+            Check::Size(size) => Ok(is_beyond(*size, self.size())),
             Check::Exists(names) => self.mail.all_exist(alloc, names.as_slice()),
             Check::Header(header) => self.header_holds(alloc, header),
             Check::Address(address) => self.address_holds(alloc, address),
@@ -66,6 +70,21 @@ impl<'m, 'a> CachedMail<'m, 'a> {
             Check::MailboxExists(names) => Ok(are_mailboxes(names.as_slice())),
             Check::Date(test) => date_holds(alloc, self.mail, test),
             Check::CurrentDate(test) => current_holds(alloc, self.mail, test),
+        }
+    }
+
+    /// The mail's size, which is counted where it is asked for first.
+    fn size(&mut self) -> u64
+        ensures size { result ≡ self.old.size }
+        ensures kept { self.new ≡ self.old }
+    {
+        match self.counted {
+            Some(size) => size,
+            None => {
+                let size = self.mail.size();
+                self.counted = Some(size);
+                size
+            }
         }
     }
 
@@ -101,6 +120,16 @@ impl<'m, 'a> CachedMail<'m, 'a> {
             address.keys.as_slice(),
             count,
         ))
+    }
+}
+
+/// Whether a size is over or under a limit (RFC 5228, 5.9).
+fn is_beyond(wanted: Size, size: u64) -> bool
+    ensures { result ≡ is_beyond wanted.bound size wanted.limit }
+{
+    match wanted.bound {
+        Bound::Over => wanted.limit < size,
+        Bound::Under => size < wanted.limit,
     }
 }
 

@@ -4,7 +4,7 @@ ghost use Rattle.mailhead.specs.Fields.{texts_of};
 ghost use Rattle.maildates.specs.DateTimes.{IsZone};
 ghost use Rattle.sieveexec.specs.Mails.{mail_of};
 ghost use Rattle.sieveexec.specs.Indexes.{raws_keyed};
-ghost use Rattle.sieveexec.specs.Truth.{is_beyond, is_some_there, all_exist};
+ghost use Rattle.sieveexec.specs.Truth.{is_some_there, all_exist};
 
 use crate::envelope::Envelope;
 use crate::index::index_of;
@@ -12,7 +12,6 @@ use crate::raw_values::RawValues;
 use crate::when::When;
 use mailhead::{Field, Head};
 use octets::{Octets, lowered};
-use sievesyntax::{Bound, Size};
 use std::alloc::{AllocError, Global};
 use std::collections::BTreeMap;
 use std::marker::Model;
@@ -23,14 +22,12 @@ use std::marker::Model;
 pub struct Mail<'a> {
     head: Head<'a>,
     envelope: Envelope,
-    size: u64,
     index: BTreeMap<Octets, RawValues<'a>>,
     when: When,
 }
 
 impl<'a> Model for Mail<'a> {
-    ghost use Rattle.std.specs.Prelude.{◌≡◌};
-    ghost use Rattle.mailhead.specs.Heads.{fields_of, size_of};
+    ghost use Rattle.mailhead.specs.Heads.{fields_of};
     ghost use Rattle.sieveexec.specs.Mails.{MailSpec, mail_of};
     ghost use Rattle.sieveexec.specs.Indexes.{IsIndex};
 
@@ -38,13 +35,13 @@ impl<'a> Model for Mail<'a> {
 
     ghost view = { λ mail. mail_of mail.head mail.envelope mail.when };
 
-    ghost invariant = { λ mail. (mail.size ≡ size_of mail.head) × IsIndex (fields_of mail.head) mail.index };
+    ghost invariant = { λ mail. IsIndex (fields_of mail.head) mail.index };
 }
 
 impl<'a> Mail<'a> {
-    /// Reads the header of a message and counts its size.
+    /// Reads the header of a message.
     ///
-    /// One pass over the header and one over the message; the body isn't copied, and no value is unfolded or decoded.
+    /// One pass over the header; the body isn't looked at, nothing is copied but names, and no value is unfolded or decoded.
     /// For n fields n log n comparisons of names.
     pub fn read(
         alloc: Global,
@@ -55,12 +52,10 @@ impl<'a> Mail<'a> {
         ensures { IfOk result (λ mail. mail ≡ mail_of message.now envelope when) }
     {
         let head = Head::read(alloc, message)?;
-        let size = head.size();
         let index = index_of(alloc, head.fields())?;
         Ok(Mail {
             head,
             envelope,
-            size,
             index,
             when,
         })
@@ -80,11 +75,11 @@ impl<'a> Mail<'a> {
         self.head.message()
     }
 
-    /// The message's octets, and one more for each LF without CR right before it.
+    /// The message's octets, and one more for each LF without CR right before it. One pass over the message at each call.
     pub fn size(&self) -> u64
         ensures { result ≡ self.now.size }
     {
-        self.size
+        self.head.size()
     }
 
     /// The envelope's sender, as it was written; empty for the null reverse-path.
@@ -152,15 +147,5 @@ impl<'a> Mail<'a> {
             }
         }
         Ok(true)
-    }
-
-    /// Whether the size is over or under a limit (RFC 5228, 5.9).
-    pub(crate) fn is_beyond(&self, size: Size) -> bool
-        ensures { result ≡ is_beyond size.bound self.now.size size.limit }
-    {
-        match size.bound {
-            Bound::Over => size.limit < self.size,
-            Bound::Under => self.size < size.limit,
-        }
     }
 }

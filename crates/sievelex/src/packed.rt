@@ -1,5 +1,5 @@
 //! The tokens of a text in little memory: what they are and what they say, without their places.
-ghost use Rattle.std.specs.Prelude.{◌≡◌, ◌+◌, ◌≤◌, ℕ, List, [], ◌∷◌, ◌++◌, length, take, drop, slice_index, IfOk, OnOk, MatchOption};
+ghost use Rattle.std.specs.Prelude.{◌≡◌, ◌+◌, ◌^◌, ◌<◌, ◌≤◌, ℕ, List, [], ◌∷◌, ◌++◌, length, take, drop, slice_index, IfOk, OnOk, MatchOption};
 ghost use Rattle.sievelex.specs.declared.token.Token.{Token};
 ghost use Rattle.sievelex.specs.Finding.{IfFault, IfFaultLine};
 ghost use Rattle.sievelex.specs.Spelling.{SpellsFrom, Spells};
@@ -128,7 +128,8 @@ impl<'a> Model for Cursor<'a> {
 impl<'a> Cursor<'a> {
     /// How many tokens are left.
     pub fn left(&self) -> usize
-        ensures { result ≡ length self.now }
+        ensures left { result ≡ length self.now }
+        ensures small { result < 2 ^ 63 }
     {
         self.kinds.len()
     }
@@ -199,6 +200,7 @@ fn pack_tokens(alloc: Global, text: &[u8]) -> Result<Packed, ScriptError>
 }
 
 /// Appends what one token is and says.
+#[inline(always)]
 fn append(packed: &mut Packed, content: Content<'_>) -> Result<(), AllocError>
     ensures { OnOk result (Appends content.entry packed.old packed.new) }
 {
@@ -220,6 +222,7 @@ fn append(packed: &mut Packed, content: Content<'_>) -> Result<(), AllocError>
 }
 
 /// Appends a token that says octets.
+#[inline(always)]
 fn append_octets(packed: &mut Packed, kind: PackedKind, octets: &[u8]) -> Result<(), AllocError>
     ensures kinds { OnOk result (packed.new.kinds.items ≡ packed.old.kinds.items ++ kind ∷ []) }
     ensures numbers { OnOk result (packed.new.numbers.items ≡ packed.old.numbers.items ++ length octets.now ∷ []) }

@@ -49,6 +49,7 @@ fn read_tokens<'a>(alloc: Global, text: &'a [u8]) -> Result<Vec<Token<'a>>, Scri
 }
 
 /// The token that comes next from a place of the text on, or none where only white space is left.
+#[inline(always)]
 pub(crate) fn next<'a>(
     alloc: Global,
     text: &'a [u8],

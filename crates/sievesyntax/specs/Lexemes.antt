@@ -1,5 +1,5 @@
 -- What the grammar sees of a token: keywords in place of names.
-use Rattle.std.specs.Prelude.{ℕ, Bool, cond, nat_eq, Option, Some, None, List, map, codes}
+use Rattle.std.specs.Prelude.{◌≡◌, ℕ, Bool, cond, nat_eq, Option, Some, None, List, [], ◌∷◌, map, codes}
 use Rattle.std.specs.Cmp.Lexicographic.{pointwise}
 use Rattle.octets.specs.Ascii.{lowered}
 use Rattle.sievelex.specs.declared.token.Mark.{Mark}
@@ -122,3 +122,13 @@ lexeme_view (S.Number n) = number n
 lexeme_view (S.Text value) = text value.now
 lexeme_view (S.Encoded written) = text_of (decoded written.now)
 lexeme_view (S.Mark m) = mark m
+
+-- what stands first, as a borrowed lexeme tells it; none where nothing does
+abbrev pub IsFirst : Option BorrowedLexeme → List Lexeme → Type 0
+IsFirst None lexemes = lexemes ≡ []
+IsFirst (Some first) lexemes = (more : List Lexeme) × (lexemes ≡ lexeme_view first ∷ more)
+
+-- what is read, where the first of it was read apart; nothing where nothing was
+abbrev pub with_first : Option BorrowedLexeme → List Lexeme → List Lexeme
+with_first None more = []
+with_first (Some first) more = lexeme_view first ∷ more

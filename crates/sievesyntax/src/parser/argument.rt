@@ -1,5 +1,5 @@
 //! Arguments, by the grammar alone (RFC 5228, 8.2).
-ghost use Rattle.std.specs.Prelude.{◌≡◌, ℕ, List, [], ◌∷◌, ◌++◌, Result, Ok, Some, None, MatchOption, IfOk, true, false};
+ghost use Rattle.std.specs.Prelude.{◌≡◌, ℕ, List, [], ◌∷◌, ◌++◌, Result, Ok, Some, None, MatchBool, MatchOption, IfOk, true, false};
 ghost use Rattle.sievelex.specs.declared.token.Mark.TheVariants as K;
 ghost use Rattle.sievelex.specs.Encoded.{decoded};
 ghost use Rattle.sievesyntax.specs.Lexemes.{Lexemes, text, mark};
@@ -10,30 +10,33 @@ use crate::error::ReadError;
 use crate::parser::lexeme::Lexeme;
 use crate::parser::reader::Reader;
 use crate::table::tag::Tag;
-use octets::{Octets, Texts};
-use sievelex::{FaultKind, Mark, decode};
+use octets::{List, Octets};
+use sievelex::{FaultKind, Mark, Said, decode};
 use std::alloc::Global;
 
-/// An argument of a command or a test.
+/// Room for so many strings is made when a list begins: most have no more, and the room is given back with the argument.
+const LIST_ROOM: usize = 4;
+
+/// An argument of a command or a test. What a string says isn't copied where the script spells it as it is.
 #[derive(Drop)]
-pub enum Argument {
+pub enum Argument<'a> {
     /// A tag.
     Tag(Tag),
     /// A number, its multiplier counted.
     Number(u64),
     /// One string without brackets.
-    Text(Octets),
+    Text(Said<'a>),
     /// Strings in brackets, one or more.
-    Strings(Texts),
+    Strings(List<Said<'a>>),
 }
 
 ghost use Rattle.sievesyntax.specs.Arguments.{IsOther, AreStrings, IsArgument, IsEnd, AreArguments};
 
 /// All the arguments at the front.
-pub(crate) fn read_arguments(
+pub(crate) fn read_arguments<'a>(
     alloc: Global,
-    reader: &mut Reader<'_>,
-) -> Result<Vec<Argument>, ReadError>
+    reader: &mut Reader<'a>,
+) -> Result<Vec<Argument<'a>>, ReadError>
     ensures { Parses (λ v. v.items) AreArguments reader.old reader.new result }
 {
     let mut arguments = Vec::new(alloc);
@@ -44,52 +47,62 @@ pub(crate) fn read_arguments(
 }
 
 /// The argument at the front, or none where no argument begins.
-fn read_argument(alloc: Global, reader: &mut Reader<'_>) -> Result<Option<Argument>, ReadError>
+fn read_argument<'a>(
+    alloc: Global,
+    reader: &mut Reader<'a>,
+) -> Result<Option<Argument<'a>>, ReadError>
     ensures found { IfOk result (λ o. MatchOption o (IsEnd reader.old × (reader.new ≡ reader.old)) (λ a. IsArgument a reader.old reader.new)) }
     ensures only { IfOk result (λ o. MatchOption o (Unit {0}) (λ a. StandsAlone IsArgument a reader.old reader.new)) }
     ensures begun { IfFault result (IsEnd reader.old → ⊥) }
     ensures fault { IfFault result (StandsNowhere IsArgument reader.old) }
 {
-    let Some((lexeme, after)) = reader.split_first() else {
+    if !begins_argument(reader) {
+        return Ok(None);
+    }
+    let Some(lexeme) = reader.next() else {
         return Ok(None);
     };
     match lexeme {
-        Lexeme::Tag(tag) => {
-            *reader = after;
-            Ok(Some(Argument::Tag(tag)))
-        }
-        Lexeme::Number(number) => {
-            *reader = after;
-            Ok(Some(Argument::Number(number)))
-        }
-        Lexeme::Text(string) => {
-            *reader = after;
-            Ok(Some(Argument::Text(Octets::from_slice(alloc, string)?)))
-        }
+        Lexeme::Tag(tag) => { Ok(Some(Argument::Tag(tag))) }
+        Lexeme::Number(number) => { Ok(Some(Argument::Number(number))) }
+        Lexeme::Text(string) => { Ok(Some(Argument::Text(Said::in_text(string)))) }
         Lexeme::Encoded(written) => {
-            *reader = after;
-            Ok(Some(Argument::Text(read_encoded(alloc, written)?)))
+            Ok(Some(Argument::Text(Said::apart(read_encoded(alloc, written)?))))
         }
         Lexeme::Mark(Mark::OpenBracket) => {
-            *reader = after;
             Ok(Some(Argument::Strings(read_strings(alloc, reader)?)))
         }
         _ => Ok(None),
     }
 }
 
+/// Whether an argument begins here.
+fn begins_argument(reader: &Reader<'_>) -> bool
+    ensures { MatchBool result (IsEnd reader.now → ⊥) (IsEnd reader.now) }
+{
+    match reader.first() {
+        None | Some(Lexeme::Keyword(_)) => false,
+        Some(Lexeme::Mark(mark)) => mark == Mark::OpenBracket,
+        Some(_) => true,
+    }
+}
+
 /// The strings of a list, after its open bracket.
-fn read_strings(alloc: Global, reader: &mut Reader<'_>) -> Result<Texts, ReadError>
+fn read_strings<'a>(alloc: Global, reader: &mut Reader<'a>) -> Result<List<Said<'a>>, ReadError>
     ensures { Parses (λ strings. strings) AreStrings reader.old reader.new result }
 {
-    let mut strings = Texts::from_vec(Vec::with_capacity(alloc, 1)?);
+    let mut strings = List::from_vec(Vec::with_capacity(alloc, LIST_ROOM)?);
     strings.push(read_text(alloc, reader)?)?;
     read_others(alloc, reader, strings)
 }
 
 /// The other strings of a list, and its close bracket.
-fn read_others(alloc: Global, reader: &mut Reader<'_>, strings: Texts) -> Result<Texts, ReadError>
-    ensures { ParsesMore (λ all. all) (Closed K.CloseBracket (Chain IsOther)) strings reader.old reader.new result }
+fn read_others<'a>(
+    alloc: Global,
+    reader: &mut Reader<'a>,
+    strings: List<Said<'a>>,
+) -> Result<List<Said<'a>>, ReadError>
+    ensures { ParsesMore (λ all. all) (Closed K.CloseBracket (Chain IsOther)) strings.entry reader.old reader.new result }
 {
     let mut strings = strings;
     'others: while read_separator(reader, Mark::CloseBracket)? {
@@ -105,10 +118,9 @@ pub(crate) fn read_separator(reader: &mut Reader<'_>, close: Mark) -> Result<boo
     ensures no_comma { IfFault result ((to : Lexemes) → reader.old ≡ mark K.Comma ∷ to → ⊥) }
     ensures no_close { IfFault result ((to : Lexemes) → reader.old ≡ mark close ∷ to → ⊥) }
 {
-    let Some((lexeme, after)) = reader.split_first() else {
+    let Some(lexeme) = reader.next() else {
         return Err(ReadError::Fault(FaultKind::Unexpected));
     };
-    *reader = after;
     match lexeme {
         Lexeme::Mark(mark) if mark == Mark::Comma => Ok(true),
         Lexeme::Mark(mark) if mark == close => Ok(false),
@@ -117,17 +129,16 @@ pub(crate) fn read_separator(reader: &mut Reader<'_>, close: Mark) -> Result<boo
 }
 
 /// A string without brackets.
-fn read_text(alloc: Global, reader: &mut Reader<'_>) -> Result<Octets, ReadError>
+fn read_text<'a>(alloc: Global, reader: &mut Reader<'a>) -> Result<Said<'a>, ReadError>
     ensures found { IfOk result (λ string. reader.old ≡ text string ∷ reader.new) }
     ensures fault { IfFault result ((string : List ℕ) (to : Lexemes) → reader.old ≡ text string ∷ to → ⊥) }
 {
-    let Some((lexeme, after)) = reader.split_first() else {
+    let Some(lexeme) = reader.next() else {
         return Err(ReadError::Fault(FaultKind::Unexpected));
     };
-    *reader = after;
     match lexeme {
-        Lexeme::Text(string) => Ok(Octets::from_slice(alloc, string)?),
-        Lexeme::Encoded(written) => read_encoded(alloc, written),
+        Lexeme::Text(string) => Ok(Said::in_text(string)),
+        Lexeme::Encoded(written) => Ok(Said::apart(read_encoded(alloc, written)?)),
         _ => Err(ReadError::Fault(FaultKind::Unexpected)),
     }
 }

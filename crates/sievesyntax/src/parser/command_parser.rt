@@ -187,9 +187,9 @@ fn read_statement(
 fn is_stop(reader: &Reader<'_>) -> bool
     ensures { IsTrue result ↔ IsStop reader.now }
 {
-    match reader.split_first() {
+    match reader.first() {
         None => true,
-        Some((Lexeme::Mark(Mark::CloseBrace), _)) => true,
+        Some(Lexeme::Mark(Mark::CloseBrace)) => true,
         Some(_) => false,
     }
 }
@@ -198,11 +198,8 @@ fn is_stop(reader: &Reader<'_>) -> bool
 fn take_elsif(reader: &mut Reader<'_>) -> bool
     ensures { MatchBool result (reader.old ≡ keyword W.Elsif ∷ reader.new) (IsPastElsif reader.old × (reader.new ≡ reader.old)) }
 {
-    match reader.split_first() {
-        Some((Lexeme::Keyword(Keyword::Elsif), after)) => {
-            *reader = after;
-            true
-        }
+    match reader.first() {
+        Some(Lexeme::Keyword(Keyword::Elsif)) => reader.next().is_some(),
         _ => false,
     }
 }
@@ -211,11 +208,8 @@ fn take_elsif(reader: &mut Reader<'_>) -> bool
 fn take_else(reader: &mut Reader<'_>) -> bool
     ensures { MatchBool result (reader.old ≡ keyword W.Else ∷ reader.new) (IsPastElse reader.old × (reader.new ≡ reader.old)) }
 {
-    match reader.split_first() {
-        Some((Lexeme::Keyword(Keyword::Else), after)) => {
-            *reader = after;
-            true
-        }
+    match reader.first() {
+        Some(Lexeme::Keyword(Keyword::Else)) => reader.next().is_some(),
         _ => false,
     }
 }

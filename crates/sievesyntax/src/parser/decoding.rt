@@ -54,6 +54,7 @@ fn after_open(content: ContentRef<'_>) -> Decoding
 }
 
 /// What is read of this token. Time by the length of a name, no memory.
+#[inline(always)]
 pub(crate) fn seen_of<'a>(content: ContentRef<'a>, decoding: Decoding) -> Lexeme<'a>
     ensures { lexeme_view result ≡ seen decoding (lexeme_of (content_of content.entry)) }
 {

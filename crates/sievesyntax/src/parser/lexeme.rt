@@ -20,6 +20,7 @@ pub enum Lexeme<'a> {
 }
 
 /// What the grammar sees of this token. Time by the length of a name, no memory.
+#[inline(always)]
 pub(crate) fn lexeme_of<'a>(content: ContentRef<'a>) -> Lexeme<'a>
     ensures { lexeme_view result ≡ lexeme_of (content_of content.entry) }
 {

@@ -3,7 +3,7 @@ ghost use Rattle.std.specs.Prelude.{◌≡◌, List, [], ◌∷◌, length, Matc
 ghost use Rattle.sievesyntax.specs.declared.table.keyword.Keyword.{Keyword};
 ghost use Rattle.sievelex.specs.Contents.{contents};
 ghost use Rattle.sievesyntax.specs.Decoding.{as_read};
-ghost use Rattle.sievesyntax.specs.Lexemes.{Lexemes, keyword, mark, lexemes_of, lexeme_view};
+ghost use Rattle.sievesyntax.specs.Lexemes.{IsFirst, Lexemes, keyword, mark, lexemes_of, lexeme_view};
 ghost use Rattle.sievesyntax.specs.Parsing.{IfFault};
 
 use crate::error::ReadError;
@@ -16,18 +16,22 @@ use std::marker::Model;
 /// The tokens that are still to be read. Contracts see what is read of their lexemes.
 #[derive(Drop)]
 pub struct Reader<'a> {
+    /// What is read of the first of them, so that each name is looked up once, however often it is looked at.
+    first: Option<Lexeme<'a>>,
+    /// The tokens behind the first one.
     rest: Cursor<'a>,
+    /// How their strings are read.
     decoding: Decoding,
 }
 
 impl<'a> Model for Reader<'a> {
     ghost use Rattle.std.specs.Prelude.{List};
     ghost use Rattle.sievesyntax.specs.Decoding.{seen_from};
-    ghost use Rattle.sievesyntax.specs.Lexemes.{Lexeme, lexemes_of};
+    ghost use Rattle.sievesyntax.specs.Lexemes.{Lexeme, lexemes_of, with_first};
 
     ghost Value = { List Lexeme };
 
-    ghost view = { λ r. seen_from r.decoding (lexemes_of r.rest) };
+    ghost view = { λ r. with_first r.first (seen_from r.decoding (lexemes_of r.rest)) };
 }
 
 impl<'a> Reader<'a> {
@@ -35,9 +39,18 @@ impl<'a> Reader<'a> {
     pub(crate) fn new(tokens: &'a Packed) -> Reader<'a>
         ensures { result ≡ as_read (lexemes_of (contents tokens.now)) }
     {
-        Reader {
-            rest: tokens.cursor(),
-            decoding: Decoding::Open,
+        let all = tokens.cursor();
+        match all.split_first() {
+            Some((content, rest)) => Reader {
+                first: Some(seen_of(content, Decoding::Open)),
+                rest,
+                decoding: Decoding::Open.after(content),
+            },
+            None => Reader {
+                first: None,
+                rest: all,
+                decoding: Decoding::Open,
+            },
         }
     }
 
@@ -45,16 +58,33 @@ impl<'a> Reader<'a> {
     pub(crate) fn left(&self) -> usize
         ensures { result ≡ length self.now }
     {
-        self.rest.left()
+        match self.first {
+            Some(_) => self.rest.left() + 1,
+            None => 0,
+        }
     }
 
-    /// The next lexeme, and what follows it; none at the end.
-    pub(crate) fn split_first(&self) -> Option<(Lexeme<'a>, Reader<'a>)>
-        ensures { MatchOption result (self.now ≡ []) (λ found. self.now ≡ lexeme_view found.0 ∷ found.1) }
+    /// The next lexeme; none at the end. Constant time.
+    pub(crate) fn first(&self) -> Option<Lexeme<'a>>
+        ensures { IsFirst result self.now }
     {
-        let (first, rest) = self.rest.split_first()?;
-        let decoding = self.decoding.after(first);
-        Some((seen_of(first, self.decoding), Reader { rest, decoding }))
+        self.first
+    }
+
+    /// Passes the next lexeme, and tells it; none at the end.
+    pub(crate) fn next(&mut self) -> Option<Lexeme<'a>>
+        ensures { MatchOption result ((self.old ≡ []) × (self.new ≡ self.old)) (λ first. self.old ≡ lexeme_view first ∷ self.new) }
+    {
+        let first = self.first?;
+        match self.rest.split_first() {
+            Some((content, rest)) => {
+                self.first = Some(seen_of(content, self.decoding));
+                self.decoding = self.decoding.after(content);
+                self.rest = rest;
+            }
+            None => self.first = None,
+        }
+        Some(first)
     }
 
     /// ReadsScript this mark.
@@ -62,12 +92,8 @@ impl<'a> Reader<'a> {
         ensures found { OnOk result (self.old ≡ mark wanted ∷ self.new) }
         ensures fault { IfFault result ((to : Lexemes) → self.old ≡ mark wanted ∷ to → ⊥) }
     {
-        let Some((lexeme, after)) = self.split_first() else {
-            return Err(ReadError::Fault(FaultKind::Unexpected));
-        };
-        *self = after;
-        match lexeme {
-            Lexeme::Mark(mark) if mark == wanted => Ok(()),
+        match self.next() {
+            Some(Lexeme::Mark(mark)) if mark == wanted => Ok(()),
             _ => Err(ReadError::Fault(FaultKind::Unexpected)),
         }
     }
@@ -77,12 +103,8 @@ impl<'a> Reader<'a> {
         ensures found { IfOk result (λ name. self.old ≡ keyword name ∷ self.new) }
         ensures fault { IfFault result ((name : Keyword) (to : Lexemes) → self.old ≡ keyword name ∷ to → ⊥) }
     {
-        let Some((lexeme, after)) = self.split_first() else {
-            return Err(ReadError::Fault(FaultKind::Unexpected));
-        };
-        *self = after;
-        match lexeme {
-            Lexeme::Keyword(name) => Ok(name),
+        match self.next() {
+            Some(Lexeme::Keyword(name)) => Ok(name),
             _ => Err(ReadError::Fault(FaultKind::Unexpected)),
         }
     }
@@ -92,12 +114,9 @@ impl<'a> Reader<'a> {
         ensures found { OnOk result (self.old ≡ []) }
         ensures fault { IfFault result (self.old ≡ [] → ⊥) }
     {
-        match self.split_first() {
+        match self.next() {
             None => Ok(()),
-            Some((_, after)) => {
-                *self = after;
-                Err(ReadError::Fault(FaultKind::Unexpected))
-            }
+            Some(_) => Err(ReadError::Fault(FaultKind::Unexpected)),
         }
     }
 }

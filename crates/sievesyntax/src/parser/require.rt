@@ -71,11 +71,8 @@ fn read_requires(
 fn take_require(reader: &mut Reader<'_>) -> bool
     ensures { MatchBool result (reader.old ≡ keyword W.Require ∷ reader.new) (IsPastRequires reader.old × (reader.new ≡ reader.old)) }
 {
-    match reader.split_first() {
-        Some((Lexeme::Keyword(Keyword::Require), after)) => {
-            *reader = after;
-            true
-        }
+    match reader.first() {
+        Some(Lexeme::Keyword(Keyword::Require)) => reader.next().is_some(),
         _ => false,
     }
 }

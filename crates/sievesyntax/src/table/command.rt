@@ -31,7 +31,7 @@ const MAX_MAILBOX: usize = 255;
 pub(crate) fn plain_command(
     alloc: Global,
     keyword: Keyword,
-    args: &[Argument],
+    args: &[Argument<'_>],
     granted: Capabilities,
 ) -> Result<Command, ReadError>
     ensures found { IfOk result (λ c. IsPlainCommand keyword args.now (command_view c) × MayStand granted (command_view c)) }
@@ -81,7 +81,7 @@ pub(crate) fn plain_command(
 /// The arguments of `fileinto`, where it may stand.
 fn permitted_filing(
     alloc: Global,
-    args: &[Argument],
+    args: &[Argument<'_>],
     granted: Capabilities,
 ) -> Result<FileInto, ReadError>
     ensures { FindsFit (IsFileInto args.now) (λ filing. MayAct granted (D.FileInto filing)) result }
@@ -99,7 +99,7 @@ fn permitted_filing(
 /// The arguments of `redirect`, where it may stand.
 fn permitted_redirect(
     alloc: Global,
-    args: &[Argument],
+    args: &[Argument<'_>],
     granted: Capabilities,
 ) -> Result<Redirect, ReadError>
     ensures { FindsFit (IsRedirect args.now) (λ redirect. MayAct granted (D.Redirect redirect)) result }
@@ -112,7 +112,7 @@ fn permitted_redirect(
 /// The arguments of `vacation`, where it may stand.
 fn permitted_vacation(
     alloc: Global,
-    args: &[Argument],
+    args: &[Argument<'_>],
     granted: Capabilities,
 ) -> Result<Vacation, ReadError>
     ensures { FindsFit (IsVacation args.now) (λ vacation. MayAct granted (D.Vacation vacation)) result }

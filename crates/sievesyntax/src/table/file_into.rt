@@ -11,7 +11,7 @@ use crate::tree::action::FileInto;
 use std::alloc::Global;
 
 /// The arguments of `fileinto`.
-pub(crate) fn read_file_into(alloc: Global, args: &[Argument]) -> Result<FileInto, ReadError>
+pub(crate) fn read_file_into(alloc: Global, args: &[Argument<'_>]) -> Result<FileInto, ReadError>
     ensures { Finds (IsFileInto args.now) result }
 {
     let (tag_values, positional) = split_tags(alloc, args, &[TagGroup::Copy, TagGroup::Create])?;
@@ -21,7 +21,7 @@ pub(crate) fn read_file_into(alloc: Global, args: &[Argument]) -> Result<FileInt
 fn file_into_from(
     alloc: Global,
     tag_values: &[TagValue],
-    positional: &[Argument],
+    positional: &[Argument<'_>],
 ) -> Result<FileInto, ReadError>
     ensures { Finds (SaysFileInto tag_values.now positional.now) result }
 {

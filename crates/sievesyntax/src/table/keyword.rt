@@ -32,11 +32,12 @@ pub enum Keyword {
     Other,
 }
 
-/// Names are compared without ASCII case (RFC 5228, 2.1).
+/// Names are compared without ASCII case (RFC 5228, 2.1). Those of another length aren't looked at.
+#[inline(always)]
 pub(crate) fn is_name(name: &[u8], keyword: &[u8]) -> bool
     ensures { result ≡ same_name name.now keyword.now }
 {
-    name.eq_ignore_ascii_case(keyword)
+    name.len() == keyword.len() && name.eq_ignore_ascii_case(keyword)
 }
 
 /// The command or the test of this name.

@@ -1,7 +1,7 @@
 //! Positional arguments.
 ghost use Rattle.std.specs.Prelude.{◌≡◌, ℕ, List, [], IfOk, OnOk, Some, None};
 ghost use Rattle.sievesyntax.specs.Parsing.{IfFault, Finds};
-ghost use Rattle.sievesyntax.specs.Positional.{one_number, one_text, one_list, two_lists, text_and_list, two_texts_and_list};
+ghost use Rattle.sievesyntax.specs.Positional.{one_number, one_text, one_list, two_lists, string_of, text_and_list, two_texts_and_list};
 ghost use Rattle.sievesyntax.specs.Table.{IsList};
 
 use crate::error::ReadError;
@@ -13,7 +13,7 @@ use sievelex::FaultKind;
 use std::alloc::Global;
 
 /// No arguments at all.
-pub(crate) fn no_arguments(args: &[Argument]) -> Result<(), ReadError>
+pub(crate) fn no_arguments(args: &[Argument<'_>]) -> Result<(), ReadError>
     ensures found { OnOk result (args.now ≡ []) }
     ensures fault { IfFault result (args.now ≡ [] → ⊥) }
 {
@@ -25,29 +25,35 @@ pub(crate) fn no_arguments(args: &[Argument]) -> Result<(), ReadError>
 }
 
 /// One number.
-pub(crate) fn number(args: &[Argument]) -> Result<u64, ReadError>
+pub(crate) fn number(args: &[Argument<'_>]) -> Result<u64, ReadError>
     ensures found { IfOk result (λ n. one_number args.now ≡ Some n) }
     ensures fault { IfFault result (one_number args.now ≡ None) }
 {
     match args {
-        [Argument::Number(number)] => Ok(*number),
+        [value] => match value {
+            Argument::Number(number) => Ok(*number),
+            _ => Err(ReadError::Fault(FaultKind::WrongArgument)),
+        },
         _ => Err(ReadError::Fault(count_fault(args, 1))),
     }
 }
 
 /// One string without brackets.
-pub(crate) fn text(alloc: Global, args: &[Argument]) -> Result<Octets, ReadError>
+pub(crate) fn text(alloc: Global, args: &[Argument<'_>]) -> Result<Octets, ReadError>
     ensures found { IfOk result (λ s. one_text args.now ≡ Some s) }
     ensures fault { IfFault result (one_text args.now ≡ None) }
 {
     match args {
-        [Argument::Text(string)] => Ok(string.try_clone(alloc)?),
+        [value] => match value {
+            Argument::Text(string) => Ok(string.to_octets(alloc)?),
+            _ => Err(ReadError::Fault(FaultKind::WrongArgument)),
+        },
         _ => Err(ReadError::Fault(count_fault(args, 1))),
     }
 }
 
 /// One list of strings.
-pub(crate) fn list(alloc: Global, args: &[Argument]) -> Result<Texts, ReadError>
+pub(crate) fn list(alloc: Global, args: &[Argument<'_>]) -> Result<Texts, ReadError>
     ensures found { IfOk result (λ xs. one_list args.now ≡ Some xs) }
     ensures fault { IfFault result (one_list args.now ≡ None) }
 {
@@ -58,7 +64,7 @@ pub(crate) fn list(alloc: Global, args: &[Argument]) -> Result<Texts, ReadError>
 }
 
 /// The names of `require`, or the fields of `exists`.
-pub(crate) fn read_list(alloc: Global, args: &[Argument]) -> Result<Texts, ReadError>
+pub(crate) fn read_list(alloc: Global, args: &[Argument<'_>]) -> Result<Texts, ReadError>
     ensures { Finds (IsList args.now) result }
 {
     let (_tag_values, positional) = split_tags(alloc, args, &[])?;
@@ -66,7 +72,7 @@ pub(crate) fn read_list(alloc: Global, args: &[Argument]) -> Result<Texts, ReadE
 }
 
 /// Two lists of strings.
-pub(crate) fn lists(alloc: Global, args: &[Argument]) -> Result<(Texts, Texts), ReadError>
+pub(crate) fn lists(alloc: Global, args: &[Argument<'_>]) -> Result<(Texts, Texts), ReadError>
     ensures found { IfOk result (λ both. two_lists args.now ≡ Some (both.0, both.1)) }
     ensures fault { IfFault result (two_lists args.now ≡ None) }
 {
@@ -81,14 +87,18 @@ pub(crate) fn lists(alloc: Global, args: &[Argument]) -> Result<(Texts, Texts), 
 }
 
 /// One string without brackets, and a list of strings.
-pub(crate) fn text_and_list(alloc: Global, args: &[Argument]) -> Result<(Octets, Texts), ReadError>
+pub(crate) fn text_and_list(
+    alloc: Global,
+    args: &[Argument<'_>],
+) -> Result<(Octets, Texts), ReadError>
     ensures found { IfOk result (λ both. text_and_list args.now ≡ Some (both.0, both.1)) }
     ensures fault { IfFault result (text_and_list args.now ≡ None) }
 {
     match args {
-        [Argument::Text(first), second] => {
+        [first, second] => {
+            let text = text_in(alloc, first)?;
             let keys = strings(alloc, second)?;
-            Ok((first.try_clone(alloc)?, keys))
+            Ok((text, keys))
         }
         _ => Err(ReadError::Fault(count_fault(args, 2))),
     }
@@ -97,22 +107,35 @@ pub(crate) fn text_and_list(alloc: Global, args: &[Argument]) -> Result<(Octets,
 /// Two strings without brackets, and a list of strings.
 pub(crate) fn two_texts_and_list(
     alloc: Global,
-    args: &[Argument],
+    args: &[Argument<'_>],
 ) -> Result<(Octets, Octets, Texts), ReadError>
     ensures found { IfOk result (λ all. two_texts_and_list args.now ≡ Some (all.0, (all.1, all.2))) }
     ensures fault { IfFault result (two_texts_and_list args.now ≡ None) }
 {
     match args {
-        [Argument::Text(first), Argument::Text(second), third] => {
+        [first, second, third] => {
+            let one = text_in(alloc, first)?;
+            let two = text_in(alloc, second)?;
             let keys = strings(alloc, third)?;
-            Ok((first.try_clone(alloc)?, second.try_clone(alloc)?, keys))
+            Ok((one, two, keys))
         }
         _ => Err(ReadError::Fault(count_fault(args, 3))),
     }
 }
 
+/// The string of an argument without brackets.
+fn text_in(alloc: Global, value: &Argument<'_>) -> Result<Octets, ReadError>
+    ensures found { IfOk result (λ s. string_of value.now ≡ Some s) }
+    ensures fault { IfFault result (string_of value.now ≡ None) }
+{
+    match value {
+        Argument::Text(string) => Ok(string.to_octets(alloc)?),
+        _ => Err(ReadError::Fault(FaultKind::WrongArgument)),
+    }
+}
+
 /// Why these positional arguments are not those wanted: their number, or else their form.
-fn count_fault(args: &[Argument], wanted: usize) -> FaultKind {
+fn count_fault(args: &[Argument<'_>], wanted: usize) -> FaultKind {
     if args.len() < wanted {
         FaultKind::MissingArgument
     } else if args.len() > wanted {

@@ -18,7 +18,7 @@ use sievelex::FaultKind;
 use std::alloc::{AllocError, Global};
 
 /// The arguments of `redirect`.
-pub(crate) fn read_redirect(alloc: Global, args: &[Argument]) -> Result<Redirect, ReadError>
+pub(crate) fn read_redirect(alloc: Global, args: &[Argument<'_>]) -> Result<Redirect, ReadError>
     ensures { Finds (IsRedirect args.now) result }
 {
     let (tag_values, positional) = split_tags(alloc, args, &[TagGroup::Copy])?;
@@ -28,7 +28,7 @@ pub(crate) fn read_redirect(alloc: Global, args: &[Argument]) -> Result<Redirect
 fn redirect_from(
     alloc: Global,
     tag_values: &[TagValue],
-    positional: &[Argument],
+    positional: &[Argument<'_>],
 ) -> Result<Redirect, ReadError>
     ensures { Finds (SaysRedirect tag_values.now positional.now) result }
 {

@@ -1,5 +1,5 @@
 //! Tagged arguments, in any order (RFC 5228, 2.6.2).
-ghost use Rattle.std.specs.Prelude.{◌≡◌, List, [], ◌∷◌, MatchOption, IfOk};
+ghost use Rattle.std.specs.Prelude.{◌≡◌, ◌<◌, ◌≤◌, List, [], ◌∷◌, length, drop, MatchOption, IfOk, IfSome};
 ghost use Rattle.std.specs.List.{Contains};
 ghost use Rattle.sievesyntax.specs.declared.parser.argument.Argument.TheVariants as A;
 ghost use Rattle.sievesyntax.specs.Parsing.{IfFault};
@@ -92,39 +92,40 @@ impl TagValue {
 }
 
 /// The tags at the front, each of an allowed group and none twice, and the positional arguments after them.
-pub(crate) fn split_tags<'a>(
+pub(crate) fn split_tags<'a, 't>(
     alloc: Global,
-    args: &'a [Argument],
+    args: &'a [Argument<'t>],
     allowed: &[TagGroup],
-) -> Result<(Vec<TagValue>, &'a [Argument]), ReadError>
+) -> Result<(Vec<TagValue>, &'a [Argument<'t>]), ReadError>
     ensures found { IfOk result (λ r. IsSplit allowed.now args.now r.0.items r.1.now) }
     ensures only { IfOk result (λ r. IsSplitAlone allowed.now args.now r.0.items r.1.now) }
     ensures fault { IfFault result ((tag_values : List TagValue) (positional : List Argument) → IsSplit allowed.now args.now tag_values positional → ⊥) }
 {
     let mut tag_values = Vec::new(alloc);
     let mut taken = Vec::new(alloc);
-    let mut rest = args;
-    'tag_values: while let Some((tag_value, after)) = next_tag(
+    let mut at = 0;
+    'tag_values: while let Some((tag_value, width)) = next_tag(
         alloc,
-        rest,
+        args.split_at(at).1,
         allowed,
         taken.as_slice(),
     )? {
         taken.push(tag_value.group())?;
         tag_values.push(tag_value)?;
-        rest = after;
+        at += width;
     }
-    Ok((tag_values, rest))
+    Ok((tag_values, args.split_at(at).1))
 }
 
-/// The tag at the front, or none where no tag stands there.
-fn next_tag<'a>(
+/// The tag at the front, and how many arguments it and its value are, or none where no tag stands there.
+fn next_tag(
     alloc: Global,
-    args: &'a [Argument],
+    args: &[Argument<'_>],
     allowed: &[TagGroup],
     taken: &[TagGroup],
-) -> Result<Option<(TagValue, &'a [Argument])>, ReadError>
-    ensures found { IfOk result (λ o. MatchOption o (IsPlain args.now) (λ r. IsAllowed allowed.now r.0 args.now r.1.now)) }
+) -> Result<Option<(TagValue, usize)>, ReadError>
+    ensures found { IfOk result (λ o. MatchOption o (IsPlain args.now) (λ r. IsAllowed allowed.now r.0 args.now (drop r.1 args.now))) }
+    ensures width { IfOk result (λ o. IfSome o (λ r. (0 < r.1) × (r.1 ≤ length args.now))) }
     ensures free { IfOk result (λ o. MatchOption o (Unit {0}) (λ r. Contains taken.now (group_of r.0) → ⊥)) }
     ensures begun { IfFault result (IsPlain args.now → ⊥) }
     ensures fault { IfFault result (HasNoTag allowed.now taken.now args.now) }
@@ -142,15 +143,15 @@ fn next_tag<'a>(
     if taken.contains(&tag_value.group()) {
         return Err(ReadError::Fault(FaultKind::DoubleTag));
     }
-    Ok(Some((tag_value, after)))
+    Ok(Some((tag_value, args.len() - after.len())))
 }
 
 /// The tag that begins with this tag, and what follows it.
-fn tag_value_at<'a>(
+fn tag_value_at<'a, 't>(
     alloc: Global,
     tag: Tag,
-    args: &'a [Argument],
-) -> Result<(TagValue, &'a [Argument]), ReadError>
+    args: &'a [Argument<'t>],
+) -> Result<(TagValue, &'a [Argument<'t>]), ReadError>
     ensures found { IfOk result (λ r. IsTagValue r.0 (A.Tag tag ∷ args.now) r.1.now) }
     ensures fault { IfFault result ((s : TagValue) (to : List Argument) → IsTagValue s (A.Tag tag ∷ args.now) to → ⊥) }
 {

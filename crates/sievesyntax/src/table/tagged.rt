@@ -13,11 +13,13 @@ use crate::parser::argument::Argument;
 use crate::tree::checks::{Collation, Relation};
 use maildates::read_zone;
 use octets::{Octets, Texts};
-use sievelex::FaultKind;
-use std::alloc::Global;
+use sievelex::{FaultKind, Said};
+use std::alloc::{AllocError, Global};
 
 /// The argument at the front, and what follows it.
-fn value_at(args: &[Argument]) -> Result<(&Argument, &[Argument]), ReadError>
+fn value_at<'a, 't>(
+    args: &'a [Argument<'t>],
+) -> Result<(&'a Argument<'t>, &'a [Argument<'t>]), ReadError>
     ensures found { IfOk result (λ r. args.now ≡ r.0.now ∷ r.1.now) }
     ensures fault { IfFault result ((a : Argument) (to : List Argument) → args.now ≡ a ∷ to → ⊥) }
 {
@@ -28,7 +30,9 @@ fn value_at(args: &[Argument]) -> Result<(&Argument, &[Argument]), ReadError>
 }
 
 /// A number.
-pub(crate) fn number_at(args: &[Argument]) -> Result<(u64, &[Argument]), ReadError>
+pub(crate) fn number_at<'a, 't>(
+    args: &'a [Argument<'t>],
+) -> Result<(u64, &'a [Argument<'t>]), ReadError>
     ensures found { IfOk result (λ r. args.now ≡ A.Number r.0 ∷ r.1.now) }
     ensures fault { IfFault result ((n : ℕ) (to : List Argument) → args.now ≡ A.Number n ∷ to → ⊥) }
 {
@@ -40,25 +44,25 @@ pub(crate) fn number_at(args: &[Argument]) -> Result<(u64, &[Argument]), ReadErr
 }
 
 /// One string without brackets.
-pub(crate) fn text_at<'a>(
+pub(crate) fn text_at<'a, 't>(
     alloc: Global,
-    args: &'a [Argument],
-) -> Result<(Octets, &'a [Argument]), ReadError>
+    args: &'a [Argument<'t>],
+) -> Result<(Octets, &'a [Argument<'t>]), ReadError>
     ensures found { IfOk result (λ r. args.now ≡ A.Text r.0 ∷ r.1.now) }
     ensures fault { IfFault result ((s : List ℕ) (to : List Argument) → args.now ≡ A.Text s ∷ to → ⊥) }
 {
     let (value, rest) = value_at(args)?;
     match value {
-        Argument::Text(string) => Ok((string.try_clone(alloc)?, rest)),
+        Argument::Text(string) => Ok((string.to_octets(alloc)?, rest)),
         _ => Err(ReadError::Fault(FaultKind::WrongArgument)),
     }
 }
 
 /// A string, or strings in brackets.
-pub(crate) fn texts_at<'a>(
+pub(crate) fn texts_at<'a, 't>(
     alloc: Global,
-    args: &'a [Argument],
-) -> Result<(Texts, &'a [Argument]), ReadError>
+    args: &'a [Argument<'t>],
+) -> Result<(Texts, &'a [Argument<'t>]), ReadError>
     ensures found { IfOk result (λ r. (a : Argument) × ((args.now ≡ a ∷ r.1.now) × (strings_of a ≡ Some r.0))) }
     ensures fault { IfFault result ((a : Argument) (xs : List (List ℕ)) (to : List Argument) → args.now ≡ a ∷ to → strings_of a ≡ Some xs → ⊥) }
 {
@@ -67,7 +71,9 @@ pub(crate) fn texts_at<'a>(
 }
 
 /// The comparator of this name, compared by octets.
-pub(crate) fn collation_at(args: &[Argument]) -> Result<(Collation, &[Argument]), ReadError>
+pub(crate) fn collation_at<'a, 't>(
+    args: &'a [Argument<'t>],
+) -> Result<(Collation, &'a [Argument<'t>]), ReadError>
     ensures found { IfOk result (λ r. args.now ≡ A.Text (name_of r.0) ∷ r.1.now) }
     ensures fault { IfFault result ((c : Collation) (to : List Argument) → args.now ≡ A.Text (name_of c) ∷ to → ⊥) }
 {
@@ -94,7 +100,9 @@ fn collation_named(name: &[u8]) -> Result<Collation, ReadError>
 }
 
 /// The relation of this name, compared by octets.
-pub(crate) fn relation_at(args: &[Argument]) -> Result<(Relation, &[Argument]), ReadError>
+pub(crate) fn relation_at<'a, 't>(
+    args: &'a [Argument<'t>],
+) -> Result<(Relation, &'a [Argument<'t>]), ReadError>
     ensures found { IfOk result (λ r. args.now ≡ A.Text (relation_name r.0) ∷ r.1.now) }
     ensures fault { IfFault result ((relation : Relation) (to : List Argument) → args.now ≡ A.Text (relation_name relation) ∷ to → ⊥) }
 {
@@ -127,7 +135,9 @@ fn relation_named(name: &[u8]) -> Result<Relation, ReadError>
 }
 
 /// A zone (RFC 5260, 4.1), in minutes east of UTC.
-pub(crate) fn zone_at(args: &[Argument]) -> Result<(i16, &[Argument]), ReadError>
+pub(crate) fn zone_at<'a, 't>(
+    args: &'a [Argument<'t>],
+) -> Result<(i16, &'a [Argument<'t>]), ReadError>
     ensures found { IfOk result (λ r. (s : List ℕ) × ((args.now ≡ A.Text s ∷ r.1.now) × IsOffset s r.0)) }
     ensures fault { IfFault result ((s : List ℕ) (zone : ℤ) (to : List Argument) → args.now ≡ A.Text s ∷ to → IsOffset s zone → ⊥) }
 {
@@ -149,17 +159,28 @@ fn offset_in(text: &[u8]) -> Result<i16, ReadError>
 }
 
 /// The strings of an argument: a string stands for the list of it alone (RFC 5228, 2.4.2.1).
-pub(crate) fn strings(alloc: Global, value: &Argument) -> Result<Texts, ReadError>
+pub(crate) fn strings(alloc: Global, value: &Argument<'_>) -> Result<Texts, ReadError>
     ensures found { IfOk result (λ xs. strings_of value.now ≡ Some xs) }
     ensures fault { IfFault result (strings_of value.now ≡ None) }
 {
     match value {
         Argument::Text(string) => {
             let mut strings = Texts::from_vec(Vec::with_capacity(alloc, 1)?);
-            strings.push(string.try_clone(alloc)?)?;
+            strings.push(string.to_octets(alloc)?)?;
             Ok(strings)
         }
-        Argument::Strings(strings) => Ok(strings.try_clone(alloc)?),
+        Argument::Strings(strings) => Ok(copies(alloc, strings.as_slice())?),
         _ => Err(ReadError::Fault(FaultKind::WrongArgument)),
     }
+}
+
+/// A copy of each string, in order.
+fn copies(alloc: Global, strings: &[Said<'_>]) -> Result<Texts, AllocError>
+    ensures { IfOk result (λ copies. copies ≡ strings.now) }
+{
+    let mut copies = Texts::from_vec(Vec::with_capacity(alloc, strings.len())?);
+    for string in strings {
+        copies.push(string.to_octets(alloc)?)?;
+    }
+    Ok(copies)
 }

@@ -27,7 +27,7 @@ use std::alloc::Global;
 pub(crate) fn plain_test(
     alloc: Global,
     keyword: Keyword,
-    args: &[Argument],
+    args: &[Argument<'_>],
     granted: Capabilities,
 ) -> Result<Test, ReadError>
     ensures found { IfOk result (λ t. IsPlainTest keyword args.now (test_view t) × MayTest granted (test_view t)) }
@@ -108,7 +108,7 @@ fn require_match(
 /// The arguments of `header`, where it may stand.
 fn permitted_header(
     alloc: Global,
-    args: &[Argument],
+    args: &[Argument<'_>],
     granted: Capabilities,
 ) -> Result<Header, ReadError>
     ensures { FindsFit (IsHeader args.now) (λ header. MayCheck granted (C.Header header)) result }
@@ -121,7 +121,7 @@ fn permitted_header(
 /// The arguments of `address`, where it may stand.
 fn permitted_address(
     alloc: Global,
-    args: &[Argument],
+    args: &[Argument<'_>],
     granted: Capabilities,
 ) -> Result<Address, ReadError>
     ensures { FindsFit (IsAddress args.now) (λ address. MayCheck granted (C.Address address)) result }
@@ -135,7 +135,7 @@ fn permitted_address(
 /// The arguments of `envelope`, where it may stand.
 fn permitted_envelope(
     alloc: Global,
-    args: &[Argument],
+    args: &[Argument<'_>],
     granted: Capabilities,
 ) -> Result<EnvelopeTest, ReadError>
     ensures { FindsFit (IsEnvelope args.now) (λ envelope. MayCheck granted (C.Envelope envelope)) result }
@@ -150,7 +150,7 @@ fn permitted_envelope(
 /// The names of `mailboxexists`, where it may stand.
 fn permitted_names(
     alloc: Global,
-    args: &[Argument],
+    args: &[Argument<'_>],
     granted: Capabilities,
 ) -> Result<Texts, ReadError>
     ensures { FindsFit (IsList args.now) (λ names. MayCheck granted (C.MailboxExists names)) result }
@@ -163,7 +163,7 @@ fn permitted_names(
 /// The arguments of `date`, where it may stand.
 fn permitted_date(
     alloc: Global,
-    args: &[Argument],
+    args: &[Argument<'_>],
     granted: Capabilities,
 ) -> Result<DateTest, ReadError>
     ensures { FindsFit (IsDate args.now) (λ date. MayCheck granted (C.Date date)) result }
@@ -177,7 +177,7 @@ fn permitted_date(
 /// The arguments of `currentdate`, where it may stand.
 fn permitted_current(
     alloc: Global,
-    args: &[Argument],
+    args: &[Argument<'_>],
     granted: Capabilities,
 ) -> Result<CurrentDate, ReadError>
     ensures { FindsFit (IsCurrentDate args.now) (λ current. MayCheck granted (C.CurrentDate current)) result }

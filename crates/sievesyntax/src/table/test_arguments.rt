@@ -24,14 +24,14 @@ use sievelex::FaultKind;
 use std::alloc::Global;
 
 /// The arguments of `size`.
-pub(crate) fn read_size(alloc: Global, args: &[Argument]) -> Result<Size, ReadError>
+pub(crate) fn read_size(alloc: Global, args: &[Argument<'_>]) -> Result<Size, ReadError>
     ensures { Finds (IsSize args.now) result }
 {
     let (tag_values, positional) = split_tags(alloc, args, &[TagGroup::Bound])?;
     size_from(tag_values.as_slice(), positional)
 }
 
-fn size_from(tag_values: &[TagValue], positional: &[Argument]) -> Result<Size, ReadError>
+fn size_from(tag_values: &[TagValue], positional: &[Argument<'_>]) -> Result<Size, ReadError>
     ensures { Finds (SaysSize tag_values.now positional.now) result }
 {
     let Some(bound) = given_bound(tag_values) else {
@@ -42,7 +42,7 @@ fn size_from(tag_values: &[TagValue], positional: &[Argument]) -> Result<Size, R
 }
 
 /// The arguments of `header`.
-pub(crate) fn read_header(alloc: Global, args: &[Argument]) -> Result<Header, ReadError>
+pub(crate) fn read_header(alloc: Global, args: &[Argument<'_>]) -> Result<Header, ReadError>
     ensures { Finds (IsHeader args.now) result }
 {
     let (tag_values, positional) = split_tags(
@@ -56,7 +56,7 @@ pub(crate) fn read_header(alloc: Global, args: &[Argument]) -> Result<Header, Re
 fn header_from(
     alloc: Global,
     tag_values: &[TagValue],
-    positional: &[Argument],
+    positional: &[Argument<'_>],
 ) -> Result<Header, ReadError>
     ensures { Finds (SaysHeader tag_values.now positional.now) result }
 {
@@ -70,7 +70,7 @@ fn header_from(
 }
 
 /// The arguments of `address`.
-pub(crate) fn read_address(alloc: Global, args: &[Argument]) -> Result<Address, ReadError>
+pub(crate) fn read_address(alloc: Global, args: &[Argument<'_>]) -> Result<Address, ReadError>
     ensures { Finds (IsAddress args.now) result }
 {
     let allowed = &[TagGroup::Comparator, TagGroup::Part, TagGroup::Matching];
@@ -81,7 +81,7 @@ pub(crate) fn read_address(alloc: Global, args: &[Argument]) -> Result<Address, 
 fn address_from(
     alloc: Global,
     tag_values: &[TagValue],
-    positional: &[Argument],
+    positional: &[Argument<'_>],
 ) -> Result<Address, ReadError>
     ensures { Finds (SaysAddress tag_values.now positional.now) result }
 {
@@ -96,7 +96,7 @@ fn address_from(
 }
 
 /// The arguments of `envelope`.
-pub(crate) fn read_envelope(alloc: Global, args: &[Argument]) -> Result<EnvelopeTest, ReadError>
+pub(crate) fn read_envelope(alloc: Global, args: &[Argument<'_>]) -> Result<EnvelopeTest, ReadError>
     ensures { Finds (IsEnvelope args.now) result }
 {
     let allowed = &[TagGroup::Comparator, TagGroup::Part, TagGroup::Matching];
@@ -107,7 +107,7 @@ pub(crate) fn read_envelope(alloc: Global, args: &[Argument]) -> Result<Envelope
 fn envelope_from(
     alloc: Global,
     tag_values: &[TagValue],
-    positional: &[Argument],
+    positional: &[Argument<'_>],
 ) -> Result<EnvelopeTest, ReadError>
     ensures { Finds (SaysEnvelope tag_values.now positional.now) result }
 {
@@ -123,7 +123,7 @@ fn envelope_from(
 }
 
 /// The arguments of `date`.
-pub(crate) fn read_date_test(alloc: Global, args: &[Argument]) -> Result<DateTest, ReadError>
+pub(crate) fn read_date_test(alloc: Global, args: &[Argument<'_>]) -> Result<DateTest, ReadError>
     ensures { Finds (IsDate args.now) result }
 {
     let allowed = &[TagGroup::Zone, TagGroup::Comparator, TagGroup::Matching];
@@ -134,7 +134,7 @@ pub(crate) fn read_date_test(alloc: Global, args: &[Argument]) -> Result<DateTes
 fn date_from(
     alloc: Global,
     tag_values: &[TagValue],
-    positional: &[Argument],
+    positional: &[Argument<'_>],
 ) -> Result<DateTest, ReadError>
     ensures { Finds (SaysDate tag_values.now positional.now) result }
 {
@@ -151,7 +151,10 @@ fn date_from(
 }
 
 /// The arguments of `currentdate`.
-pub(crate) fn read_current_date(alloc: Global, args: &[Argument]) -> Result<CurrentDate, ReadError>
+pub(crate) fn read_current_date(
+    alloc: Global,
+    args: &[Argument<'_>],
+) -> Result<CurrentDate, ReadError>
     ensures { Finds (IsCurrentDate args.now) result }
 {
     let allowed = &[TagGroup::Zone, TagGroup::Comparator, TagGroup::Matching];
@@ -162,7 +165,7 @@ pub(crate) fn read_current_date(alloc: Global, args: &[Argument]) -> Result<Curr
 fn current_date_from(
     alloc: Global,
     tag_values: &[TagValue],
-    positional: &[Argument],
+    positional: &[Argument<'_>],
 ) -> Result<CurrentDate, ReadError>
     ensures { Finds (SaysCurrentDate tag_values.now positional.now) result }
 {

@@ -20,7 +20,7 @@ use octets::{List, Octets};
 use std::alloc::{AllocError, Global};
 
 /// The arguments of `vacation`.
-pub(crate) fn read_vacation(alloc: Global, args: &[Argument]) -> Result<VacArgs, ReadError>
+pub(crate) fn read_vacation(alloc: Global, args: &[Argument<'_>]) -> Result<VacArgs, ReadError>
     ensures { Finds (IsVacation args.now) result }
 {
     let allowed = &[
@@ -38,7 +38,7 @@ pub(crate) fn read_vacation(alloc: Global, args: &[Argument]) -> Result<VacArgs,
 fn vacation_from(
     alloc: Global,
     tag_values: &[TagValue],
-    positional: &[Argument],
+    positional: &[Argument<'_>],
 ) -> Result<VacArgs, ReadError>
     ensures { Finds (SaysVacation tag_values.now positional.now) result }
 {

@@ -1,3 +1,5 @@
+use Rattle.std.proofs.Common.{length-drop, arith}
+use Rattle.std.proofs.lemmas.List.{drop-drop}
 use Rattle.std.proofs.lemmas.Result.{err_from_is_err_and}
 use Rattle.sievesyntax.proofs.FaultLemmas.{faults_on}
 use Rattle.sievesyntax.proofs.TagLemmas.{taken_more, taken_ends, taken_fails}
@@ -7,14 +9,24 @@ pub returns-in_err-tag_value-clause-fault : goal.returns-in_err-tag_value-clause
 returns-in_err-tag_value-clause-fault c =
     let p = err_from_is_err_and c.from_residual.result c.from_residual.ensures.1 in
     let l = c.tag_values in
-    rw (p.1, p.2) (faults_on _ _ _ _ (taken_fails _ _ l.tag_values.items _ l.rest.now l.invariant) c.in_err-tag_value.ensures.begun (rw c.as_slice.ensures.value at c.in_err-tag_value.ensures.fault))
+    let begun = rw c.split_at.ensures.back at c.in_err-tag_value.ensures.begun in
+    let fault = rw (c.split_at.ensures.back, c.as_slice.ensures.value) at c.in_err-tag_value.ensures.fault in
+    rw (p.1, p.2) (faults_on _ _ _ _ (taken_fails _ _ l.tag_values.items _ _ l.invariant.taken) begun fault)
 
 pub tag_values-preserved : goal.tag_values-preserved
 tag_values-preserved c =
     let l = c.tag_values in
-    let at = rw c.in-Some.is at c.in_ok-tag_value.ensures.found in
+    let found = rw (c.in-Some.is, c.split_at.ensures.back) at c.in_ok-tag_value.ensures.found in
+    let width = rw (c.in-Some.is, c.split_at.ensures.back) at c.in_ok-tag_value.ensures.width in
     let free = rw (c.in-Some.is, c.as_slice.ensures.value) at c.in_ok-tag_value.ensures.free in
-    rw (c.in_ok-push-2.ensures.items, c.in_ok-push.ensures.items, c.group.ensures) (taken_more _ _ l.tag_values.items _ l.rest.now l.invariant c.in-Some.tag_value c.in-Some.after.now at free)
+    record {
+      inside = omega (arith, width, length-drop l.at c.args.args.now);
+      taken = rw (← drop-drop c.in-Some.width l.at c.args.args.now, c.in_ok-push-2.ensures.items, c.in_ok-push.ensures.items, c.group.ensures)
+          (taken_more _ _ l.tag_values.items _ _ l.invariant.taken c.in-Some.tag_value _ found free);
+    }
 
 pub returns-clause-only : goal.returns-clause-only
-returns-clause-only c = let l = c.tag_values in (taken_ends _ _ l.tag_values.items _ l.rest.now l.invariant (rw c.in_default.is at c.in_ok-tag_value.ensures.found)).1
+returns-clause-only c =
+    let l = c.tag_values in
+    let plain = rw (c.in_default.is, c.split_at.ensures.back) at c.in_ok-tag_value.ensures.found in
+    rw c.split_at-2.ensures.back (taken_ends _ _ l.tag_values.items _ _ l.invariant.taken plain).1

@@ -1,9 +1,12 @@
-use Rattle.std.proofs.Common.{length}
+use Rattle.std.proofs.Common.{◌-◌, ◌≤◌, length, drop}
 use Rattle.sievesyntax.proofs.TagLemmas.{IsTaken}
 use Rattle.sievesyntax.proofs.table.tag_group.split_tags.Given as goal
 
 abbrev pub invariant-tag_values : goal.invariant-tag_values
-invariant-tag_values l = IsTaken l.allowed l.args l.tag_values.items l.taken.items l.rest
+invariant-tag_values l = record {
+  inside : l.at ≤ length l.args;
+  taken : IsTaken l.allowed l.args l.tag_values.items l.taken.items (drop l.at l.args);
+}
 
 abbrev pub decreases-tag_values : goal.decreases-tag_values
-decreases-tag_values l = length l.rest
+decreases-tag_values l = length l.args - l.at

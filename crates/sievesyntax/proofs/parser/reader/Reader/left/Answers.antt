@@ -3,5 +3,5 @@ use Rattle.std.proofs.lemmas.Grind.{common_steps}
 use Rattle.sievesyntax.proofs.DecodingLemmas.{seen_length}
 use Rattle.sievesyntax.proofs.parser.reader.Reader.left.Goals as goal
 
-pub returns : goal.returns
-returns c = let e = seen_length c.self.inside.decoding c.self.inside.rest in grind (arith, common_steps, e)
+pub returns-in-Some : goal.returns-in-Some
+returns-in-Some c = let e = seen_length c.self.inside.decoding c.self.inside.rest in grind (arith, common_steps, e)

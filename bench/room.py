@@ -1,0 +1,98 @@
+#!/usr/bin/env python3
+"""What reading 30 MB costs by itself: into room that grows, into room of the right size, and into room that is used again.
+
+  bench/room.py
+
+It makes a program crate on the standard library alone in a folder of its own, and proves and builds it with `rt run` (a minute). Each
+row is the least of 20 runs of the read alone, within the process, and the page faults of a run. `try` and `deliver` read as the first row
+does. The last row keeps nothing: what it doesn't take is what the system takes for fresh memory.
+"""
+import os, subprocess, sys, tempfile
+
+SIZE = 30_000_000
+WAYS = {
+    "grows": "into room that grows by 256 KiB",
+    "pieces": "into room of the right size, got at once and zeroed piece by piece",
+    "whole": "into room of the right size, got and zeroed at once",
+    "again": "into 256 KiB that are used again",
+}
+SOURCE = """//! Reads the standard input in the way that the first word names, and tells how many octets came and how many microseconds that took.
+use std::alloc::Global;
+use std::env;
+use std::io;
+use std::io::Read;
+use std::time::Instant;
+
+const PIECE: usize = 262_144;
+const SIZE: usize = 30_000_001;
+
+fn main(rt: HostRuntime) -> io::Result<()> {
+    let mut way = None;
+    for word in env::args(&rt)? {
+        way = Some(word);
+    }
+    let way = way.as_ref().map_or("grows", |word| word.as_str());
+    let began = Instant::now(&rt)?;
+    let octets = read(rt.alloc(), &mut rt.stdin(), way)?;
+    let took = began.elapsed(&rt)?.subsec_micros();
+    println!(rt; "{octets} {took}")
+}
+
+fn read<R: Read>(alloc: Global, input: &mut R, way: &str) -> io::Result<usize> {
+    let mut room = if way == "pieces" { Vec::with_capacity(alloc, SIZE)? } else { Vec::new(alloc) };
+    if way == "whole" {
+        room.resize(SIZE, 0u8)?;
+    }
+    let mut filled = 0usize;
+    let mut octets = 0usize;
+    for _ in 0..u64::MAX {
+        if way == "again" {
+            filled = 0;
+        }
+        if filled >= room.len() {
+            filled = room.len();
+            room.resize(filled.saturating_add(PIECE), 0u8)?;
+        }
+        let from = filled.min(room.len());
+        let came = input.read(&mut room.as_mut_slice()[from..])?;
+        if came == 0 {
+            break;
+        }
+        filled = from.saturating_add(came);
+        octets = octets.saturating_add(came);
+    }
+    Ok(octets)
+}
+"""
+
+
+def ran(program, way, given):
+    """The microseconds and the page faults of a run."""
+    with open(given, "rb") as file, tempfile.TemporaryFile() as told:
+        child = subprocess.Popen([program, way], stdin=file, stdout=told)
+        _, status, used = os.wait4(child.pid, 0)
+        told.seek(0)
+        octets, took = (int(word) for word in told.read().split())
+        if status or octets != SIZE:
+            raise SystemExit(f"{way}: status {status >> 8}, {octets} octets")
+        return took, used.ru_minflt
+
+
+def main():
+    with tempfile.TemporaryDirectory() as folder:
+        crate, given = f"{folder}/crates/room", f"{folder}/given"
+        os.makedirs(f"{crate}/src")
+        for name, text in (f"{folder}/crates.txt", "room:\n"), (f"{crate}/src/main.rt", SOURCE), (f"{crate}/stdin", ""):
+            with open(name, "w") as file:
+                file.write(text)
+        with open(given, "wb") as file:
+            file.write(b"x" * SIZE)
+        subprocess.run(["rt", "run"], cwd=crate, check=True, stdin=subprocess.DEVNULL, stdout=subprocess.DEVNULL, stderr=subprocess.DEVNULL)
+        print("| 30 MB read from a file | ms | page faults |\n|---|---:|---:|")
+        for way, what in WAYS.items():
+            took, faults = min(ran(f"{crate}/out/room", way, given) for _ in range(20))
+            print(f"| {what} | {took / 1000:.1f} | {faults:,} |", flush=True)
+
+
+if __name__ == "__main__":
+    main()
