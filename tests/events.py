@@ -40,7 +40,7 @@ WRONG = {'fileinto "x";': "line 1: extension not required", 'keep;\r\nfrob;': "l
 
 def account(user):
     return {"address": user + "@example.org", "password": PASSWORDS[user], "state": "open", "scripts": {}, "active": None, "folders": {},
-            "queue": [], "ids": 1, "notices": [], "kept": {}}
+            "queue": [], "ids": 1, "notices": [], "kept": {}, "rounds": 10_000}
 
 
 def emptied(acc):
@@ -134,8 +134,11 @@ def keep(acc, kind, *rest):
         if acc["state"] == wanted:
             return ["refused: user is open"]
         acc["state"] = wanted
+        if wanted == "open" and acc["rounds"] != 10_000:
+            acc["password"] = None
         return [{"closed": "closed", "open": "opened"}[wanted]]
     acc[kind] = rest[0]
+    acc["rounds"] = 10_000 if kind == "password" else acc["rounds"]
     return ["changed"]
 
 
@@ -185,7 +188,8 @@ class Model:
     """The accounts, and sessions by number (RFC 5804)."""
 
     def __init__(self, users):
-        self.accounts = {user: account(user) for user in users}
+        # Those that a world begins with have passwords of one round, and what opens an account takes them for 10,000.
+        self.accounts = {user: {**account(user), "rounds": 1} for user in users}
         self.sessions = {}
 
     def happen(self, event):

@@ -35,18 +35,18 @@ def row(call, *columns):
 
 def shown(pieces):
     """As a column has them, with blanks as they are but at its end."""
-    text = column(pieces).replace("%20", " ")
+    text = "".join(percent(piece) for piece in pieces).replace("%20", " ")
     return text[:-1] + "%20" if text.endswith(" ") else text
 
 
 def left(status=0, output=(), fault=None, unread=0):
     """STATUS|OUTPUT|FAULTS, and what of the input wasn't read."""
     told = f"sieved: {fault}%0A" if fault else ""
-    return f"{status}|{'' if not output else shown(output)}|{told}" + (f"|unread {unread}" if unread else "")
+    return f"{status}|{shown(output)}|{told}" + (f"|unread {unread}" if unread else "")
 
 
 def run(words, given=(), output=(), status=0, fault=None, unread=0, call="run"):
-    row(call, words, shown(given), left(status, output, fault, unread))
+    row(call, words, shown(given) or "-", left(status, output, fault, unread))
 
 
 def said(words, text, given=()):
