@@ -257,9 +257,18 @@ def way(number, kind):
     return sender, f"From: {sender}\r\nTo: alice@example.org\r\nSubject: {number}\r\nX-Way: {kind}\r\n\r\n{'A line.' * (number % 50)}\r\n".encode()
 
 
+def quick_store(users):
+    """A store that needs no disk, where there is a folder in memory."""
+    kept, tempfile.tempdir = tempfile.tempdir, "/dev/shm" if os.path.isdir("/dev/shm") else tempfile.tempdir
+    try:
+        return Store(users, PROGRAM[0])
+    finally:
+        tempfile.tempdir = kept
+
+
 def filled(ways):
     """A store with alice's account, to whom these came, and bob's."""
-    store = Store(["alice", "bob"], PROGRAM[0])
+    store = quick_store(["alice", "bob"])
     wrote(store, "put", "--activate", "alice", "main", data=WAYS)
     wrote(store, "put", "alice", "other", data=b"keep;")
     for number, kind in enumerate(ways):
@@ -282,7 +291,7 @@ def looks(store):
 
 def exported():
     """An account of a thousand messages leaves one store and enters another: all words tell the same of it, and its text is the same."""
-    old, new = filled(SOME), Store(["bob"], PROGRAM[0])
+    old, new = filled(SOME), quick_store(["bob"])
     text = wrote(old, "export", "alice")
     assert wrote(old, "export", "alice") == text and wrote(old, "users").count(b"\n") == 2
     assert wrote(new, "import", data=text) == b"imported alice\n"
@@ -336,11 +345,13 @@ def exported_short():
             process.stdout.close()
             told = process.stderr.read()
         assert (process.returncode, told) == (75, b"sieved: input or output failed\n") and is_open(), (process.returncode, told)
-    draw, counts = random.Random(7), {True: 0, False: 0}
+    began = time.time()
+    wrote(store, "export", "alice")
+    whole, draw, counts = time.time() - began, random.Random(7), {True: 0, False: 0}
     for turn in range(60):
         with tempfile.TemporaryFile() as file:
             with subprocess.Popen(store.words("export", "--and-close", "alice"), stdout=file, stderr=subprocess.DEVNULL) as process:
-                time.sleep(draw.random() * 0.06)
+                time.sleep(draw.random() * 1.5 * whole)
                 process.send_signal(signal.SIGKILL)
             file.seek(0)
             written = file.read()
