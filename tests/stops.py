@@ -497,15 +497,15 @@ def imported():
 
 
 def exported():
-    """An account whose text is printed is open, or closed behind that: all calls that write it come before the first that closes it."""
+    """An account whose text is printed is open, or closed behind that: it is as before still once all of the text is written."""
     room = full_room()
     text = room.run("export", "alice")
     log, said = room.recorded("export", "--and-close", "alice")
     look = Look([b"main", b"other"])
     before, after = (look.at(left_by(log, State(moment)))[0] for moment in (0, len(log.calls)))
-    kinds = [call.kind for call in log.calls]
+    written = max(at for at, call in enumerate(log.calls) if call.kind == "said")
     assert said == text and before[:2] == (0, b"INBOX 1\na 3\nb 3\n") and after[:2] == (67, b""), (len(said), before[:2], after[:2])
-    assert "said" not in kinds[kinds.index("write"):], "it wrote the store before the text was written"
+    assert look.at(left_by(log, State(written + 1)))[0] == before, "it is closed before its text is written"
     return sweep(log, look, lambda state, answers: "as after" if state[0] == after else "as before" if state[0] == before else None)
 
 
