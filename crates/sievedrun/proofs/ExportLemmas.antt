@@ -1,5 +1,5 @@
 -- What comes of an account whose text is printed: all of it is written, or a front; and the account may be closed behind it.
-use Rattle.std.proofs.Common.{◌≡◌, ◌+◌, ◌⊎◌, ℕ, List, [], ◌++◌, length, take, drop, Bool, true, false, Option, Some, Result, Ok, Err, IfErr, IfOk, OnOk, IsTrue, MatchResult, refl, sym, ap, ◌∙◌, subst, inl, inr, append_assoc, arith}
+use Rattle.std.proofs.Common.{◌≡◌, ◌+◌, ◌⊎◌, ℕ, List, [], ◌++◌, length, take, drop, Bool, true, false, Option, Some, Result, Ok, Err, IfErr, IfOk, OnOk, IsTrue, MatchResult, refl, sym, ap, ◌∙◌, subst, inl, inr, append_assoc, zero-add, arith}
 use Rattle.std.proofs.lemmas.List.{take_all, take-append-drop}
 use Rattle.std.proofs.lemmas.List.Concat.{flat_map-append}
 use Rattle.std.specs.FinMap.{empty, get}
@@ -168,7 +168,7 @@ module _ (user : List ℕ) (s0 s1 : State) (q : Result Contents Refusal) (reads 
           keeps = keeps_ok s0 s2 x tt r ok keeps_both;
           printed = λ clean accounts p.
               let there = listed (before clean) accounts p in
-              let many : length put.parts ≡ length contents.places = subst (λ o. OnOk o (0 + length put.parts ≡ count)) ok put.all ∙ all in
+              let many : length put.parts ≡ length contents.places = sym (zero-add (length put.parts)) ∙ subst (λ o. OnOk o (0 + length put.parts ≡ count)) ok put.all ∙ all in
               by r (printed_then o0 o2 o3 (body_of contents.head put.parts) (sum_line (body_of contents.head put.parts)) r body_put last) accounts there.0 there.1
               (subst (λ n. IsCopyOf (text_of contents.head put.parts) n there.0) named (copy_whole contents put.parts s0.now accounts there.0 p (has_it accounts there) (parts_read clean accounts p) many));
         }
