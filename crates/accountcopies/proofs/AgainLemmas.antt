@@ -11,7 +11,7 @@ use Rattle.sqlite_trees.specs.Tree.{IsAscending}
 use Rattle.sqlite_keyed.proofs.ListLemmas.{all_both, all_weaker}
 use Rattle.sqlite_rules.specs.Lists.{Has}
 use Rattle.accountfiles.specs.declared.part.Part.{Part}
-use Rattle.accountfiles.specs.declared.part.Part.TheVariants.{Script, Reply, Mail, Copy, Letter, Notice}
+use Rattle.accountfiles.specs.declared.part.Part.TheVariants.{Mail, Copy}
 use Rattle.mailtables.specs.declared.queue.Kind.{Kind}
 use Rattle.mailtables.specs.declared.queue.Kind.TheVariants as kind
 use Rattle.mailstore.specs.declared.notice.Notice.{Notice as KeptNotice}
@@ -25,7 +25,7 @@ use Rattle.mailstore.proofs.AccountLemmas.{bytes_antisymmetric, reply_total, rep
 use Rattle.mailstore.proofs.MapLemmas.{tied}
 use Rattle.mailstore.proofs.NumberLemmas.{alone_at}
 use Rattle.accountcopies.specs.declared.run.Run.{Run}
-use Rattle.accountcopies.specs.Parts.{head_of, goes_on, first_in, run_with, script_part, reply_part, copy_part, copy_parts, way_of, letter_part, notice_part, parts_of}
+use Rattle.accountcopies.specs.Parts.{head_of, goes_on, first_in, run_with, script_part, reply_part, copy_parts, way_of, letter_part, notice_part, parts_of}
 use Rattle.accountcopies.proofs.PutLemmas.{entries_apart, put_all, put_entries}
 
 -- ---- what parts of one kind leave as it is

@@ -1,22 +1,18 @@
 -- The parts of an account stand in the order of its text.
-use Rattle.std.proofs.Common.{◌≡◌, ◌<◌, ◌≤◌, ◌==◌, ◌&&◌, ◌++◌, ℕ, Bool, true, false, cond, List, [], ◌∷◌, map, Option, Some, None, eq-eqb, refl, sym, ap, ◌∙◌, arith, is_lt, Ordering, Less, Equal, true≢false}
-use Rattle.std.specs.List.{AllByRecursion, list_any}
+use Rattle.std.proofs.Common.{◌≡◌, ◌<◌, ◌++◌, ℕ, Bool, true, false, cond, List, [], ◌∷◌, map, Option, Some, None, eq-eqb, refl, sym, ap, ◌∙◌, arith, is_lt, Ordering, Less, Equal, true≢false}
+use Rattle.std.specs.List.{AllByRecursion}
 use Rattle.std.specs.Cmp.{nat_cmp_is}
 use Rattle.std.specs.FinMap.{entries}
 use Rattle.std.specs.Ordering.{nat_cmp, ordering_then}
 use Rattle.std.proofs.lemmas.Bool.{and_from}
 use Rattle.std.proofs.lemmas.Cmp.{nat_list_cmp_total}
-use Rattle.std.proofs.lemmas.List.Folds.{list_any-append}
 use Rattle.sqlite_trees.specs.Tree.{IsAscending}
 use Rattle.sqlite_keyed.proofs.ListLemmas.{all_weaker, all-append, all-map, ascending-append, ascending-map, ascending_weaker}
-use Rattle.accountfiles.specs.Netstring.{same_text}
-use Rattle.accountfiles.specs.Order.{rank_of, number_of, part_cmp, has_come, joins, comes_after, follows, are_chained}
-use Rattle.accountfiles.specs.Order.{has_active as has_active_part, is_script as is_script_part}
+use Rattle.accountfiles.specs.Order.{rank_of, number_of, has_come, joins, comes_after, follows, are_chained}
 use Rattle.accountfiles.specs.declared.part.Part.{Part}
-use Rattle.accountfiles.specs.declared.part.Part.TheVariants.{Script, Reply, Mail, Copy, Letter, Notice}
+use Rattle.accountfiles.specs.declared.part.Part.TheVariants.{Mail, Copy}
 use Rattle.accountfiles.proofs.OrderLemmas.{Before}
 use Rattle.mailstore.specs.declared.notice.Notice.{Notice as KeptNotice}
-use Rattle.mailstore.specs.declared.queue.Outgoing.{Outgoing}
 use Rattle.mailstore.specs.Account.{bytes_cmp, reply_cmp, Account}
 use Rattle.mailstore.specs.CopyRows.{Copy as KeptCopy}
 use Rattle.mailstore.proofs.AccountLemmas.{bytes_antisymmetric, reply_total, reply_antisymmetric}

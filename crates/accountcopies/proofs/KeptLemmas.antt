@@ -1,5 +1,5 @@
 -- Reads one after another: what is told by them of one database.
-use Rattle.std.proofs.Common.{◌≡◌, ◌∙◌, ℕ, List, Ok, Err, Result, IfOk, IfErr, IfSome, OnOk, Option, Some, None, IsTrue, refl, sym, subst}
+use Rattle.std.proofs.Common.{◌≡◌, ℕ, List, Ok, Err, Result, IfOk, IfErr, IfSome, OnOk, Option, Some, None, IsTrue, refl, subst}
 use Rattle.std.specs.FinMap.{get}
 use Rattle.sqlite.specs.Effect.{Database}
 use Rattle.sqlite.specs.State.{State, HasCleanDisk}
@@ -10,7 +10,7 @@ use Rattle.mailstore.specs.declared.refusal.Refusal.{Refusal}
 use Rattle.mailstore.specs.Account.{Account, Accounts}
 use Rattle.mailstore.specs.Promises.{FindsAmong, HasOurTables, HasNoOpen, Keeps, OfOpen, OverAccounts, Reads, ReadsEntered}
 use Rattle.mailstore.specs.Refusals.{IsTransient}
-use Rattle.mailstore.specs.Shows.{rows_of, Presents}
+use Rattle.mailstore.specs.Shows.{rows_of}
 use Rattle.mailstore.proofs.KeepLemmas.{keeps_ok, keeps_failed, keeps_then, mid_shows, none_if, transient_other, transient_named}
 use Rattle.mailstore.proofs.StandingLemmas.{open_there}
 

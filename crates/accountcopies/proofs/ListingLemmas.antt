@@ -1,11 +1,10 @@
 -- What was listed of an account.
-use Rattle.std.proofs.Common.{◌≡◌, ◌++◌, ◌∙◌, ℕ, true, pos, List, [], ◌∷◌, map, None, Some, option_map, slice_get, append_assoc, ap, refl, sym, subst, Ok, Err, Result, IfOk, OnOk}
+use Rattle.std.proofs.Common.{◌≡◌, ◌++◌, ◌∙◌, ℕ, true, List, [], map, None, Some, option_map, slice_get, append_assoc, ap, refl, sym, subst, Ok, Err, Result, IfOk, OnOk}
 use Rattle.std.specs.FinMap.{keys}
 use Rattle.sqlite.specs.Effect.{Database}
 use Rattle.sqlite_keyed.proofs.ListLemmas.{map-map}
 use Rattle.accountfiles.specs.Text.{IsHead}
 use Rattle.accountfiles.specs.declared.head.Head.{Head as TextHead}
-use Rattle.mailtables.specs.AccountTable.{account_tree}
 use Rattle.mailtables.specs.Rows.{Tables, HoldsTables}
 use Rattle.mailtables.specs.Schema.{mail_schema}
 use Rattle.mailstore.specs.declared.account.Counters.{Counters}
@@ -24,7 +23,7 @@ use Rattle.accountcopies.specs.declared.contents.Contents.{Contents}
 use Rattle.accountcopies.specs.declared.place.Place.{Place}
 use Rattle.accountcopies.specs.declared.place.Place.TheVariants as place
 use Rattle.accountcopies.specs.Parts.{head_by, head_of}
-use Rattle.accountcopies.specs.Places.{copy_places, places_of, has_active, AreCopyPlaces, AreNoticePlaces, ArePlaces}
+use Rattle.accountcopies.specs.Places.{copy_places, has_active, AreCopyPlaces, AreNoticePlaces, ArePlaces}
 use Rattle.accountcopies.specs.Reading.{AreRead}
 
 -- ---- the places of one kind join the others

@@ -1,6 +1,5 @@
 -- One part more was read.
-use Rattle.std.proofs.Common.{◌≡◌, ◌+◌, ◌++◌, ℕ, suc, List, [], ◌∷◌, length, take, get_or, slice_get, Some, refl, sym, ap, ◌∙◌, arith, length-append}
-use Rattle.std.specs.List.{AllByRecursion}
+use Rattle.std.proofs.Common.{◌≡◌, ◌+◌, ◌++◌, ℕ, List, [], ◌∷◌, length, take, get_or, slice_get, Some, sym, ap, ◌∙◌, length-append}
 use Rattle.std.proofs.lemmas.List.{take_more}
 use Rattle.std.proofs.lemmas.Option.{get_or_from_slice_get, slice_get_within}
 use Rattle.sqlite.specs.Effect.{Database}
@@ -11,7 +10,7 @@ use Rattle.mailstore.specs.Account.{Account}
 use Rattle.accountcopies.specs.declared.contents.Contents.{Contents}
 use Rattle.accountcopies.specs.declared.place.Place.{Place}
 use Rattle.accountcopies.specs.Parts.{parts_of}
-use Rattle.accountcopies.specs.Reading.{AreRead, IsNextPart}
+use Rattle.accountcopies.specs.Reading.{IsNextPart}
 use Rattle.accountcopies.specs.Saying.{SaysAt}
 use Rattle.accountcopies.proofs.PlaceLemmas.{part_is}
 

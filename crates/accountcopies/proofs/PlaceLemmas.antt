@@ -1,7 +1,7 @@
 -- Each place tells its part.
-use Rattle.std.proofs.Common.{◌≡◌, ◌<◌, ◌==◌, ◌||◌, ◌++◌, ℕ, zero, suc, Bool, true, false, cond, pos, List, [], ◌∷◌, map, filter, find, length, slice_get, Option, Some, None, option_map, inl, inr, refl, sym, ap, ap₂, ◌∙◌, subst, true≢false, is_eq, Ordering}
+use Rattle.std.proofs.Common.{◌≡◌, ◌<◌, ◌==◌, ◌||◌, ◌++◌, ℕ, zero, suc, Bool, true, false, cond, List, [], ◌∷◌, map, find, length, slice_get, Option, Some, None, option_map, inl, inr, refl, sym, ap, ap₂, ◌∙◌, subst, is_eq, Ordering}
 use Rattle.std.specs.Cmp.{IsTotalOrder}
-use Rattle.std.specs.List.{AllByRecursion, list_any}
+use Rattle.std.specs.List.{list_any}
 use Rattle.std.specs.FinMap.{FinMap, IsAntisymmetric, get, entries, get-entries}
 use Rattle.std.specs.FinMap.{find as find_in}
 use Rattle.std.proofs.lemmas.Cmp.{nat_list_cmp_total}
@@ -18,15 +18,11 @@ use Rattle.mailtables.specs.MessageTable.{bytes_column}
 use Rattle.mailtables.specs.Rows.{Tables}
 use Rattle.mailstore.specs.declared.notice.Notice.{Notice as KeptNotice}
 use Rattle.mailstore.specs.declared.queue.Outgoing.{Outgoing}
-use Rattle.mailstore.specs.Account.{bytes_cmp, reply_cmp, Account, row_with}
-use Rattle.mailstore.specs.CopyRows.{Copy as KeptCopy, filing_of, message_of}
-use Rattle.mailstore.specs.Listing.{notice_with}
-use Rattle.mailstore.specs.MessageRows.{message_row}
-use Rattle.mailstore.specs.NoticeRows.{notice_row}
-use Rattle.mailstore.specs.QueueRows.{queue_row}
+use Rattle.mailstore.specs.Account.{bytes_cmp, reply_cmp, Account}
+use Rattle.mailstore.specs.CopyRows.{Copy as KeptCopy, filing_of}
 use Rattle.mailstore.specs.ReplyRows.{reply_key_of}
 use Rattle.mailstore.specs.ScriptRows.{AreApart}
-use Rattle.mailstore.specs.Shows.{HasOctets, IsShown}
+use Rattle.mailstore.specs.Shows.{IsShown}
 use Rattle.mailstore.proofs.AccountLemmas.{bytes_antisymmetric, reply_total, reply_antisymmetric}
 use Rattle.mailstore.proofs.FirstLemmas.{own_message}
 use Rattle.mailstore.proofs.MapLemmas.{tied, itself}
@@ -34,8 +30,8 @@ use Rattle.mailstore.proofs.NumberLemmas.{alone_at}
 use Rattle.accountcopies.specs.declared.place.Place.{Place}
 use Rattle.accountcopies.specs.declared.place.Place.TheVariants as place
 use Rattle.accountcopies.specs.declared.run.Run.{Run}
-use Rattle.accountcopies.specs.Parts.{goes_on, first_in, run_with, script_part, reply_part, copy_part, copy_parts, letter_part, notice_part, parts_of}
-use Rattle.accountcopies.specs.Places.{copy_place, copy_places, places_of, is_script, has_active}
+use Rattle.accountcopies.specs.Parts.{goes_on, first_in, run_with, script_part, reply_part, copy_parts, letter_part, notice_part, parts_of}
+use Rattle.accountcopies.specs.Places.{copy_places, places_of, is_script, has_active}
 use Rattle.accountcopies.specs.Saying.{Says}
 use Rattle.accountcopies.proofs.PutLemmas.{entries_apart}
 

@@ -24,6 +24,7 @@ status_some (Refused refusal.UserHasMail) = lit< tt
 status_some (Refused refusal.BadScriptName) = lit< tt
 status_some (Refused refusal.ScriptTooLarge) = lit< tt
 status_some (Refused refusal.TooManyScripts) = lit< tt
+status_some (Refused refusal.BadAccount) = lit< tt
 status_some Busy = lit< tt
 status_some Stream = lit< tt
 status_some NoMessage = lit< tt
