@@ -1,5 +1,5 @@
 -- An account that comes whole, on small cases: what is right, and beside it what nearly is.
-use Rattle.std.proofs.Common.{◌≡◌, ◌≢◌, ℕ, Bool, true, false, cond, List, [], ◌∷◌, codes, fold, Some, None, MatchBool, refl, sym, ap, ◌∙◌, subst, inl, inr}
+use Rattle.std.proofs.Common.{◌≡◌, ℕ, true, false, cond, List, [], ◌∷◌, codes, Some, None, MatchBool, refl, sym, ap, ◌∙◌, subst, inl, inr}
 use Rattle.std.specs.Prelude.{unwrap_or}
 use Rattle.std.specs.FinMap.{empty, get, insert, get-empty, get-insert}
 use Rattle.std.specs.Ordering.{is_eq}
@@ -7,7 +7,7 @@ use Rattle.std.proofs.lemmas.Cmp.{nat_list_cmp_total}
 use Rattle.accountfiles.specs.declared.head.Head.{Head}
 use Rattle.accountfiles.specs.declared.part.Part.{Part}
 use Rattle.accountfiles.specs.declared.part.Part.TheVariants.{Script, Reply}
-use Rattle.mailstore.specs.Account.{bytes_cmp, reply_cmp, Account, Accounts, Replies, no_accounts, latest, is_closed, has_mail, with_user}
+use Rattle.mailstore.specs.Account.{bytes_cmp, reply_cmp, Account, Accounts, no_accounts, latest, is_closed, has_mail, with_user}
 use Rattle.mailstore.specs.Whole.{whole, takes_whole}
 use Rattle.mailstore.specs.declared.refusal.Refusal.TheVariants.{UserExists, UserHasMail, BadAccount}
 use Rattle.mailstore.proofs.AccountLemmas.{reply_total}

@@ -1,7 +1,7 @@
 -- Which texts make accounts that may be kept, by their scripts.
 use Rattle.std.proofs.Common.{◌≡◌, ◌≢◌, ◌⊎◌, ◌≤◌, ◌+◌, ℕ, Bool, true, false, cond, List, [], ◌∷◌, ◌++◌, fold, Option, Some, None, is_some, IsSome, IfSome, Ok, Err, Result, IfOk, MatchBool, append_assoc, refl, sym, ap, ◌∙◌, subst, inl, inr, arith}
 use Rattle.std.specs.Prelude.{◌||◌}
-use Rattle.std.specs.List.{AllByRecursion, list_any, count_by, sum_by}
+use Rattle.std.specs.List.{AllByRecursion, list_any, count_by}
 use Rattle.std.specs.declared.cmp.Ordering.TheVariants.{Equal}
 use Rattle.std.specs.Ordering.{is_eq, is_lt, ordering_then}
 use Rattle.std.specs.Cmp.Lexicographic.{same_text as texts_same}
@@ -20,11 +20,10 @@ use Rattle.mailstore.specs.Account.{bytes_cmp, Folders, Scripts, filed}
 use Rattle.mailstore.specs.CopyRows.{Copy as KeptCopy}
 use Rattle.mailstore.specs.Whole.{scripts_with, copies_of}
 use Rattle.mailstore.proofs.MapLemmas.{tied_is}
-use Rattle.sessions.specs.Limits.{scripts_limit}
 use Rattle.mailengine.specs.Limits.{IsOwnAddress, is_user_name}
 use Rattle.mailengine.specs.AccountEvents.{IsImportable}
 use Rattle.mailengine.specs.Importable.{IsSoundPart, is_a_script, HasSoundScripts}
-use Rattle.mailengine.specs.Sound.{IsSoundScript, IsSound}
+use Rattle.mailengine.specs.Sound.{IsSoundScript}
 use Rattle.mailengine.proofs.SoundLemmas.{inserted, still_there, filled_in}
 
 -- ---- what the scripts of the parts make

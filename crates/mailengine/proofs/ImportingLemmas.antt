@@ -1,5 +1,5 @@
 -- An account that comes whole: the tests, how an account of the name stands, and then the write.
-use Rattle.std.proofs.Common.{◌≡◌, ℕ, Bool, true, false, cond, is_some, List, Option, Some, None, option_map, Ok, Err, Result, MatchBool, OnOk, IfErr, IsSome, refl, sym, ap, ◌∙◌, subst, inl, inr}
+use Rattle.std.proofs.Common.{◌≡◌, Bool, true, false, cond, is_some, List, Option, Some, None, option_map, Ok, Err, Result, MatchBool, OnOk, IfErr, IsSome, refl, sym, ap, ◌∙◌, subst, inl, inr}
 use Rattle.std.specs.FinMap.{empty, get, insert}
 use Rattle.sqlite.specs.State.{State, HasCleanDisk}
 use Rattle.accountfiles.specs.declared.head.Head.{Head}

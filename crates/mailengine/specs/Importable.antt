@@ -1,5 +1,5 @@
 -- What is asked of the scripts of a text, so that its account may be kept.
-use Rattle.std.specs.Prelude.{ℕ, ◌≤◌, Bool, true, false, List}
+use Rattle.std.specs.Prelude.{◌≤◌, Bool, true, false, List}
 use Rattle.std.specs.List.{AllByRecursion, count_by}
 use Rattle.accountfiles.specs.declared.part.Part.{Part}
 use Rattle.accountfiles.specs.declared.part.Part.TheVariants.{Script}

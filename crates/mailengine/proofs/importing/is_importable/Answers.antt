@@ -1,5 +1,5 @@
 -- The scripts are tested last.
-use Rattle.std.proofs.Common.{◌∙◌, sym, ap, subst, Bool, Result, IfOk, MatchBool, rules}
+use Rattle.std.proofs.Common.{◌∙◌, sym, ap, subst, IfOk, MatchBool, rules}
 use Rattle.mailengine.specs.Importable.{HasSoundScripts}
 use Rattle.mailengine.specs.Limits.{IsOwnAddress, is_user_name}
 use Rattle.mailengine.proofs.ImportLemmas.{tested}
