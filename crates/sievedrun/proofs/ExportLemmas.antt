@@ -203,8 +203,7 @@ module _ (user : List ℕ) (closes : Bool) (s0 s1 : State) (old new : Option (Li
     closed closing_is s2 kept acts r done clean live accounts p =
         let before = clean_before s1 s2 _ acts.crash clean in
         let was = stood before (acts.shut clean live) accounts p in
-        let h = acts.carries clean accounts (λ _. was) in
-        (
+        let h = acts.carries clean accounts (λ _. was) in (
           h.0,
           subst (λ b. Exports b user old new r accounts h.0) (sym closing_is) (by r h.0 (text_whole before accounts p) (kept_put undenied user CloseAccount tt (answer_of kept) r done accounts h.0 h.1)),
           h.2 live,
