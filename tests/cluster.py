@@ -568,9 +568,8 @@ def told_of(cluster, users, mail, times, lost):
     for name in list(users.machine)[:10]:
         counted = [sum(1 for places in found.values() for place in places if place[1:] == (name, folder)) for folder in ("", ".lists")]
         assert users.messages_by_imap(name) == counted, (name, counted)
-    # Behind a loss of power a delivery that was on the disk and not answered yet may be there twice: Postfix has twenty on their way at most. What
-    # Postfix had handed on and not forgotten on the disk goes once more.
-    assert len(twice) <= 20, twice
+    # Behind a loss of power a delivery that was on the disk and not answered yet may be there twice.
+    assert len(twice) <= 2, twice
     return (f"{len(users.machine)} users, {len(wanted)} messages, {len(times)} moves (median {times[len(times) // 2]:.1f} s, longest {times[-1]:.1f} s, {users.broken_off} broken off and "
             f"gone on with), a machine lost for {lost:.0f} s: each message is there ({len(twice)} twice), {len(asked)} pairs of user and sender were answered once ({again} of these answers came "
             "again), each script is there")
