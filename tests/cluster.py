@@ -13,7 +13,7 @@ of this file does. The disk of a store machine is a mirror of two files (btrfs, 
 root, openssl, iproute2, openssh-server, stunnel4, sqlite3, btrfs-progs and Debian's postfix, postfix-sqlite, dovecot-imapd,
 dovecot-managesieved and dovecot-sqlite, else its trials are left out.
 """
-import base64, email.utils, imaplib, os, random, re, shutil, signal, smtplib, socket, socketserver, ssl, subprocess, sys, tempfile, threading, time
+import base64, email, email.utils, imaplib, os, random, re, shutil, signal, smtplib, socket, socketserver, ssl, subprocess, sys, tempfile, threading, time
 import managesieve, trials
 from collections import Counter
 from concurrent.futures import ThreadPoolExecutor
@@ -33,7 +33,7 @@ ON_DISK = ["/var/lib/sieved", "/var/spool/postfix"]
 FRESH = ["/etc/stunnel", "/etc/cluster", "/etc/systemd/system", "/var/lib/sieved", "/var/log", "/root", "/usr/local/bin", "/var/lib/dovecot"]
 # Beside the page's lines: no name service, a log, and times that a trial can wait for.
 POSTCONF = ["smtp_dns_support_level = disabled", "maillog_file = /var/log/postfix.log", "inet_protocols = ipv4", "minimal_backoff_time = 1s", "maximal_backoff_time = 2s",
-            "queue_run_delay = 1s", "transport_retry_time = 1s", "smtputf8_enable = no", "myhostname = {name}.example.org", "compatibility_level = 3.6",
+            "queue_run_delay = 1s", "enable_long_queue_ids = yes", "transport_retry_time = 1s", "smtputf8_enable = no", "myhostname = {name}.example.org", "compatibility_level = 3.6",
             "local_recipient_maps ="]
 SSHD = """Port 22
 HostKey /root/host_key
@@ -233,8 +233,23 @@ class Host:
         subprocess.run(["ip", "link", "del", f"to-{self.name}"], capture_output=True)
 
 
+class Answer:
+    """An answer as it came: from which user, to which message, and under which number each host's Postfix had it, by the fields `Received`."""
+
+    def __init__(self, target, text):
+        self.when, self.target, self.text = time.time(), target, text
+        head = email.message_from_bytes(text)
+        self.user, self.message = email.utils.parseaddr(head["From"])[1].split("@")[0], head["In-Reply-To"]
+        self.name, self.date = head["Message-ID"], head["Date"]
+        self.numbers = dict(re.findall(r"\sby\s+(\w+)\.example\.org\s+\(Postfix\)\s+with\s+\w+\s+id\s+(\w+)", "\n".join(head.get_all("Received", []))))
+
+    def machine(self):
+        """The store machine that it comes from, and the number that it had there."""
+        return next((host, number) for host, number in self.numbers.items() if host != "front")
+
+
 class Sink(socketserver.ThreadingTCPServer):
-    """The mail servers of all others: takes what comes, and counts answers by their user, their target, and the message that they are to."""
+    """The mail servers of all others: takes what comes, and keeps answers by their user and their target, in the order in which they come."""
 
     allow_reuse_address = daemon_threads = True
 
@@ -263,16 +278,13 @@ class Receiver(socketserver.StreamRequestHandler):
             self.wfile.write(answer + b"\r\n")
 
     def keep(self, target):
-        sender, message, in_head = None, None, True
+        lines = []
         while (line := self.rfile.readline()) not in (b".\r\n", b""):
-            in_head = in_head and line != b"\r\n"
-            if in_head and line[:5].lower() == b"from:":
-                sender = email.utils.parseaddr(line[5:].decode())[1]
-            if in_head and line[:12].lower() == b"in-reply-to:":
-                message = line[12:].strip()
-        if message:
+            lines.append(line)
+        answer = Answer(target, b"".join(lines))
+        if line and answer.message:
             with self.server.lock:
-                self.server.answers.setdefault((sender.split("@")[0], target), Counter())[message] += 1
+                self.server.answers.setdefault((answer.user, target), []).append(answer)
 
 
 class Cluster:
@@ -345,7 +357,7 @@ class Mail:
 
     def __init__(self, users, a_second):
         self.users, self.pause = users, 1 / a_second
-        self.sent, self.lock, self.put_off = {}, threading.Lock(), 0
+        self.sent, self.lock, self.refused = {}, threading.Lock(), []
 
     def send(self, number, draw):
         user, sender, is_list = draw.choice(self.users), f"w{draw.randrange(20)}@world.example", draw.random() < 0.3
@@ -358,8 +370,9 @@ class Mail:
                     smtp.sendmail(sender, f"{user}@example.org", text)
                 break
             except (OSError, smtplib.SMTPException):
-                self.put_off += 1
                 time.sleep(1)
+        else:
+            self.refused.append(name)
         with self.lock:
             self.sent[name] = user, sender, ".lists" if is_list else ""
 
@@ -472,7 +485,7 @@ class Users:
                     self.table(f"UPDATE user SET machine = '{new}', moves = 0 WHERE name = '{name}'")
                     if self.is_open(name, old) is not None:
                         self.front.do(f"ssh {old} runuser -u sieved -- sieved remove --db /var/lib/sieved/mail.db --wait --mail {name}")
-                    self.front.do(f"ssh {old} rm -rf /var/lib/sieved/mail/{name}; rm -f /root/{name}.account; postqueue -f")
+                    self.front.do(f"ssh {old} rm -rf /var/lib/sieved/mail/{name}; rm -f /root/{name}.account; postfix reload; postqueue -f")
                     return
                 self.front.do(f"ssh {new} rm -rf /var/lib/sieved/mail/{name}")
                 if self.is_open(name, old) is False:
@@ -507,16 +520,50 @@ def found_mail(cluster):
     return found
 
 
+class Loss:
+    """What there was of answers at a loss of power: by the replica as it was taken up, and by what `send` and Postfix had told until then."""
+
+    def __init__(self, host, room, when):
+        self.machine, self.when, self.store = host.name, when, f"{room}/store-then"
+        spool = f"{host.disk.place}/postfix"
+        # A file of Postfix's queue that is whole has the right to be executed; a number stands once in these folders.
+        self.spool = {name for queue in ("incoming", "active", "deferred") for folder, _, names in os.walk(f"{spool}/{queue}") for name in names
+                      if os.stat(f"{folder}/{name}").st_mode & 0o100}
+        with open(f"{host.room}/var/log/send.log") as told:
+            self.told = set(re.findall(r"^sent (\S+) (\d+)$", told.read(), re.MULTILINE))
+        with open(f"{host.room}/var/log/postfix.log") as told:
+            log = told.read()
+        self.taken, self.removed = (set(re.findall(rf": (\w+): {what}", log)) for what in ("client=", "removed"))
+        shutil.copytree(f"{host.disk.place}/sieved", self.store, ignore=shutil.ignore_patterns("mail"))
+
+    def rows(self, user, target):
+        """The numbers of the user's rows in the store of then that answer the target."""
+        listed = run(PROGRAM[0], "queue", "--db", f"{self.store}/mail.db", user)
+        return re.findall(rf"^(\d+) reply <> <{re.escape(target)}> \d+$", listed, re.MULTILINE)
+
+    def why_again(self, one, again):
+        """Why an answer came once more: what had not forgotten it on the disk when the power went. Nothing else is a reason."""
+        (machine, number), (later, other) = one.machine(), again.machine()
+        if machine == later == self.machine and number == other and number in self.spool:
+            return "a file that Postfix had removed" if number in self.removed else "a message that Postfix was handing on"
+        rows = self.rows(one.user, one.target) if machine == self.machine and number in self.taken and number != other else []
+        if len(rows) == 1 and (one.user, rows[0]) not in self.told:
+            return "a row that wasn't taken out yet"
+        raise AssertionError(f"came twice, {one.when - self.when:.2f} s and {again.when - self.when:.2f} s behind the loss of power; in Postfix's queue {sorted(self.spool)}, rows "
+                             f"{rows}, told {sorted(told for told in self.told if told[0] == one.user)}: {one.text} {again.text}")
+
+
 def loses_power(cluster, pause):
-    """One store machine is off at once; after a pause the other place takes its replica up, with its name and address."""
+    """One store machine is off at once; after a pause the other place takes its replica up, with its name and address. Returns what there was, and how long it was off."""
     began, old = time.time(), cluster.hosts["s1"]
     old.kill()
     old.disk.take_up()
+    loss = Loss(old, cluster.room, began)
     time.sleep(pause)
     again = cluster.hosts["s1"] = Host(cluster.room, "s1", old.disk, old)
     again.do("/usr/sbin/sshd -f /root/sshd_config\n" + next(line for line in cluster.block("postconf -e 'mydestination =' 'relayhost").split("\n") if "enable --now" in line)
              + "\nsystemctl restart postfix dovecot")
-    return time.time() - began
+    return loss, time.time() - began
 
 
 def day():
@@ -539,10 +586,10 @@ def day():
             times.append(time.time() - start)
         sender.join()
         power.join()
-        return told_of(cluster, users, mail, sorted(times), lost[0])
+        return told_of(cluster, users, mail, sorted(times), *lost[0])
 
 
-def told_of(cluster, users, mail, times, lost):
+def told_of(cluster, users, mail, times, loss, lost):
     """What is found at the end: each message once, where its script put it; each sender answered once; each script."""
     wanted = {name: [(users.machine[user], user, folder)] for name, (user, _, folder) in mail.sent.items()}
     settled = lambda: len(found_mail(cluster)) == len(wanted) and "Mail queue is empty" in users.front.do("postqueue -p || true")
@@ -550,6 +597,7 @@ def told_of(cluster, users, mail, times, lost):
         wait_for(settled, "an end of all deliveries", 180)
     except Exception:
         pass
+    assert not mail.refused, f"refused for a minute by the front: {mail.refused[:5]}"
     found = found_mail(cluster)
     missing, twice = [name for name in wanted if name not in found], [name for name, places in found.items() if len(places) > 1]
     elsewhere = [name for name, places in found.items() if set(places) != set(wanted[name])]
@@ -560,9 +608,9 @@ def told_of(cluster, users, mail, times, lost):
     except Exception:
         pass
     time.sleep(5)
-    silent, often = asked - set(cluster.sink.answers), [pair for pair, messages in cluster.sink.answers.items() if len(messages) > 1]
+    silent, often = asked - set(cluster.sink.answers), [pair for pair, came in cluster.sink.answers.items() if len({answer.message for answer in came}) > 1]
     assert not silent and set(cluster.sink.answers) == asked and not often, f"unanswered {list(silent)[:5]}, answered to two messages {often[:5]}"
-    again = sum(messages.total() - 1 for messages in cluster.sink.answers.values())
+    again = Counter(loss.why_again(*pair) for came in cluster.sink.answers.values() for pair in zip(came, came[1:]))
     scripts = in_threads(users.has_script, users.machine)
     assert all(scripts.values()), [name for name, there in scripts.items() if not there][:5]
     for name in list(users.machine)[:10]:
@@ -571,8 +619,8 @@ def told_of(cluster, users, mail, times, lost):
     # Behind a loss of power a delivery that was on the disk and not answered yet may be there twice.
     assert len(twice) <= 2, twice
     return (f"{len(users.machine)} users, {len(wanted)} messages, {len(times)} moves (median {times[len(times) // 2]:.1f} s, longest {times[-1]:.1f} s, {users.broken_off} broken off and "
-            f"gone on with), a machine lost for {lost:.0f} s: each message is there ({len(twice)} twice), {len(asked)} pairs of user and sender were answered once ({again} of these answers came "
-            "again), each script is there")
+            f"gone on with), a machine lost for {lost:.0f} s: each message is there ({len(twice)} twice), {len(asked)} pairs of user and sender were answered once (of these answers came "
+            f"again: {', '.join(f'{count} by {why}' for why, count in again.items()) or 'none'}), each script is there")
 
 
 @contextmanager

@@ -334,6 +334,29 @@ def shared():
     return f"three words of other processes, {max(spans):.2f} s at most; their rows went too"
 
 
+def moved():
+    """A user leaves for another store while her row is handed over, as CLUSTER has it: her text is written behind the run, and has no row that went."""
+    trials.need("flock")
+    house, other, told, threads = House(), Store([], PROGRAM[0]), [], []
+    house.deliver("bob")
+    words = ["flock", f"{house.store.file}.send", *house.store.words("export", "--wait", "--and-close", "bob")]
+
+    def leave():
+        threads.append(threading.Thread(target=lambda: told.append(subprocess.run(words, capture_output=True, check=True).stdout)))
+        threads[0].start()
+        # The reply to the text is late, so the store is free meanwhile.
+        time.sleep(0.5)
+
+    server = Server(before_dot=leave)
+    status, lines, errors = house.send(server.place)
+    threads[0].join()
+    assert (status, lines) == (0, ["sent bob 1", "sent 1, wait 0"]) and len(server.taken) == 1, (status, lines, errors)
+    other.run("import", data=told[0])
+    assert other.run("queue", "bob") == b"" and b"closed bob" in house.store.run("users"), told[0]
+    server.stop()
+    return "the text waited for the 250, and its row went once"
+
+
 def full():
     """The store refuses a row right behind its 250 while it is had, since its files may not grow: it leaves once they may, and goes once."""
     house = House()
@@ -540,7 +563,7 @@ def dovecot():
     return f"{count} rows, each once and as it stands; without a login 530"
 
 
-TRIALS = {"sends": sends, "replies": replies, "pieces": pieces, "lost": lost, "busy": busy, "refusing": refusing, "held": held, "shared": shared, "full": full, "octets": octets, "addresses": addresses, "waits": waits, "most": most, "killed": killed, "postfix": postfix, "dovecot": dovecot}
+TRIALS = {"sends": sends, "replies": replies, "pieces": pieces, "lost": lost, "busy": busy, "refusing": refusing, "held": held, "shared": shared, "moved": moved, "full": full, "octets": octets, "addresses": addresses, "waits": waits, "most": most, "killed": killed, "postfix": postfix, "dovecot": dovecot}
 
 
 def program(path):
