@@ -82,4 +82,5 @@ notice_part e = Notice e.0 e.1.moment e.1.text
 -- scripts by name, moments by handle and sender, copies by number, messages on their way out by number, notices by number
 abbrev pub parts_of : Account → List KeptCopy → List (ℕ × KeptNotice) → List Part
 parts_of a copies notices =
-    map script_part (entries a.scripts) ++ (map reply_part (entries a.replies) ++ (copy_parts None copies ++ (map letter_part a.queue ++ map notice_part notices)))
+    map script_part (entries a.scripts) ++ (map reply_part (entries a.replies)
+    ++ (copy_parts None copies ++ (map letter_part a.queue ++ map notice_part notices)))

@@ -1,15 +1,18 @@
 -- Where the parts of an account are.
-use Rattle.std.specs.Prelude.{◌≡◌, ◌++◌, ℕ, Bool, true, false, List, [], ◌∷◌, map, Option, Some, None, if◌then◌else◌}
+use Rattle.std.specs.Prelude.{◌≡◌, ◌++◌, ℕ, Bool, true, false, List, [], ◌∷◌, map, Option, Result, Some, None, if◌then◌else◌}
 use Rattle.std.specs.List.{list_any}
 use Rattle.std.specs.FinMap.{keys}
 use Rattle.sqlite.specs.Effect.{Database}
+use Rattle.sqlite.specs.State.{State}
 use Rattle.accountfiles.specs.Netstring.{same_text}
 use Rattle.mailtables.specs.Rows.{Tables, HoldsTables}
 use Rattle.mailtables.specs.Schema.{mail_schema}
 use Rattle.mailstore.specs.declared.filing.Filing.{Filing}
 use Rattle.mailstore.specs.declared.notice.Notice.{Notice as KeptNotice}
+use Rattle.mailstore.specs.declared.refusal.Refusal.{Refusal}
 use Rattle.mailstore.specs.Account.{Account}
 use Rattle.mailstore.specs.CopyRows.{Copy as KeptCopy, filing_of}
+use Rattle.mailstore.specs.Promises.{ReadsEntered}
 use Rattle.mailstore.specs.ReplyRows.{reply_key_of}
 use Rattle.mailstore.specs.Shows.{rows_of, IsShown}
 use Rattle.accountcopies.specs.declared.place.Place.{Place}
@@ -30,11 +33,19 @@ abbrev pub copy_places : Option Run → List Filing → List Place
 copy_places run [] = []
 copy_places run (f ∷ filings) = copy_place run f ∷ copy_places (Some (run_with run f.n f.id)) filings
 
+abbrev pub script_places : Account → List Place
+script_places a = map place.Script (keys a.scripts)
+
+abbrev pub reply_places : Account → List Place
+reply_places a = map place.Reply (map reply_key_of (keys a.replies))
+
+abbrev pub letter_places : Account → List Place
+letter_places a = map (λ out. place.Letter out.id) a.queue
+
 -- each part of the account has its place, in the same order
 abbrev pub places_of : Account → List KeptCopy → List (ℕ × KeptNotice) → List Place
 places_of a copies notices =
-    map place.Script (keys a.scripts) ++ (map place.Reply (map reply_key_of (keys a.replies))
-    ++ (copy_places None (map filing_of copies) ++ (map (λ out. place.Letter out.id) a.queue ++ map place.Notice (map (λ e. e.0) notices))))
+    script_places a ++ (reply_places a ++ (copy_places None (map filing_of copies) ++ (letter_places a ++ map place.Notice (map (λ e. e.0) notices))))
 
 -- ---- what is read of them
 
@@ -48,6 +59,20 @@ AreCopyPlaces user old new db a = OfShown db user a (λ own s. new ≡ old ++ co
 -- and those of the notices
 abbrev pub AreNoticePlaces : List ℕ → List Place → List Place → Database → Account → Type 0
 AreNoticePlaces user old new db a = OfShown db user a (λ own s. new ≡ old ++ map place.Notice (map (λ e. e.0) s.notices.entries))
+
+-- ---- what the calls promise of them, of an account that was entered and that the state before shows
+
+-- the read of all places
+abbrev pub ListsPlaces : List ℕ → State → State → Result (List Place) Refusal → Type 0
+ListsPlaces user old new r = ReadsEntered user (λ places a. ArePlaces user places old.now a) old new r
+
+-- the read of the copies, whose places join the others
+abbrev pub JoinsCopies : List ℕ → List Place → List Place → State → State → Result (Unit {0}) Refusal → Type 0
+JoinsCopies user before after old new r = ReadsEntered user (λ _ a. AreCopyPlaces user before after old.now a) old new r
+
+-- and that of the notices
+abbrev pub JoinsNotices : List ℕ → List Place → List Place → State → State → Result (Unit {0}) Refusal → Type 0
+JoinsNotices user before after old new r = ReadsEntered user (λ _ a. AreNoticePlaces user before after old.now a) old new r
 
 -- ---- the active script
 

@@ -1,13 +1,20 @@
 -- What was read of an account so far.
-use Rattle.std.specs.Prelude.{◌≡◌, ◌++◌, ℕ, true, List, [], ◌∷◌, length, take}
+use Rattle.std.specs.Prelude.{◌≡◌, ◌++◌, ℕ, true, List, [], ◌∷◌, Result, Some, length, take}
+use Rattle.std.specs.FinMap.{empty, get}
 use Rattle.std.specs.List.{AllByRecursion}
 use Rattle.sqlite.specs.Effect.{Database}
+use Rattle.sqlite.specs.State.{State}
 use Rattle.accountfiles.specs.Limits.{MayHave}
 use Rattle.accountfiles.specs.Text.{IsHead}
 use Rattle.accountfiles.specs.declared.part.Part.{Part}
 use Rattle.mailtables.specs.Rows.{Tables}
-use Rattle.mailstore.specs.Account.{Account}
-use Rattle.mailstore.specs.Shows.{IsShown}
+use Rattle.mailstore.specs.declared.profile.Profile.{Profile}
+use Rattle.mailstore.specs.declared.refusal.Refusal.{Refusal}
+use Rattle.mailstore.specs.Account.{Account, Accounts}
+use Rattle.mailstore.specs.AccountRows.{profile_of}
+use Rattle.mailstore.specs.Promises.{Reads, ReadsEntered}
+use Rattle.mailstore.specs.Shows.{IsShown, Presents}
+use Rattle.mailstore.specs.Whole.{whole}
 use Rattle.accountcopies.specs.declared.contents.Contents.{Contents}
 use Rattle.accountcopies.specs.Parts.{head_of, parts_of}
 use Rattle.accountcopies.specs.Places.{places_of, has_active, OfShown}
@@ -32,3 +39,29 @@ pub record AreRead (contents : Contents) (parts : List Part) (db : Database) (a 
 -- where all parts before this place were read, it is the next one
 abbrev pub IsNextPart : Contents → ℕ → Part → Database → Account → Type 0
 IsNextPart contents at part db a = (parts : List Part) → length parts ≡ at → AreRead contents parts db a → AreRead contents (parts ++ part ∷ []) db a
+
+-- ---- what the calls promise of it, of the account that the state before shows
+
+-- the read of what the user's open account has, of whose parts none is read yet
+abbrev pub ListsContents : List ℕ → State → State → Result Contents Refusal → Type 0
+ListsContents user old new r = Reads user (λ contents a. AreRead contents [] old.now a) old new r
+
+-- the same of an account that was entered, where this is its profile
+abbrev pub ListsEntered : List ℕ → Profile → State → State → Result Contents Refusal → Type 0
+ListsEntered user profile old new r = ReadsEntered user (λ contents a. profile ≡ profile_of a → AreRead contents [] old.now a) old new r
+
+-- the read of the part at a place of these contents
+abbrev pub ReadsNext : Contents → ℕ → State → State → Result Part Refusal → Type 0
+ReadsNext contents at old new r = ReadsEntered contents.head.owner.name (λ part a. IsNextPart contents at part old.now a) old new r
+
+-- ---- what the parts make
+
+-- these parts were read of the account, which the database shows among the others
+pub record HasRead (contents : Contents) (parts : List Part) (db : Database) (accounts : Accounts) (a : Account) : Type 0 where
+  pub shown : Presents db accounts
+  pub there : get accounts contents.head.owner.name ≡ Some a
+  pub read : AreRead contents parts db a
+
+-- some parts make the account again, and these are the first of them
+abbrev pub BeginsCopy : Contents → List Part → Account → Type 0
+BeginsCopy contents parts a = (all : List Part) × (parts ≡ take (length parts) all) × (whole contents.head all empty ≡ a)

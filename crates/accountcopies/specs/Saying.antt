@@ -1,12 +1,15 @@
 -- What the rows say of a place.
-use Rattle.std.specs.Prelude.{◌≡◌, ℕ, List, Some, option_map}
+use Rattle.std.specs.Prelude.{◌≡◌, ℕ, List, Result, Some, option_map}
 use Rattle.std.specs.FinMap.{get}
 use Rattle.sqlite.specs.Effect.{Database}
+use Rattle.sqlite.specs.State.{State}
 use Rattle.accountfiles.specs.declared.part.Part.{Part}
 use Rattle.accountfiles.specs.declared.part.Part.TheVariants as part
 use Rattle.mailtables.specs.Rows.{Tables}
+use Rattle.mailstore.specs.declared.refusal.Refusal.{Refusal}
 use Rattle.mailstore.specs.Account.{Account, row_with}
 use Rattle.mailstore.specs.Listing.{notice_with}
+use Rattle.mailstore.specs.Promises.{ReadsEntered}
 use Rattle.mailstore.specs.Shows.{HasOctets, IsShown}
 use Rattle.accountcopies.specs.declared.place.Place.{Place}
 use Rattle.accountcopies.specs.declared.place.Place.TheVariants as place
@@ -25,3 +28,7 @@ Says user a p (place.Notice n) own s = Some p ≡ option_map (λ e. part.Notice 
 -- the same of the rows that a database has
 abbrev pub SaysAt : List ℕ → Place → Part → Database → Account → Type 0
 SaysAt user place p db a = OfShown db user a (Says user a p place)
+
+-- the read of the part at a place, of an account that was entered
+abbrev pub ReadsPlace : List ℕ → Place → State → State → Result Part Refusal → Type 0
+ReadsPlace user place old new r = ReadsEntered user (λ part a. SaysAt user place part old.now a) old new r

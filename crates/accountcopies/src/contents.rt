@@ -1,13 +1,11 @@
 //! What an account has, without its texts and messages.
-ghost use Rattle.std.specs.Prelude.{◌≡◌, [], true, IfOk, IfErr};
+ghost use Rattle.std.specs.Prelude.{◌≡◌, true, IfOk, IfErr};
 ghost use Rattle.sqlite.specs.Held.{state};
 ghost use Rattle.accountfiles.specs.Text.{IsHead};
-ghost use Rattle.mailstore.specs.AccountRows.{profile_of};
-ghost use Rattle.mailstore.specs.Promises.{Reads, ReadsEntered};
 ghost use Rattle.mailstore.specs.Refusals.{IsTransient};
 ghost use Rattle.accountcopies.specs.Parts.{head_by};
 ghost use Rattle.accountcopies.specs.Places.{has_active as has_active_in};
-ghost use Rattle.accountcopies.specs.Reading.{AreRead};
+ghost use Rattle.accountcopies.specs.Reading.{ListsContents, ListsEntered};
 
 use crate::place::{Place, has_active, list_places};
 use accountfiles::{Head, Numbers, Owner, is_head};
@@ -37,7 +35,7 @@ pub fn list_contents<S: Alter>(
     store: &mut Store<S>,
     user: &[u8],
 ) -> Result<Contents, Refusal>
-    ensures reads { Reads user.now (λ contents a. AreRead contents [] (state S.Store store.old).now a) (state S.Store store.old) (state S.Store store.new) result }
+    ensures reads { ListsContents user.now (state S.Store store.old) (state S.Store store.new) result }
     ensures named { IfOk result (λ contents. contents.head.owner.name ≡ user.now) }
 {
     let profile = store.enter(user)?;
@@ -51,8 +49,7 @@ fn list_of<S: Alter>(
     user: &[u8],
     profile: Profile,
 ) -> Result<Contents, Refusal>
-    ensures reads { ReadsEntered user.now (λ contents a. profile ≡ profile_of a → AreRead contents [] (state S.Store store.old).now a) (state S.Store store.old)
-        (state S.Store store.new) result }
+    ensures reads { ListsEntered user.now profile (state S.Store store.old) (state S.Store store.new) result }
     ensures named { IfOk result (λ contents. contents.head.owner.name ≡ user.now) }
 {
     let counters = store.counters_of(user)?;

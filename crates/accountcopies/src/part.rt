@@ -3,11 +3,10 @@ ghost use Rattle.std.specs.Prelude.{◌≡◌, ◌<◌, length, true, Some, opti
 ghost use Rattle.sqlite.specs.Held.{state};
 ghost use Rattle.accountfiles.specs.declared.part.Part.{Part};
 ghost use Rattle.mailtables.specs.declared.queue.Kind.{Kind};
-ghost use Rattle.mailstore.specs.Promises.{ReadsEntered};
 ghost use Rattle.mailstore.specs.Refusals.{IsTransient};
 ghost use Rattle.accountcopies.specs.Parts.{letter_part, way_of as way_by};
-ghost use Rattle.accountcopies.specs.Reading.{IsNextPart};
-ghost use Rattle.accountcopies.specs.Saying.{SaysAt};
+ghost use Rattle.accountcopies.specs.Reading.{ReadsNext};
+ghost use Rattle.accountcopies.specs.Saying.{ReadsPlace};
 
 use crate::contents::Contents;
 use crate::place::Place;
@@ -32,8 +31,7 @@ pub fn read_part<S: Alter>(
     at: usize,
 ) -> Result<Part, Refusal>
     requires { at < length contents.now.places }
-    ensures { ReadsEntered contents.now.head.owner.name (λ part a. IsNextPart contents.now at part (state S.Store store.old).now a) (state S.Store store.old)
-        (state S.Store store.new) result }
+    ensures { ReadsNext contents.now at (state S.Store store.old) (state S.Store store.new) result }
 {
     let user = contents.head.owner.name.as_slice();
     let part = part_at(alloc, store, user, &contents.places.as_slice()[at])?;
@@ -50,7 +48,7 @@ fn part_at<S: Alter>(
     user: &[u8],
     place: &Place,
 ) -> Result<Part, Refusal>
-    ensures { ReadsEntered user.now (λ part a. SaysAt user.now place.now part (state S.Store store.old).now a) (state S.Store store.old) (state S.Store store.new) result }
+    ensures { ReadsPlace user.now place.now (state S.Store store.old) (state S.Store store.new) result }
 {
     match place {
         Place::Script(name) => read_script(alloc, store, user, name),
@@ -68,7 +66,7 @@ fn read_script<S: Alter>(
     user: &[u8],
     name: &Octets,
 ) -> Result<Part, Refusal>
-    ensures { ReadsEntered user.now (λ part a. SaysAt user.now (Place.Script name.now) part (state S.Store store.old).now a) (state S.Store store.old) (state S.Store store.new) result }
+    ensures { ReadsPlace user.now (Place.Script name.now) (state S.Store store.old) (state S.Store store.new) result }
 {
     let text = store.script_of(user, name.as_slice())?;
     script(alloc, name, text)
@@ -80,7 +78,7 @@ fn read_reply<S: Alter>(
     user: &[u8],
     key: &ReplyKey,
 ) -> Result<Part, Refusal>
-    ensures { ReadsEntered user.now (λ part a. SaysAt user.now (Place.Reply key.now) part (state S.Store store.old).now a) (state S.Store store.old) (state S.Store store.new) result }
+    ensures { ReadsPlace user.now (Place.Reply key.now) (state S.Store store.old) (state S.Store store.new) result }
 {
     let moment = store.moment_of(user, key.handle.as_slice(), key.sender.as_slice())?;
     reply(alloc, key, moment)
@@ -92,7 +90,7 @@ fn read_mail<S: Alter>(
     user: &[u8],
     copy: &Filing,
 ) -> Result<Part, Refusal>
-    ensures { ReadsEntered user.now (λ part a. SaysAt user.now (Place.Mail copy.now) part (state S.Store store.old).now a) (state S.Store store.old) (state S.Store store.new) result }
+    ensures { ReadsPlace user.now (Place.Mail copy.now) (state S.Store store.old) (state S.Store store.new) result }
 {
     let message = store.message_of(user, copy.id)?;
     mail(alloc, copy, message)
@@ -106,21 +104,21 @@ fn read_copy<S: Alter>(
     copy: &Filing,
     first: u64,
 ) -> Result<Part, Refusal>
-    ensures { ReadsEntered user.now (λ part a. SaysAt user.now (Place.Copy copy.now first) part (state S.Store store.old).now a) (state S.Store store.old) (state S.Store store.new) result }
+    ensures { ReadsPlace user.now (Place.Copy copy.now first) (state S.Store store.old) (state S.Store store.new) result }
 {
     let is_shared = store.has_other_copy(user, copy)?;
     copy_behind(alloc, copy, first, is_shared)
 }
 
 fn read_letter<S: Alter>(store: &mut Store<S>, user: &[u8], id: u64) -> Result<Part, Refusal>
-    ensures { ReadsEntered user.now (λ part a. SaysAt user.now (Place.Letter id) part (state S.Store store.old).now a) (state S.Store store.old) (state S.Store store.new) result }
+    ensures { ReadsPlace user.now (Place.Letter id) (state S.Store store.old) (state S.Store store.new) result }
 {
     let row = store.outgoing_of(user, id)?;
     letter(row)
 }
 
 fn read_notice<S: Alter>(store: &mut Store<S>, user: &[u8], number: u64) -> Result<Part, Refusal>
-    ensures { ReadsEntered user.now (λ part a. SaysAt user.now (Place.Notice number) part (state S.Store store.old).now a) (state S.Store store.old) (state S.Store store.new) result }
+    ensures { ReadsPlace user.now (Place.Notice number) (state S.Store store.old) (state S.Store store.new) result }
 {
     let found = store.notice_of(user, number)?;
     notice(number, found)

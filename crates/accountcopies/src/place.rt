@@ -1,12 +1,11 @@
 //! Where the parts of an account are.
 ghost use Rattle.std.specs.Prelude.{◌≡◌, ◌++◌, List, None, OnOk, IfErr, map, option_copied};
-ghost use Rattle.std.specs.FinMap.{keys};
 ghost use Rattle.std.specs.List.{list_any};
 ghost use Rattle.sqlite.specs.Held.{state};
 ghost use Rattle.mailstore.specs.Promises.{ReadsEntered};
-ghost use Rattle.mailstore.specs.ReplyRows.{reply_key_of};
 ghost use Rattle.mailstore.specs.Refusals.{IsTransient};
-ghost use Rattle.accountcopies.specs.Places.{copy_place as copy_place_of, copy_places, ArePlaces, AreCopyPlaces, AreNoticePlaces, is_script as is_script_of, has_active as has_active_in};
+ghost use Rattle.accountcopies.specs.Places.{ListsPlaces, JoinsCopies, JoinsNotices, copy_places, letter_places, reply_places, script_places};
+ghost use Rattle.accountcopies.specs.Places.{copy_place as copy_place_of, has_active as has_active_in, is_script as is_script_of};
 
 use crate::run::Run;
 use mailstore::{Filing, Head, Refusal, ReplyKey, Store};
@@ -37,7 +36,7 @@ pub(crate) fn list_places<S: Alter>(
     store: &mut Store<S>,
     user: &[u8],
 ) -> Result<List<Place>, Refusal>
-    ensures { ReadsEntered user.now (λ places a. ArePlaces user.now places (state S.Store store.old).now a) (state S.Store store.old) (state S.Store store.new) result }
+    ensures { ListsPlaces user.now (state S.Store store.old) (state S.Store store.new) result }
 {
     let mut places = List::new(alloc);
     list_scripts(store, user, &mut places)?;
@@ -53,7 +52,7 @@ fn list_scripts<S: Alter>(
     user: &[u8],
     places: &mut List<Place>,
 ) -> Result<(), Refusal>
-    ensures { ReadsEntered user.now (λ _ a. places.new ≡ places.old ++ map Place.Script (keys a.scripts)) (state S.Store store.old) (state S.Store store.new) result }
+    ensures { ReadsEntered user.now (λ _ a. places.new ≡ places.old ++ script_places a) (state S.Store store.old) (state S.Store store.new) result }
 {
     let names = store.scripts_of(user)?;
     push_scripts(places, names)
@@ -64,7 +63,7 @@ fn list_replies<S: Alter>(
     user: &[u8],
     places: &mut List<Place>,
 ) -> Result<(), Refusal>
-    ensures { ReadsEntered user.now (λ _ a. places.new ≡ places.old ++ map Place.Reply (map reply_key_of (keys a.replies))) (state S.Store store.old) (state S.Store store.new) result }
+    ensures { ReadsEntered user.now (λ _ a. places.new ≡ places.old ++ reply_places a) (state S.Store store.old) (state S.Store store.new) result }
 {
     let all = store.reply_keys_of(user)?;
     push_replies(places, all)
@@ -75,7 +74,7 @@ fn list_copies<S: Alter>(
     user: &[u8],
     places: &mut List<Place>,
 ) -> Result<(), Refusal>
-    ensures { ReadsEntered user.now (λ _ a. AreCopyPlaces user.now places.old places.new (state S.Store store.old).now a) (state S.Store store.old) (state S.Store store.new) result }
+    ensures { JoinsCopies user.now places.old places.new (state S.Store store.old) (state S.Store store.new) result }
 {
     let filings = store.filings_of(user)?;
     push_copies(places, filings)
@@ -86,7 +85,7 @@ fn list_letters<S: Alter>(
     user: &[u8],
     places: &mut List<Place>,
 ) -> Result<(), Refusal>
-    ensures { ReadsEntered user.now (λ _ a. places.new ≡ places.old ++ map (λ out. Place.Letter out.id) a.queue) (state S.Store store.old) (state S.Store store.new) result }
+    ensures { ReadsEntered user.now (λ _ a. places.new ≡ places.old ++ letter_places a) (state S.Store store.old) (state S.Store store.new) result }
 {
     let heads = store.queue_heads_of(user)?;
     push_letters(places, heads)
@@ -97,7 +96,7 @@ fn list_notices<S: Alter>(
     user: &[u8],
     places: &mut List<Place>,
 ) -> Result<(), Refusal>
-    ensures { ReadsEntered user.now (λ _ a. AreNoticePlaces user.now places.old places.new (state S.Store store.old).now a) (state S.Store store.old) (state S.Store store.new) result }
+    ensures { JoinsNotices user.now places.old places.new (state S.Store store.old) (state S.Store store.new) result }
 {
     let numbers = store.notice_numbers_of(user)?;
     push_notices(places, numbers)
