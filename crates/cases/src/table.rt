@@ -41,6 +41,7 @@ pub const TABLES: [Table; 28] = [
     Table::Text(TextTable::Logins),
     Table::Text(TextTable::Heads),
     Table::Text(TextTable::Dates),
+    Table::Text(TextTable::Flags),
     Table::Text(TextTable::AccountFiles),
     Table::Scripts,
     Table::Tests,

@@ -11,6 +11,7 @@ mod date;
 mod date_part;
 mod decision;
 mod fault;
+mod flag;
 mod head;
 mod item;
 mod line;

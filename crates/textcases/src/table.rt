@@ -1,7 +1,7 @@
 //! The files of cases whose answers need no store.
 use crate::{
-    account_file, address, ascii, comparison, date_part, fault, head, item, line, login, reply,
-    token, vacation, word,
+    account_file, address, ascii, comparison, date_part, fault, flag, head, item, line, login,
+    reply, token, vacation, word,
 };
 use casefiles::{Answers, Tally, try_rows};
 use octets::Octets;
@@ -27,6 +27,7 @@ pub enum TextTable {
     Logins,
     Heads,
     Dates,
+    Flags,
     Vacations,
     AccountFiles,
 }
@@ -52,6 +53,7 @@ impl TextTable {
             TextTable::Logins => "logins.cases",
             TextTable::Heads => "heads.cases",
             TextTable::Dates => "dates.cases",
+            TextTable::Flags => "flags.cases",
             TextTable::Vacations => "vacations.cases",
             TextTable::AccountFiles => "accountfiles.cases",
         }
@@ -114,6 +116,7 @@ impl Answers for Rows {
         match (table, given) {
             (TextTable::Replies, _) => reply::add_spelling(alloc, out, given),
             (TextTable::Logins, _) => login::answer(alloc, out, given),
+            (TextTable::Flags, _) => flag::add_flags(alloc, out, given),
             (TextTable::Dates, [text, zone, part]) => date_part::add_part(
                 out,
                 text.as_slice(),

@@ -1,0 +1,58 @@
+-- The flags of a message, and what `setflag`, `addflag` and `removeflag` make of them (RFC 5232).
+use Rattle.std.specs.Prelude.{◌≡◌, ◌≤◌, ℕ, Bool, true, cond, not, ◌&&◌, nat_lt, List, [], ◌∷◌, ◌++◌, length, filter, fold, map}
+use Rattle.std.specs.List.{list_any, All, IsDistinct, slice_split, join_with_byte}
+use Rattle.octets.specs.Ascii.{is_blank}
+use Rattle.mailflags.specs.Names.{are_same, is_flag}
+use Rattle.mailflags.specs.System.{all_system, name_of, letter_of}
+
+-- how many flags a message has at most
+abbrev pub max_flags : ℕ
+max_flags = 100
+
+-- flags: names of flags, none twice, and not too many
+pub record AreFlags (flags : List (List ℕ)) : Type 0 where
+  pub names : All (λ name. is_flag name ≡ true) flags
+  pub distinct : IsDistinct are_same flags
+  pub few : length flags ≤ max_flags
+
+-- the flag is one of them
+abbrev pub has : List (List ℕ) → List ℕ → Bool
+has flags name = list_any (λ there. are_same there name) flags
+
+-- one more at the end, where it is the name of a flag, isn't there yet, and there is room
+abbrev pub with_one : List (List ℕ) → List ℕ → List (List ℕ)
+with_one flags name = cond (nat_lt (length flags) max_flags && is_flag name && not (has flags name)) (flags ++ name ∷ []) flags
+
+-- one less, where it is there
+abbrev pub without_one : List (List ℕ) → List ℕ → List (List ℕ)
+without_one flags name = filter (λ there. not (are_same there name)) flags
+
+-- what stands between the blanks of a text
+abbrev pub between_blanks : List ℕ → List (List ℕ)
+between_blanks = slice_split is_blank
+
+-- all that a text names are added, or go
+abbrev pub with_named : List (List ℕ) → List ℕ → List (List ℕ)
+with_named flags text = fold with_one flags (between_blanks text)
+
+abbrev pub without_named : List (List ℕ) → List ℕ → List (List ℕ)
+without_named flags text = fold without_one flags (between_blanks text)
+
+-- and all that several texts name
+abbrev pub added : List (List ℕ) → List (List ℕ) → List (List ℕ)
+added = fold with_named
+
+abbrev pub removed : List (List ℕ) → List (List ℕ) → List (List ℕ)
+removed = fold without_named
+
+-- the flags that a text names
+abbrev pub named : List ℕ → List (List ℕ)
+named = with_named []
+
+-- the text that names them, with a blank between two
+abbrev pub written : List (List ℕ) → List ℕ
+written = join_with_byte 32
+
+-- the letters of the system flags among them
+abbrev pub letters : List (List ℕ) → List ℕ
+letters flags = map letter_of (filter (λ system. has flags (name_of system)) all_system)

@@ -1,0 +1,11 @@
+//! The flags of a message, as IMAP names them (RFC 3501, 2.3.2; RFC 5232), and the letters that a Maildir has for them.
+#![tactic(auto)]
+
+mod flags;
+pub mod laws;
+mod name;
+mod system;
+
+pub use flags::Flags;
+pub use name::{MAX_FLAG_LEN, are_same, is_flag};
+pub use system::SystemFlag;

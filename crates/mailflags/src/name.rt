@@ -1,0 +1,48 @@
+//! The names of flags.
+ghost use Rattle.std.specs.Prelude.{◌≡◌};
+ghost use Rattle.std.specs.List.{list_all};
+ghost use Rattle.mailflags.specs.Names as names;
+
+use crate::system::SystemFlag;
+
+/// How many octets the name of a flag has at most.
+pub const MAX_FLAG_LEN: usize = 128;
+
+/// Whether the text is the name of a flag that a user may set: one of the five system flags, or a keyword, which is an atom of
+/// IMAP (RFC 3501, 9), of at most [`MAX_FLAG_LEN`] octets. `\Recent` and unknown names with `\` are none. One pass.
+pub fn is_flag(name: &[u8]) -> bool
+    ensures { result ≡ names.is_flag name.now }
+{
+    name.len() <= MAX_FLAG_LEN && (is_keyword(name) || SystemFlag::is_one(name))
+}
+
+/// Whether two names are of one flag: the case of letters of ASCII is no difference (RFC 3501, 9).
+pub fn are_same(one: &[u8], other: &[u8]) -> bool
+    ensures { result ≡ names.are_same one.now other.now }
+{
+    one.eq_ignore_ascii_case(other)
+}
+
+/// An atom: octets of atoms, one or more.
+fn is_keyword(name: &[u8]) -> bool
+    ensures { result ≡ names.is_keyword name.now }
+{
+    !name.is_empty() && are_of_atoms(name)
+}
+
+fn are_of_atoms(name: &[u8]) -> bool
+    ensures { result ≡ list_all names.is_of_atoms name.now }
+{
+    name.iter().all(|octet| is_of_atoms(*octet))
+}
+
+/// An octet that an atom may have: none of `(`, `)`, `{`, `%`, `*`, `"`, `\`, `]`, no blank and no control octet.
+fn is_of_atoms(octet: u8) -> bool
+    ensures { result ≡ names.is_of_atoms octet }
+{
+    octet.is_ascii_graphic()
+        && !matches!(
+            octet,
+            b'(' | b')' | b'{' | b'%' | b'*' | b'"' | b'\\' | b']'
+        )
+}
