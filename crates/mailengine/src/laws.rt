@@ -15,7 +15,7 @@ ghost use Rattle.mailengine.specs.World.{World, Next, Runs};
 ghost use Rattle.mailstore.specs.Account.{Account, Accounts};
 ghost use Rattle.mailstore.specs.Whole.{whole, IsCopyOf};
 ghost use Rattle.mailengine.specs.OwnActs.{Act, Alone, IsAlone};
-ghost use Rattle.mailengine.specs.Spacing.{IsSpaced};
+ghost use Rattle.mailengine.specs.Spacing.{Entry, GoOn, IsMove, IsSpaced, IsSpacing};
 
 /// What becomes of a user's account, and what is answered to the user's own acts, is by these acts alone.
 pub fn each_user_alone()
@@ -30,6 +30,13 @@ pub fn account_by_acts()
 /// Two answers of one user to one sender under one handle are apart by at least the later one's period.
 pub fn answers_spaced()
     ensures { (events : List Event) (told : List Answer) (w end : World) (run : Runs w events told end) → IsSpaced w events told end run }
+{}
+
+/// And so they are where the user's account moves, from one machine to another: what the other one answers keeps its distance from
+/// what the first one had answered.
+pub fn spaced_across_a_move()
+    ensures { (user : List ℕ) (start left here came end : Accounts) (first second : List Entry)
+        → IsSpacing start left first → IsMove user left here came → IsSpacing came end second → GoOn user first second }
 {}
 
 /// A text of an account, imported under a name that nobody has, is just that account again, however it is read. Its password is one
