@@ -258,29 +258,36 @@ wrong = [b"", b"\n", b"alice", whole[:-1], body, whole[:1], whole[1:], whole + b
          b"".join(account(version=b"2", **FULL)), b"".join(account(owner=owner(), active=b"main")), b"".join(account(owner=owner(), parts=[parts[3]])), end, letter("x")]
 for text in wrong:
     refused("import --db F", BAD, [text])
-title("what is no account of ours: a name, an address, a script's name, text or number that can't be; all with the right sum")
+title("what is no account of ours: a name, an address, a password, a script's name, text or number that can't be; all with the right sum")
 for name in b"", b"a" * 65, b"a/b", b"a b", b"\xc3\xa9", b"a\x00":
     refused("import --db F", BAD, account(owner=owner(name)))
 for address in b"", b"alice", b"a@b c", b"Alice <a@example.org>", b"a@example.org, b@example.org":
     refused("import --db F", BAD, account(owner=owner(address=address)))
+for rounds in 1, 9_999, 10_001, 20_000, 2**32 - 1:
+    refused("import --db F", BAD, account(owner=owner(), numbers=(rounds, 1, 1, 1)))
+for salt in b"s" * 65, Long(b"s" * 1_000_000):
+    refused("import --db F", BAD, account(owner=owner()[:2] + (salt, DIGEST)))
+for rounds in 0, 10_000:
+    refused("import --db F", BAD, account(owner=owner()[:3] + (b"",), parts=[(b"mail", 1, b"INBOX", letter("x"))], numbers=(rounds, 2, 1, 1)))
 for script in [(b"", b"keep;"), (b"x" * 129, b"keep;"), (b"a\nb", b"keep;"), (b"\xff", b"keep;"), (b"m", b"frob;"), (b"m", b'fileinto "x";'), (b"m", Long(b" " * 262_145))]:
     refused("import --db F", BAD, account(owner=owner(), parts=[(b"script", *script)]))
 refused("import --db F", BAD, account(owner=owner(), parts=[(b"script", b"s%02d" % n, b"keep;") for n in range(33)]))
 run("users --db F")
-title("at the limits: 32 scripts, one of 262,144 octets, a name of 128 characters, the greatest numbers, 300 of each part that may have so many")
+title("at the limits: a salt of 64 octets, 32 scripts, one of 262,144 octets, a name of 128 characters, the greatest numbers, 300 of each part that may have so many")
 for more in [dict(parts=[(b"script", b"s%02d" % n, b"keep;") for n in range(32)], active=b"s31"),
              dict(parts=[(b"script", b"m", Long(b" " * 262_144))]),
              dict(parts=[(b"script", b"x" * 128, b"")]),
-             dict(numbers=(2**32 - 1, 2**63 - 1, 2**63 - 1, 2**63 - 1)),
+             dict(numbers=(10_000, 2**63 - 1, 2**63 - 1, 2**63 - 1)),
+             dict(owner=owner()[:2] + (b"s" * 64, b"d")),
              dict(parts=[(b"reply", b"k", b"s", 2**63 - 1), (b"mail", 2**63 - 2, b"a", b""), (b"redirect", 2**63 - 2, b"", b"", b""), (b"notice", 2**63 - 2, 2**63 - 1, b"")],
-                  numbers=(1, 2**63 - 1, 2**63 - 1, 2**63 - 1)),
+                  numbers=(10_000, 2**63 - 1, 2**63 - 1, 2**63 - 1)),
              dict(parts=[(b"reply", b"k%03d" % n, b"a@b", n) for n in range(300)]),
-             dict(parts=[(b"mail", n + 1, b"f%d" % n, b"m%d" % n) for n in range(300)], numbers=(1, 301, 1, 1)),
-             dict(parts=[(b"mail", n + 1, b"f", b"m%d" % n) for n in range(300)], numbers=(1, 301, 1, 1)),
-             dict(parts=[(b"mail", 1, b"f0", b"m")] + [(b"copy", n + 1, b"f%d" % n, 1) for n in range(1, 300)], numbers=(1, 301, 1, 1)),
-             dict(parts=[(b"redirect" if n % 2 else b"answer", n + 1, b"s", b"t%d" % n, b"m") for n in range(300)], numbers=(1, 1, 301, 1)),
-             dict(parts=[(b"notice", n + 1, n, b"told") for n in range(300)], numbers=(1, 1, 1, 301))]:
-    text = account(owner=owner(), **more)
+             dict(parts=[(b"mail", n + 1, b"f%d" % n, b"m%d" % n) for n in range(300)], numbers=(10_000, 301, 1, 1)),
+             dict(parts=[(b"mail", n + 1, b"f", b"m%d" % n) for n in range(300)], numbers=(10_000, 301, 1, 1)),
+             dict(parts=[(b"mail", 1, b"f0", b"m")] + [(b"copy", n + 1, b"f%d" % n, 1) for n in range(1, 300)], numbers=(10_000, 301, 1, 1)),
+             dict(parts=[(b"redirect" if n % 2 else b"answer", n + 1, b"s", b"t%d" % n, b"m") for n in range(300)], numbers=(10_000, 1, 301, 1)),
+             dict(parts=[(b"notice", n + 1, n, b"told") for n in range(300)], numbers=(10_000, 1, 1, 301))]:
+    text = account(**{"owner": owner(), **more})
     new_store()
     imports(text)
     exports(text)

@@ -1,5 +1,5 @@
 -- An account that comes whole, on small cases: what is right, and beside it what nearly is.
-use Rattle.std.proofs.Common.{◌≡◌, ℕ, true, false, cond, List, [], ◌∷◌, codes, Some, None, MatchBool, refl, sym, ap, ◌∙◌, subst, inl, inr}
+use Rattle.std.proofs.Common.{◌≡◌, ℕ, true, false, cond, List, [], ◌∷◌, codes, replicate, Some, None, MatchBool, refl, sym, ap, ◌∙◌, subst, inl, inr}
 use Rattle.std.specs.Prelude.{unwrap_or}
 use Rattle.std.specs.FinMap.{empty, get, insert, get-empty, get-insert}
 use Rattle.std.specs.Ordering.{is_eq}
@@ -8,11 +8,12 @@ use Rattle.accountfiles.specs.declared.head.Head.{Head}
 use Rattle.accountfiles.specs.declared.part.Part.{Part}
 use Rattle.accountfiles.specs.declared.part.Part.TheVariants.{Script, Reply}
 use Rattle.mailstore.specs.Account.{bytes_cmp, reply_cmp, Account, Accounts, no_accounts, latest, is_closed, has_mail, with_user}
-use Rattle.mailstore.specs.Whole.{whole, takes_whole}
+use Rattle.mailstore.specs.Whole.{whole, takes_whole, password_of}
 use Rattle.mailstore.specs.declared.refusal.Refusal.TheVariants.{UserExists, UserHasMail, BadAccount}
 use Rattle.mailstore.proofs.AccountLemmas.{reply_total}
 use Rattle.sessions.specs.Scripts.{IsValid}
 use Rattle.mailengine.specs.AccountEvents.{Refuses, IsImportable, Replaces, ImportsUnder, Importing}
+use Rattle.mailengine.specs.Importable.{may_guard}
 use Rattle.mailengine.specs.Limits.{is_user_name}
 use Rattle.mailengine.specs.declared.answer.Answer.{Answer}
 use Rattle.mailengine.specs.declared.answer.Answer.TheVariants.{Imported, Refused}
@@ -121,3 +122,26 @@ invalid_script text accounts later wrong (inr (bad, is)) = let no : Imported ≡
 blank_name : (parts : List Part) (accounts later : Accounts) (head : Head) → head.owner.name ≡ codes "a b" → Importing accounts head parts Imported later → ⊥
 blank_name parts accounts later head is (inl (fit, made)) = let no : false ≡ true = subst (λ n. is_user_name n ≡ true) is fit.named in cc
 blank_name parts accounts later head is (inr (bad, told)) = let no : Imported ≡ Refused BadAccount = told.refused in cc
+
+-- ---- passwords
+
+-- one that `adduser` makes, and that of a closed account
+usual : may_guard (password_of her_head) ≡ true
+usual = refl
+
+closed_one : may_guard (record { salt = codes "salt"; rounds = 0; digest = codes "digest" }) ≡ true
+closed_one = refl
+
+-- near misses: a login would take a round more than others, or hash a longer salt; and an account without a digest is a removed one
+a_round_more : may_guard (record { salt = codes "salt"; rounds = 10001; digest = codes "digest" }) ≡ false
+a_round_more = refl
+
+long_salt : may_guard (record { salt = replicate 65 0; rounds = 10000; digest = codes "digest" }) ≡ false
+long_salt = refl
+
+removed : may_guard (record { salt = codes "salt"; rounds = 0; digest = [] }) ≡ false
+removed = refl
+
+unguarded : (parts : List Part) (accounts later : Accounts) (head : Head) → may_guard (password_of head) ≡ false → Importing accounts head parts Imported later → ⊥
+unguarded parts accounts later head is (inl (fit, made)) = let no : false ≡ true = sym is ∙ fit.guarded in cc
+unguarded parts accounts later head is (inr (bad, told)) = let no : Imported ≡ Refused BadAccount = told.refused in cc

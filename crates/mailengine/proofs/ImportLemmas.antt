@@ -18,11 +18,11 @@ use Rattle.accountfiles.specs.declared.part.Part.TheVariants.{Script, Reply, Mai
 use Rattle.accountfiles.proofs.OrderLemmas.{Before, all_before}
 use Rattle.mailstore.specs.Account.{bytes_cmp, Folders, Scripts, filed}
 use Rattle.mailstore.specs.CopyRows.{Copy as KeptCopy}
-use Rattle.mailstore.specs.Whole.{scripts_with, copies_of}
+use Rattle.mailstore.specs.Whole.{scripts_with, copies_of, password_of}
 use Rattle.mailstore.proofs.MapLemmas.{tied_is}
 use Rattle.mailengine.specs.Limits.{IsOwnAddress, is_user_name}
 use Rattle.mailengine.specs.AccountEvents.{IsImportable}
-use Rattle.mailengine.specs.Importable.{IsSoundPart, is_a_script, HasSoundScripts}
+use Rattle.mailengine.specs.Importable.{IsSoundPart, is_a_script, HasSoundScripts, may_guard}
 use Rattle.mailengine.specs.Sound.{IsSoundScript}
 use Rattle.mailengine.proofs.SoundLemmas.{inserted, still_there, filled_in}
 
@@ -200,9 +200,10 @@ module _ (head : Head) (parts : List Part) (is : IsAccount head parts) where
   active_there None h = tt
   active_there (Some name) h = named_there parts empty name h
 
-  pub importable : is_user_name head.owner.name ≡ true → IsOwnAddress head.owner.address → HasSoundScripts parts → IsImportable head parts
-  importable named addressed scripts = record {
+  pub importable : is_user_name head.owner.name ≡ true → may_guard (password_of head) ≡ true → IsOwnAddress head.owner.address → HasSoundScripts parts → IsImportable head parts
+  importable named guarded addressed scripts = record {
     named = named;
+    guarded = guarded;
     sound = record {
       address = addressed;
       scripts = from_parts parts empty scripts.each (λ name text there. absurd (let never : None ≡ Some text = sym (get-empty bytes_cmp name) ∙ there in cc));
@@ -220,9 +221,9 @@ module _ (head : Head) (parts : List Part) (is : IsAccount head parts) where
       let few = importable.sound.few in
       record { each = each_sound parts empty new importable.sound.scripts; few = omega (arith, count, none, few) }
 
-  -- whether it may be kept, once its name and its address are what they have to be
-  pub tested : {E : Type 0} → is_user_name head.owner.name ≡ true → IsOwnAddress head.owner.address → (r : Result Bool E) → IfOk r (λ holds. MatchBool holds (HasSoundScripts parts) (HasSoundScripts parts → ⊥))
+  -- whether it may be kept, once its name, its password and its address are what they have to be
+  pub tested : {E : Type 0} → is_user_name head.owner.name ≡ true → may_guard (password_of head) ≡ true → IsOwnAddress head.owner.address → (r : Result Bool E) → IfOk r (λ holds. MatchBool holds (HasSoundScripts parts) (HasSoundScripts parts → ⊥))
       → IfOk r (λ holds. MatchBool holds (IsImportable head parts) (IsImportable head parts → ⊥))
-  tested named addressed (Err e) told = tt
-  tested named addressed (Ok true) told = importable named addressed told
-  tested named addressed (Ok false) told = λ fit. told (sound_scripts fit)
+  tested named guarded addressed (Err e) told = tt
+  tested named guarded addressed (Ok true) told = importable named guarded addressed told
+  tested named guarded addressed (Ok false) told = λ fit. told (sound_scripts fit)

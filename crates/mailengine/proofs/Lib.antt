@@ -16,6 +16,7 @@ pub mod LookupLemmas
 pub mod RunLemmas
 pub mod SoundLemmas
 pub mod SpacingLemmas
+pub mod MoveLemmas
 pub mod StandingLemmas
 pub mod TakingLemmas
 mod MailTakingExamples

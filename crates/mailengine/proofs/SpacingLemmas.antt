@@ -63,7 +63,7 @@ IsNoSooner None later = Unit {0}
 IsNoSooner (Some last) None = ⊥
 IsNoSooner (Some last) (Some next) = last ≤ next
 
-no_sooner_same : (o : Option ℕ) → IsNoSooner o o
+pub no_sooner_same : (o : Option ℕ) → IsNoSooner o o
 no_sooner_same None = tt
 no_sooner_same (Some last) = omega arith
 
@@ -81,7 +81,7 @@ past_before None b period moment ab is = tt
 past_before (Some x) None period moment ab is = absurd ab
 past_before (Some x) (Some y) period moment ab is = λ some. let later = is some in omega (arith, later, ab)
 
-at_least_after : (a b : Option ℕ) (moment : ℕ) → IsNoSooner a b → IsAtLeast a moment → IsAtLeast b moment
+pub at_least_after : (a b : Option ℕ) (moment : ℕ) → IsNoSooner a b → IsAtLeast a moment → IsAtLeast b moment
 at_least_after None b moment ab is = absurd is
 at_least_after (Some x) None moment ab is = absurd ab
 at_least_after (Some x) (Some y) moment ab is = omega arith
@@ -441,7 +441,7 @@ come_before accounts later (entry ∷ more) sooner come =
     (past_before (kept accounts entry.thread) (kept later entry.thread) entry.period entry.moment (sooner entry.thread) come.0, come_before accounts later more sooner come.1)
 
 -- all that come after an entry is kept follow it
-follow_kept : (later : Accounts) (entry : Entry) (entries : List Entry) → IsAtLeast (kept later entry.thread) entry.moment → ComeAfter later entries → Follow entry entries
+pub follow_kept : (later : Accounts) (entry : Entry) (entries : List Entry) → IsAtLeast (kept later entry.thread) entry.moment → ComeAfter later entries → Follow entry entries
 follow_kept later entry [] held come = tt
 follow_kept later entry (next ∷ more) held come = (λ same. go (kept later next.thread) (subst (λ t. IsAtLeast (kept later t) entry.moment) same held) come.0, follow_kept later entry more held come.1)
   where

@@ -8,7 +8,7 @@ use Rattle.addrparts.specs.declared.address.Addr.{Addr}
 use Rattle.addrparts.specs.Outbound.{IsBareAddress}
 use Rattle.saslplain.specs.Password.{digest_of}
 use Rattle.mailstore.specs.Account.{Account, Accounts, Scripts, is_closed, is_removed, open_of, has_mail, renews, new_user, with_user, messages_in, row_with, takes_out, takes_mail}
-use Rattle.mailstore.specs.Whole.{whole, takes_whole}
+use Rattle.mailstore.specs.Whole.{password_of, whole, takes_whole}
 use Rattle.mailstore.specs.declared.queue.Outgoing.{Outgoing}
 use Rattle.mailstore.specs.declared.report.Report.{Report}
 use Rattle.mailstore.specs.declared.refusal.Refusal.{Refusal}
@@ -20,6 +20,7 @@ use Rattle.sessions.specs.Scripts.{Where}
 use Rattle.mailengine.specs.declared.answer.Answer.{Answer}
 use Rattle.mailengine.specs.declared.answer.Answer.TheVariants.{Delivered, Added, Imported, Taken, MailTaken, Refused}
 use Rattle.mailengine.specs.Limits.{limit_refusal, is_user_name, IsNewUser}
+use Rattle.mailengine.specs.Importable.{may_guard}
 use Rattle.mailengine.specs.Sound.{IsSound}
 use Rattle.mailengine.specs.Terms.{Terms}
 use Rattle.mailengine.specs.Upkeep.{rounds, kept_password}
@@ -113,9 +114,10 @@ Addition accounts name address salt password answer later =
 
 -- ---- an account that comes whole, as a text says it (`whole`)
 
--- an account of this text may be kept: its name is a user's, and what the text makes is sound
+-- an account of this text may be kept: its name is a user's, its password one that accounts have, and what the text makes is sound
 pub record IsImportable (head : Head) (parts : List Part) : Type 0 where
   pub named : is_user_name head.owner.name ≡ true
+  pub guarded : may_guard (password_of head) ≡ true
   pub sound : IsSound (whole head parts empty)
 
 -- it is there, as the text says

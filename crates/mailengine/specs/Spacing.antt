@@ -3,11 +3,15 @@ use Rattle.std.specs.Prelude.{◌≡◌, ℕ, ◌+◌, ◌<◌, ◌≤◌, List,
 use mathlib.Core.Logic.{inl, inr}
 use Rattle.std.specs.FinMap.{get}
 use Rattle.octets.specs.Ascii.{lowered}
+use Rattle.accountfiles.specs.Text.{IsTextOf}
+use Rattle.accountfiles.specs.declared.head.Head.{Head}
+use Rattle.accountfiles.specs.declared.part.Part.{Part}
 use Rattle.sievesyntax.specs.declared.tree.vacation.VacArgs.{VacArgs}
 use Rattle.sieveexec.specs.declared.envelope.Envelope.{Envelope}
 use Rattle.vacreply.specs.Cases.{period_of}
 use Rattle.vacreply.specs.Handles.{Handle, handle_of, key_of}
 use Rattle.mailstore.specs.Account.{Account, Accounts, open_of}
+use Rattle.mailstore.specs.Whole.{IsCopyOf}
 use Rattle.mailstore.specs.declared.report.Report.{Report}
 use Rattle.mailstore.specs.declared.report.VacationReport.{VacationReport}
 use Rattle.mailstore.specs.declared.report.VacationReport.TheVariants as V
@@ -16,8 +20,9 @@ use Rattle.deliverplan.specs.Delivered.{Disposition, Acts, Tells}
 use Rattle.mailengine.specs.declared.event.Event.{Event}
 use Rattle.mailengine.specs.declared.event.Event.TheVariants.{Deliver}
 use Rattle.mailengine.specs.declared.answer.Answer.{Answer}
+use Rattle.mailengine.specs.declared.answer.Answer.TheVariants.{Imported}
 use Rattle.mailengine.specs.Limits.{limit_refusal}
-use Rattle.mailengine.specs.AccountEvents.{DeliversTo, DeliversIn, DeliversUnder}
+use Rattle.mailengine.specs.AccountEvents.{DeliversTo, DeliversIn, DeliversUnder, Importing}
 use Rattle.mailengine.specs.Terms.{Terms, terms}
 use Rattle.mailengine.specs.World.{World, Happens, Next, Runs}
 
@@ -133,3 +138,21 @@ pub record IsSpacing (start end : Accounts) (entries : List Entry) : Type 0 wher
 -- a run's answers are
 abbrev pub IsSpaced : (w : World) (events : List Event) (told : List Answer) (end : World) → Runs w events told end → Type 0
 IsSpaced w events told end run = IsSpacing w.accounts end.accounts (sent w events told end run)
+
+-- ---- where an account moves
+
+-- a user's account goes out of these accounts as a text, and comes in among others
+pub record IsMove (user : List ℕ) (left here came : Accounts) : Type 0 where
+  pub account : Account
+  pub had : get left user ≡ Some account
+  pub text : List ℕ
+  pub copied : IsCopyOf text user account
+  pub head : Head
+  pub parts : List Part
+  pub read : IsTextOf text head parts
+  pub imported : Importing here head parts Imported came
+
+-- of the earlier entries each one of the user's is followed by these
+abbrev pub GoOn : List ℕ → List Entry → List Entry → Type 0
+GoOn user [] later = Unit {0}
+GoOn user (entry ∷ more) later = (entry.thread.user ≡ user → Follow entry later) × GoOn user more later

@@ -6,17 +6,21 @@ ghost use Rattle.mailstore.specs.Connection.{IsSettled};
 ghost use Rattle.mailstore.specs.declared.refusal.Refusal.TheVariants.{BadAccount};
 ghost use Rattle.mailengine.specs.AccountEvents.{IsImportable};
 ghost use Rattle.mailengine.specs.Hosts.{ActsImport, RefusesImport};
-ghost use Rattle.mailengine.specs.Importable.{HasSoundScripts};
+ghost use Rattle.mailengine.specs.Importable.{HasSoundScripts, may_guard};
 ghost use Rattle.mailengine.specs.Sound.{IsSoundScript};
 
 use crate::standing::read_standing;
 use crate::user::{is_own_address, is_user_name, refusal_over};
-use accountfiles::{AccountFile, Part};
+use accountfiles::{AccountFile, Owner, Part};
 use mailstore::{Refusal, Store};
+use saslplain::ROUNDS;
 use sessions::script_name::is_script_name;
 use sessions::scripts::{MAX_SCRIPT, MAX_SCRIPTS, fault_in};
 use sqlite::Alter;
 use std::alloc::{AllocError, Global};
+
+/// How many octets the salt of a password that comes with an account has at most.
+const MAX_SALT: usize = 64;
 
 /// Makes the account of a text whole, in one transaction, which is its last act: its scripts, folders, queue, notices, moments of
 /// replies and numbers, open or closed as the text says. A closed account of the name that has no mail is replaced: of its moments of
@@ -26,9 +30,9 @@ use std::alloc::{AllocError, Global};
 ///
 /// # Errors
 ///
-/// In this order: [`Refusal::BadAccount`] where the name is no user's name, the address isn't an addr-spec alone (RFC 5322, 3.4.1), a
-/// script isn't valid, has more than 262,144 octets or a name that none may have, or there are more than 32: the store isn't asked
-/// then. Then [`Refusal::UserExists`] for a name whose account is open, and [`Refusal::UserHasMail`] for a closed one with messages,
+/// In this order: [`Refusal::BadAccount`] where the name is no user's name, the address isn't an addr-spec alone (RFC 5322, 3.4.1), the
+/// password has rounds that are neither 10,000 nor 0, a salt of more than 64 octets or no digest, a script isn't valid, has more than
+/// 262,144 octets or a name that none may have, or there are more than 32: the store isn't asked then. Then [`Refusal::UserExists`] for a name whose account is open, and [`Refusal::UserHasMail`] for a closed one with messages,
 /// which would go. [`Refusal::Memory`] may come at any place, [`Refusal::Store`] at any place after the first. The store then stays
 /// as it was.
 pub fn import<S: Alter>(
@@ -66,7 +70,17 @@ fn is_importable(alloc: Global, file: &AccountFile) -> Result<bool, AllocError>
     if !is_own_address(alloc, owner.address.as_slice())? {
         return Ok(false);
     }
+    if !may_guard(owner, file.head.numbers.rounds) {
+        return Ok(false);
+    }
     has_sound_scripts(alloc, file.parts.as_slice())
+}
+
+/// Whether a password of so many rounds may be kept: each login takes their time, by anyone and with any password.
+fn may_guard(owner: &Owner, rounds: u32) -> bool
+    ensures { result ≡ may_guard (record { salt = owner.now.salt; rounds = rounds; digest = owner.now.digest }) }
+{
+    (rounds == 0 || rounds == ROUNDS) && owner.salt.len() <= MAX_SALT && !owner.digest.is_empty()
 }
 
 /// Whether each script may be kept, and there are no more of them than may be.

@@ -8,13 +8,14 @@ ghost use Rattle.mailengine.specs.declared.event.Event.{Event};
 ghost use Rattle.mailengine.specs.declared.answer.Answer.{Answer};
 ghost use Rattle.mailengine.specs.declared.answer.Answer.TheVariants.{Imported};
 ghost use Rattle.mailengine.specs.AccountEvents.{Importing};
+ghost use Rattle.mailengine.specs.Importable.{may_guard};
 ghost use Rattle.mailengine.specs.Limits.{is_user_name};
 ghost use Rattle.mailengine.specs.Sound.{IsSound, AreSound};
 ghost use Rattle.mailengine.specs.World.{World, Next, Runs};
 ghost use Rattle.mailstore.specs.Account.{Account, Accounts};
 ghost use Rattle.mailstore.specs.Whole.{whole, IsCopyOf};
 ghost use Rattle.mailengine.specs.OwnActs.{Act, Alone, IsAlone};
-ghost use Rattle.mailengine.specs.Spacing.{IsSpaced};
+ghost use Rattle.mailengine.specs.Spacing.{Entry, GoOn, IsMove, IsSpaced, IsSpacing};
 
 /// What becomes of a user's account, and what is answered to the user's own acts, is by these acts alone.
 pub fn each_user_alone()
@@ -31,11 +32,19 @@ pub fn answers_spaced()
     ensures { (events : List Event) (told : List Answer) (w end : World) (run : Runs w events told end) → IsSpaced w events told end run }
 {}
 
-/// A text of an account, imported under a name that nobody has, is just that account again, however it is read.
+/// And so they are where the user's account moves, from one machine to another: what the other one answers keeps its distance from
+/// what the first one had answered.
+pub fn spaced_across_a_move()
+    ensures { (user : List ℕ) (start left here came end : Accounts) (first second : List Entry)
+        → IsSpacing start left first → IsMove user left here came → IsSpacing came end second → GoOn user first second }
+{}
+
+/// A text of an account, imported under a name that nobody has, is just that account again, however it is read. Its password is one
+/// that accounts have.
 pub fn copy_comes_back()
     ensures read { (text user : List ℕ) (a : Account) (head : Head) (parts : List Part) → IsCopyOf text user a → IsTextOf text head parts → (head.owner.name ≡ user) × (whole head parts empty ≡ a) }
     ensures imported { (text user : List ℕ) (a : Account) (head : Head) (parts : List Part) (accounts later : Accounts) (answer : Answer)
-        → IsCopyOf text user a → IsTextOf text head parts → is_user_name user ≡ true → IsSound a → get accounts user ≡ None
+        → IsCopyOf text user a → IsTextOf text head parts → is_user_name user ≡ true → may_guard a.password ≡ true → IsSound a → get accounts user ≡ None
         → Importing accounts head parts answer later → (answer ≡ Imported) × (later ≡ insert accounts user a) }
 {}
 

@@ -9,5 +9,5 @@ pub returns : goal.returns
 returns c =
     let file = c.args.file.now in
     let own : IsOwnAddress c.as_slice-2.result.now = search (rules, c.in_ok-is_own_address.ensures) in
-    tested file.head file.parts file.is_account (ap is_user_name (sym c.as_slice.ensures) ∙ (sym c.is_user_name.ensures ∙ c.if-not-is_user_name.false)) (subst IsOwnAddress c.as_slice-2.ensures own) c.has_sound_scripts.result
+    tested file.head file.parts file.is_account (ap is_user_name (sym c.as_slice.ensures) ∙ (sym c.is_user_name.ensures ∙ c.if-not-is_user_name.false)) (sym c.may_guard.ensures ∙ c.if-not-may_guard.false) (subst IsOwnAddress c.as_slice-2.ensures own) c.has_sound_scripts.result
     (subst (λ ps. IfOk c.has_sound_scripts.result (λ holds. MatchBool holds (HasSoundScripts ps) (HasSoundScripts ps → ⊥))) c.as_slice-3.ensures c.has_sound_scripts.ensures)
