@@ -5,7 +5,8 @@ ghost use Rattle.sievedrun.specs.TryScript.{LeavesOutput, Runs};
 
 use crate::answer::{Answer, answer_to};
 use crate::fault::{Fault, refuse};
-use crate::stream;
+use crate::front::Front;
+use crate::stream::write_all;
 use mailengine::Envelope;
 use sieveexec::When;
 use std::alloc::Global;
@@ -44,8 +45,8 @@ fn print_answer<R: Read, W: Write>(
     ensures reads { OnOk result (ReadsToEnd R.remaining input.old input.new) }
     ensures leaves { LeavesOutput envelope when (R.remaining input.old) (W.contents output.old) (W.contents output.new) result }
 {
-    let octets = stream::read_all(alloc, input)?;
-    let answer = answer_to(alloc, envelope, when, octets.as_slice())?;
-    stream::write_all(output, answer.text())?;
+    let front = Front::read(alloc, input)?;
+    let answer = answer_to(alloc, envelope, when, &front)?;
+    write_all(output, answer.text())?;
     Ok(answer)
 }
