@@ -50,7 +50,7 @@ impl Front {
             match read_at(input, front.octets.as_mut_slice(), front.kept)? {
                 Some(more) => front.take(more),
                 None => {
-                    front.octets.truncate(front.kept);
+                    front.end();
                     return Ok(front);
                 }
             }
@@ -70,6 +70,14 @@ impl Front {
         ensures { result ≡ self.now.count }
     {
         self.count
+    }
+
+    /// Nothing more comes: the room behind what is kept goes.
+    fn end(&mut self)
+        ensures kept { self.new.octets.items ≡ take self.old.kept self.old.octets.items }
+        ensures same { self.new.count ≡ self.old.count }
+    {
+        self.octets.truncate(self.kept);
     }
 
     /// So many octets more came, behind what is kept.
