@@ -66,6 +66,6 @@ pub fn attempt_on_front(
     ensures line { IfFaultLine result (λ line.
         (1 ≤ line) × (line ≤ 1 + line_ends script.now)) }
 {
-    let mail = Mail::read_front(alloc, front, size, envelope, when)?;
-    outcome_on(alloc, script, &mail)
+    let known = Mail::read_front(alloc, front, size, envelope, when)?;
+    outcome_on(alloc, script, &known)
 }

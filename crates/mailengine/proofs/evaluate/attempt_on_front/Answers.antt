@@ -24,7 +24,7 @@ returns-clause-done c =
     → outcome_view done ≡ outcome_at (mail_of message envelope when) tree)
     (λ done so tree message means has is.
     so tree means ∙ ap (λ n. outcome_at (with_size (Some n) (mail_of front envelope when)) tree) is ∙ of_front envelope when tree front message has)
-    (subst (λ (mail : MailSpec). IfOk c.outcome_on.result (λ done. (tree : Commands) → Means c.args.script.now tree → outcome_view done ≡ outcome_at mail tree)) c.in_ok-mail.ensures c.outcome_on.ensures.done)
+    (subst (λ (mail : MailSpec). IfOk c.outcome_on.result (λ done. (tree : Commands) → Means c.args.script.now tree → outcome_view done ≡ outcome_at mail tree)) c.in_ok-known.ensures c.outcome_on.ensures.done)
 
 pub returns-clause-fault : goal.returns-clause-fault
 returns-clause-fault c = c.outcome_on.ensures.fault
