@@ -4,8 +4,9 @@
   bench/room.py
 
 It makes a program crate on the standard library alone in a folder of its own, and proves and builds it with `rt run` (a minute). Each
-row is the least of 20 runs of the read alone, within the process, and the page faults of a run. `try` and `deliver` read as the first row
-does. The last row keeps nothing: what it doesn't take is what the system takes for fresh memory.
+row is the least of 20 runs of the read alone, within the process, and the page faults of a run. `deliver` reads as the first row
+does; `try` reads a large message as the last one does, and counts its size besides. The last row keeps nothing: what it doesn't take is what
+the system takes for fresh memory.
 """
 import os, subprocess, sys, tempfile
 

@@ -1,5 +1,7 @@
 //! One script tried on one message.
-ghost use Rattle.std.specs.Prelude.{◌≡◌, ◌≤◌, ◌+◌, IfOk};
+ghost use Rattle.std.specs.Prelude.{◌≡◌, ◌≤◌, ◌+◌, ℕ, List, IfOk};
+ghost use Rattle.mailhead.specs.Heads.{size_of};
+ghost use Rattle.mailfronts.specs.Fronts.{HasHeaderOf};
 ghost use Rattle.sievelex.specs.Finding.{IfFault, IfFaultLine};
 ghost use Rattle.sievelex.specs.Text.{line_ends};
 ghost use Rattle.sievesyntax.specs.Tree.{Commands};
@@ -39,4 +41,31 @@ pub fn attempt(
 {
     let mail = Mail::read(alloc, message, envelope, when)?;
     outcome_on(alloc, script, &mail)
+}
+
+/// What a script does with a message of which a front is here, one with an empty line, and the size is known: the same as `attempt`
+/// says of the message, whatever follows the front.
+///
+/// Time and memory are those of `attempt` on the front.
+///
+/// # Errors
+///
+/// As those of [`attempt`].
+pub fn attempt_on_front(
+    alloc: Global,
+    script: &[u8],
+    envelope: Envelope,
+    front: &[u8],
+    size: u64,
+    when: When,
+) -> Result<Outcome, ScriptError>
+    ensures valid { IfOk result (λ done. (tree : Commands) × Means script.now tree) }
+    ensures done { IfOk result (λ done. (tree : Commands) (message : List ℕ) → Means script.now tree → HasHeaderOf front.now message → size ≡ size_of message
+        → outcome_view done ≡ outcome_at (mail_of message envelope when) tree) }
+    ensures fault { IfFault result ((tree : Commands) → Means script.now tree → ⊥) }
+    ensures line { IfFaultLine result (λ line.
+        (1 ≤ line) × (line ≤ 1 + line_ends script.now)) }
+{
+    let known = Mail::read_front(alloc, front, size, envelope, when)?;
+    outcome_on(alloc, script, &known)
 }

@@ -21,7 +21,7 @@ pub use account::first_message;
 pub use answer::Answer;
 pub use clients::Clients;
 pub use delivery::deliver;
-pub use evaluate::attempt;
+pub use evaluate::{attempt, attempt_on_front};
 pub use event::Event;
 pub use importing::import;
 pub use machine::{World, apply, apply_free};

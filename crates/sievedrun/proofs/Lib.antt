@@ -3,6 +3,7 @@ mod DrainExamples
 mod DrainLemmas
 mod ExportExamples
 mod ExportLemmas
+mod FrontLemmas
 pub mod FramingLemmas
 mod ImportLemmas
 mod LeaveLemmas

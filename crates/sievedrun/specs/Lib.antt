@@ -3,6 +3,7 @@ pub mod Draining
 pub mod Exports
 pub mod Faults
 pub mod Framing
+pub mod Fronts
 pub mod Promise
 pub mod Serving
 pub mod Streams

@@ -15,7 +15,7 @@ use Rattle.mailstore.specs.declared.refusal.Refusal.TheVariants as refusal
 use Rattle.sievedrun.specs.declared.fault.Fault.TheVariants.{Refused, Stream, BadInput, BadArgument}
 use Rattle.sievedrun.specs.declared.answer.Answer.{Answer}
 use Rattle.sievedrun.specs.declared.answer.Answer.TheVariants.{Report, Refusal}
-use Rattle.sievedrun.specs.Faults.{status_of, line_of, IsPrinted}
+use Rattle.sievedrun.specs.Faults.{status_of, line_of, memory, IsPrinted}
 use Rattle.sievedrun.specs.Framing.{IsFramed}
 use Rattle.sievedrun.specs.Values.{IsWhen, HasNoWhen}
 use Rattle.sievedrun.specs.Streams.{InputFailed, IsCut, IsWritten}
@@ -50,6 +50,10 @@ IsNoInput input = (script message : List ℕ) → IsFramed input script message 
 abbrev pub OfInput : Option (List ℕ) → (List ℕ → Type 0) → Type 0
 OfInput None P = (input : List ℕ) × P input
 OfInput (Some input) P = P input
+
+-- there is no answer: what was read is no script and message, memory was refused, or a read failed
+abbrev pub HasNoAnswer : Option (List ℕ) → Fault → Type 0
+HasNoAnswer given fault = ((fault ≡ BadInput) × OfInput given IsNoInput) ⊎ (fault ≡ memory) ⊎ ((fault ≡ Stream) × InputFailed)
 
 -- what an answer says is so of this input
 abbrev pub Answers : Envelope → When → List ℕ → Answer → Type 0

@@ -1,15 +1,24 @@
 //! What is said of an input.
-ghost use Rattle.std.specs.Prelude.{◌≡◌, ℕ, List, IfOk, IfErr};
+ghost use Rattle.std.specs.Prelude.{◌≡◌, ◌≤◌, ◌+◌, ℕ, List, IfOk, IfErr};
+ghost use Rattle.sievelex.specs.Finding.{IfFault, IfFaultLine};
+ghost use Rattle.sievelex.specs.Text.{line_ends};
+ghost use Rattle.sievesyntax.specs.Tree.{Commands};
+ghost use Rattle.sievesyntax.specs.Means.{Means};
+ghost use Rattle.sieveexec.specs.Mails.{mail_of};
+ghost use Rattle.sieveexec.specs.Outcomes.{outcome_at};
 ghost use Rattle.reportlines.specs.Reports.{report_of};
 ghost use Rattle.sieveexec.specs.Runs.{outcome_view};
 ghost use Rattle.sievedrun.specs.declared.answer.Answer.TheVariants.{Report};
 ghost use Rattle.sievedrun.specs.Faults.{IsUnanswered, memory};
 ghost use Rattle.sievedrun.specs.Framing.{IsFramed};
+ghost use Rattle.sievedrun.specs.Fronts.{KeepsFront, StandsFor};
 ghost use Rattle.sievedrun.specs.TryScript.{Answers, IsNoInput, text_in};
 
 use crate::fault::Fault;
-use crate::framing;
-use mailengine::{Envelope, Outcome, attempt};
+use crate::framing::split;
+use crate::front::Front;
+use mailengine::{Envelope, Outcome, attempt, attempt_on_front};
+use mailfronts::SizeCount;
 use mailstore::Refusal;
 use octets::Octets;
 use reportlines::{of_fault, of_outcome};
@@ -42,32 +51,62 @@ pub fn answer_to(
     alloc: Global,
     envelope: Envelope,
     when: When,
-    input: &[u8],
+    input: &Front,
 ) -> Result<Answer, Fault>
-    ensures answer { IfOk result (λ answer. Answers envelope when input.now answer) }
-    ensures none { IfErr result (IsUnanswered (IsNoInput input.now)) }
+    ensures answer { IfOk result (λ answer. (came : List ℕ) → KeepsFront came input.now.octets.items input.now.count → Answers envelope when came answer) }
+    ensures none { IfErr result (λ fault. (came : List ℕ) → KeepsFront came input.now.octets.items input.now.count → IsUnanswered (IsNoInput came) fault) }
 {
-    match framing::split(input) {
-        Some(framed) => answer_on(alloc, envelope, when, framed.script, framed.message),
+    match split(input.kept()) {
+        Some(framed) => answer_on(
+            alloc,
+            envelope,
+            when,
+            framed.script,
+            framed.message,
+            input.count(),
+        ),
         None => Err(Fault::BadInput),
     }
 }
 
-/// Tries a script on a message, received with the envelope and delivered then.
+/// Tries a script on a message for which this front stands, received with the envelope and delivered then.
 fn answer_on(
     alloc: Global,
     envelope: Envelope,
     when: When,
     script: &[u8],
-    message: &[u8],
+    front: &[u8],
+    count: Option<SizeCount>,
 ) -> Result<Answer, Fault>
-    ensures answer { IfOk result (λ answer. (input : List ℕ) → IsFramed input script.now message.now → Answers envelope when input answer) }
+    ensures answer { IfOk result (λ answer. (input message : List ℕ) → IsFramed input script.now message → StandsFor front.now count message
+        → Answers envelope when input answer) }
     ensures memory { IfErr result (λ fault. fault ≡ memory) }
 {
-    match attempt(alloc, script, envelope, message, when) {
+    match outcome_on(alloc, script, envelope, front, count, when) {
         Ok(outcome) => report(alloc, outcome),
         Err(ScriptError::Fault(fault)) => Ok(Answer::Refusal(of_fault(alloc, fault)?)),
         Err(ScriptError::Memory) => Err(Fault::Refused(Refusal::Memory)),
+    }
+}
+
+/// What a script comes to on a message for which this front stands, or why it is no valid script.
+fn outcome_on(
+    alloc: Global,
+    script: &[u8],
+    envelope: Envelope,
+    front: &[u8],
+    count: Option<SizeCount>,
+    when: When,
+) -> Result<Outcome, ScriptError>
+    ensures valid { IfOk result (λ done. (tree : Commands) × Means script.now tree) }
+    ensures done { IfOk result (λ done. (tree : Commands) (message : List ℕ) → Means script.now tree → StandsFor front.now count message
+        → outcome_view done ≡ outcome_at (mail_of message envelope when) tree) }
+    ensures fault { IfFault result ((tree : Commands) → Means script.now tree → ⊥) }
+    ensures line { IfFaultLine result (λ line. (1 ≤ line) × (line ≤ 1 + line_ends script.now)) }
+{
+    match count {
+        Some(count) => attempt_on_front(alloc, script, envelope, front, count.size(), when),
+        None => attempt(alloc, script, envelope, front, when),
     }
 }
 

@@ -10,6 +10,7 @@ pub mod drive;
 mod export;
 pub mod fault;
 mod framing;
+mod front;
 mod import;
 mod listing;
 mod notices;

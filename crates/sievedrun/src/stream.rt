@@ -16,7 +16,7 @@ use std::io::{ErrorKind, Read, Write};
 pub(crate) const MAX_READS: u32 = 40_000_000;
 
 /// So much room is made for a read, in octets, once the last one is full.
-const PIECE: usize = 262_144;
+pub(crate) const PIECE: usize = 262_144;
 
 /// Reads to the end, in place and in large pieces, and copies nothing but where the vector grows.
 pub fn read_all<R: Read>(alloc: Global, input: &mut R) -> Result<Vec<u8>, Fault>
@@ -42,9 +42,10 @@ pub fn read_all<R: Read>(alloc: Global, input: &mut R) -> Result<Vec<u8>, Fault>
 }
 
 /// Room after the filled octets, which stay.
-fn make_room(octets: &mut Vec<u8>, filled: usize) -> Result<(), AllocError>
+pub(crate) fn make_room(octets: &mut Vec<u8>, filled: usize) -> Result<(), AllocError>
     requires { filled ≤ vec_len octets.old }
     ensures room { OnOk result (filled < vec_len octets.new) }
+    ensures most { vec_len octets.old ≤ filled + PIECE → OnOk result (vec_len octets.new ≤ filled + PIECE) }
     ensures front { take filled octets.new.items ≡ take filled octets.old.items }
 {
     if filled < octets.len() {

@@ -1,11 +1,12 @@
 //! One script tried on one message.
-ghost use Rattle.std.specs.Prelude.{◌≡◌, OnOk};
+ghost use Rattle.std.specs.Prelude.{◌≡◌, IfErr, IfOk, OnOk};
 ghost use Rattle.sievedrun.specs.Streams.{ReadsToEnd};
-ghost use Rattle.sievedrun.specs.TryScript.{LeavesOutput, Runs};
+ghost use Rattle.sievedrun.specs.TryScript.{Answers, HasNoAnswer, LeavesOutput, OfInput, Runs};
 
 use crate::answer::{Answer, answer_to};
 use crate::fault::{Fault, refuse};
-use crate::stream;
+use crate::front::Front;
+use crate::stream::write_all;
 use mailengine::Envelope;
 use sieveexec::When;
 use std::alloc::Global;
@@ -14,7 +15,7 @@ use std::io::{Read, Write};
 /// Reads a script and a message from the input, and prints on the output what the script does with the message under
 /// the envelope, delivered then. What goes wrong is told on the errors. The answer is the exit status.
 ///
-/// The message's octets aren't copied. Reads at most 40,000,000 times.
+/// Of a large message the body is counted and not kept. Reads at most 40,000,000 times.
 pub fn try_run<R: Read, W: Write, E: Write>(
     alloc: Global,
     envelope: Envelope,
@@ -44,8 +45,22 @@ fn print_answer<R: Read, W: Write>(
     ensures reads { OnOk result (ReadsToEnd R.remaining input.old input.new) }
     ensures leaves { LeavesOutput envelope when (R.remaining input.old) (W.contents output.old) (W.contents output.new) result }
 {
-    let octets = stream::read_all(alloc, input)?;
-    let answer = answer_to(alloc, envelope, when, octets.as_slice())?;
-    stream::write_all(output, answer.text())?;
+    let answer = answer_of(alloc, envelope, when, input)?;
+    write_all(output, answer.text())?;
     Ok(answer)
+}
+
+/// What is said of an input.
+fn answer_of<R: Read>(
+    alloc: Global,
+    envelope: Envelope,
+    when: When,
+    input: &mut R,
+) -> Result<Answer, Fault>
+    ensures answer { IfOk result (λ answer. OfInput (R.remaining input.old) (λ came. Answers envelope when came answer)) }
+    ensures none { IfErr result (HasNoAnswer (R.remaining input.old)) }
+    ensures reads { OnOk result (ReadsToEnd R.remaining input.old input.new) }
+{
+    let front = Front::read(alloc, input)?;
+    answer_to(alloc, envelope, when, &front)
 }

@@ -4,6 +4,7 @@ pub mod OrderLemmas
 pub mod PartLemmas
 pub mod DateLemmas
 pub mod TruthLemmas
+pub mod FrontLemmas
 pub mod IndexLemmas
 pub mod JoinedLemmas
 pub mod NameLemmas

@@ -1,5 +1,5 @@
 -- A message with its envelope and when it is delivered, as the tests of a script see it (RFC 5228, 2.4.2 and 5).
-use Rattle.std.specs.Prelude.{ℕ, ℤ, Bool, cond, codes, List, [], ◌∷◌, map, nat_eq}
+use Rattle.std.specs.Prelude.{ℕ, ℤ, Bool, cond, codes, List, [], ◌∷◌, map, nat_eq, Option, unwrap_or}
 use Rattle.std.specs.List.{filter, flat_map, list_any}
 use Rattle.std.specs.Cmp.Lexicographic.{pointwise}
 use Rattle.octets.specs.Ascii.{lowered, trimmed}
@@ -39,6 +39,10 @@ mail_of message envelope when =
       moment = when.moment;
       zone = when.zone;
     }
+
+-- the mail with this size, where one is told
+abbrev pub with_size : Option ℕ → MailSpec → MailSpec
+with_size told mail = record mail { size = unwrap_or told mail.size }
 
 -- a field has this name, in any ASCII case
 abbrev pub has_name : List ℕ → FieldText → Bool

@@ -2,10 +2,14 @@
 ghost use Rattle.std.specs.Prelude.{◌≡◌, ◌↔◌, ◌⊎◌, ℕ, List, [], Some, IsTrue, false};
 ghost use Rattle.std.specs.List.{list_all};
 ghost use Rattle.mailhead.specs.Fields.{is_name};
+ghost use Rattle.mailhead.specs.Heads.{fields_of, size_of};
+ghost use Rattle.mailfronts.specs.Fronts.{HasHeaderOf};
+ghost use Rattle.sievesyntax.specs.Tree.{Commands};
 ghost use Rattle.sievesyntax.specs.declared.tree.checks.Check.{Check};
 ghost use Rattle.sieveexec.specs.declared.envelope.Envelope.{Envelope};
 ghost use Rattle.sieveexec.specs.declared.when.When.{When};
-ghost use Rattle.sieveexec.specs.Mails.{MailSpec, mail_of, values_of};
+ghost use Rattle.sieveexec.specs.Mails.{MailSpec, mail_of, values_of, with_size};
+ghost use Rattle.sieveexec.specs.Outcomes.{outcome_at};
 ghost use Rattle.sieveexec.specs.Parts.{IsUser, IsDetail, user_of, detail_of, Cuts, local_of, domain_of};
 ghost use Rattle.sieveexec.specs.Holding.{TestHolds};
 ghost use Rattle.sieveexec.specs.Truth.{truth_at};
@@ -13,6 +17,18 @@ ghost use Rattle.sieveexec.specs.Truth.{truth_at};
 /// A test that looks at the message or its envelope is true exactly where it holds.
 pub fn truth_of_a_check()
     ensures { (mail : MailSpec) (check : Check) → IsTrue (truth_at mail check) ↔ TestHolds mail check }
+{}
+
+/// What a script comes to on a message depends on the message's fields and its size alone.
+pub fn outcome_by_fields_and_size()
+    ensures { (one other : List ℕ) (envelope : Envelope) (when : When) (tree : Commands) → fields_of one ≡ fields_of other → size_of one ≡ size_of other
+        → outcome_at (mail_of one envelope when) tree ≡ outcome_at (mail_of other envelope when) tree }
+{}
+
+/// So it comes to the same on a front of the message that has an empty line, with the message's size.
+pub fn outcome_of_a_front()
+    ensures { (front message : List ℕ) (envelope : Envelope) (when : When) (tree : Commands) → HasHeaderOf front message
+        → outcome_at (with_size (Some (size_of message)) (mail_of front envelope when)) tree ≡ outcome_at (mail_of message envelope when) tree }
 {}
 
 /// An address of the envelope is cut in one way.

@@ -1,8 +1,8 @@
 //! A message with its envelope and when it is delivered, as the tests of a script see it.
-ghost use Rattle.std.specs.Prelude.{◌≡◌, ℕ, List, [], ◌∷◌, IfOk, MatchOption, unwrap_or, option_copied};
+ghost use Rattle.std.specs.Prelude.{◌≡◌, ℕ, List, [], ◌∷◌, Some, IfOk, MatchOption, unwrap_or, option_copied};
 ghost use Rattle.mailhead.specs.Fields.{texts_of};
 ghost use Rattle.maildates.specs.DateTimes.{IsZone};
-ghost use Rattle.sieveexec.specs.Mails.{mail_of};
+ghost use Rattle.sieveexec.specs.Mails.{mail_of, with_size};
 ghost use Rattle.sieveexec.specs.Indexes.{raws_keyed};
 ghost use Rattle.sieveexec.specs.Truth.{is_some_there, all_exist};
 
@@ -24,16 +24,17 @@ pub struct Mail<'a> {
     envelope: Envelope,
     index: BTreeMap<Octets, RawValues<'a>>,
     when: When,
+    counted: Option<u64>,
 }
 
 impl<'a> Model for Mail<'a> {
     ghost use Rattle.mailhead.specs.Heads.{fields_of};
-    ghost use Rattle.sieveexec.specs.Mails.{MailSpec, mail_of};
+    ghost use Rattle.sieveexec.specs.Mails.{MailSpec, mail_of, with_size};
     ghost use Rattle.sieveexec.specs.Indexes.{IsIndex};
 
     ghost Value = { MailSpec };
 
-    ghost view = { λ mail. mail_of mail.head mail.envelope mail.when };
+    ghost view = { λ mail. with_size mail.counted (mail_of mail.head mail.envelope mail.when) };
 
     ghost invariant = { λ mail. IsIndex (fields_of mail.head) mail.index };
 }
@@ -51,14 +52,23 @@ impl<'a> Mail<'a> {
     ) -> Result<Mail<'a>, AllocError>
         ensures { IfOk result (λ mail. mail ≡ mail_of message.now envelope when) }
     {
-        let head = Head::read(alloc, message)?;
-        let index = index_of(alloc, head.fields())?;
-        Ok(Mail {
-            head,
-            envelope,
-            index,
-            when,
-        })
+        read_counted(alloc, message, envelope, when, None)
+    }
+
+    /// Reads the header of a message of which a front is here and the size is known. What it reads is the front's, but for the size.
+    ///
+    /// Where the front has an empty line a script comes to the same on it as on the message (`laws::outcome_of_a_front`). Otherwise
+    /// as `read`.
+    pub fn read_front(
+        alloc: Global,
+        front: &'a [u8],
+        size: u64,
+        envelope: Envelope,
+        when: When,
+    ) -> Result<Mail<'a>, AllocError>
+        ensures { IfOk result (λ mail. mail ≡ with_size (Some size) (mail_of front.now envelope when)) }
+    {
+        read_counted(alloc, front, envelope, when, Some(size))
     }
 
     /// The fields, in order.
@@ -75,11 +85,15 @@ impl<'a> Mail<'a> {
         self.head.message()
     }
 
-    /// The message's octets, and one more for each LF without CR right before it. One pass over the message at each call.
+    /// The message's octets, and one more for each LF without CR right before it. One pass over the message at each call, unless the
+    /// size was known.
     pub fn size(&self) -> u64
         ensures { result ≡ self.now.size }
     {
-        self.head.size()
+        match self.counted {
+            Some(size) => size,
+            None => self.head.size(),
+        }
     }
 
     /// The envelope's sender, as it was written; empty for the null reverse-path.
@@ -148,4 +162,25 @@ impl<'a> Mail<'a> {
         }
         Ok(true)
     }
+}
+
+/// Reads the header of a message, whose size is counted or, where it is known, this one.
+fn read_counted(
+    alloc: Global,
+    message: &[u8],
+    envelope: Envelope,
+    when: When,
+    counted: Option<u64>,
+) -> Result<Mail<'_>, AllocError>
+    ensures { IfOk result (λ mail. mail ≡ with_size counted (mail_of message.now envelope when)) }
+{
+    let head = Head::read(alloc, message)?;
+    let index = index_of(alloc, head.fields())?;
+    Ok(Mail {
+        head,
+        envelope,
+        index,
+        when,
+        counted,
+    })
 }

@@ -1,0 +1,21 @@
+-- The definitions at a few texts: what they hold of, and what is near it that they don't.
+use Rattle.std.proofs.Common.{refl}
+use Rattle.std.specs.Prelude.{codes}
+use Rattle.mailfronts.specs.Fronts.{HasHeaderOf}
+use Rattle.mailfronts.specs.Sizes.{CountsSize}
+
+-- a line, an empty one, and some of what follows
+front-empty_line : HasHeaderOf (codes "a: b\r\n\r\nc") (codes "a: b\r\n\r\nc\n\n")
+front-empty_line = record { rest = codes "\n\n"; spelled = refl; ended = refl }
+
+-- where the second line is still open that front isn't one
+front-open : HasHeaderOf (codes "a: b\r\n\r") (codes "a: b\r\n\r\nc\n\n") → ⊥
+front-open has = let no = has.ended in cc no
+
+-- a CR at the end of what came: an LF behind it isn't counted twice
+counts-return : CountsSize (codes "a\n\r") (record { size = 4; last = 13 })
+counts-return = record { size = refl; last = refl }
+
+-- and the first LF is
+counts-not_octets : CountsSize (codes "a\n\r") (record { size = 3; last = 13 }) → ⊥
+counts-not_octets counts = let no = counts.size in cc no

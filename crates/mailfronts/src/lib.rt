@@ -1,0 +1,9 @@
+//! A message of which a front is kept: which front has its header, and a size that is counted in pieces.
+#![tactic(auto)]
+
+mod header;
+pub mod laws;
+mod size;
+
+pub use header::has_empty_line;
+pub use size::SizeCount;

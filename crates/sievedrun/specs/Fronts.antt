@@ -1,0 +1,30 @@
+-- What is kept of an input that is a script and a message.
+use Rattle.std.specs.Prelude.{◌≡◌, ℕ, ◌*◌, ◌≤◌, List, Option, Some, None, IfSome}
+use Rattle.mailfronts.specs.Fronts.{HasHeaderOf}
+use Rattle.mailfronts.specs.Sizes.{CountsSize}
+use Rattle.mailfronts.specs.declared.size.SizeCount.{SizeCount}
+use Rattle.sievedrun.specs.Framing.{IsFramed}
+
+-- what came is a script and a message: of these the script is kept, and a front of the message that has its header; and the message's size is counted
+pub record KeepsHeader (came kept : List ℕ) (count : SizeCount) : Type 0 where
+  pub script : List ℕ
+  pub front : List ℕ
+  pub message : List ℕ
+  pub framed : IsFramed kept script front
+  pub whole : IsFramed came script message
+  pub headed : HasHeaderOf front message
+  pub counted : CountsSize message count
+
+-- all that came is kept; or so much of it, where a size is counted
+abbrev pub KeepsFront : List ℕ → List ℕ → Option SizeCount → Type 0
+KeepsFront came kept None = kept ≡ came
+KeepsFront came kept (Some count) = KeepsHeader came kept count
+
+-- a front of a message stands for it: it is all of it; or it has the header, where the message's size is counted
+abbrev pub StandsFor : List ℕ → Option SizeCount → List ℕ → Type 0
+StandsFor front None message = front ≡ message
+StandsFor front (Some count) message = HasHeaderOf front message × CountsSize message count
+
+-- twice the octets that are kept are at most so many, and so is the size
+abbrev pub IsWithin : ℕ → ℕ → Option SizeCount → Type 0
+IsWithin most kept count = (2 * kept ≤ most) × IfSome count (λ c. c.size ≤ most)

@@ -1,0 +1,46 @@
+-- No test looks at the octets of a message, but at its fields and its size.
+use Rattle.std.proofs.Common.{◌≡◌, ℕ, List, Some, refl, sym, ap, ◌∙◌}
+use Rattle.std.proofs.Math.Path.{fun_ext}
+use Rattle.mailhead.specs.Heads.{fields_of, size_of}
+use Rattle.mailfronts.specs.Fronts.{HasHeaderOf}
+use Rattle.mailfronts.proofs.FrontLemmas.{fields_in_front}
+use Rattle.sievesyntax.specs.Meaning.{outcome}
+use Rattle.sievesyntax.specs.Tree.{Commands}
+use Rattle.sievesyntax.specs.declared.tree.checks.Check.{Check}
+use Rattle.sievesyntax.specs.declared.tree.checks.Check.TheVariants.{Size, Exists, Header, Address, Envelope, MailboxExists, Date, CurrentDate}
+use Rattle.sieveexec.specs.declared.envelope.Envelope as E
+use Rattle.sieveexec.specs.declared.when.When.{When}
+use Rattle.sieveexec.specs.Mails.{MailSpec, mail_of, with_size}
+use Rattle.sieveexec.specs.Outcomes.{outcome_at}
+use Rattle.sieveexec.specs.Truth.{truth_at}
+
+same_truth : (mail : MailSpec) (octets : List ℕ) (check : Check) → truth_at (record mail { octets = octets }) check ≡ truth_at mail check
+same_truth mail octets (Size size) = refl
+same_truth mail octets (Exists names) = refl
+same_truth mail octets (Header header) = refl
+same_truth mail octets (Address address) = refl
+same_truth mail octets (Envelope test) = refl
+same_truth mail octets (MailboxExists names) = refl
+same_truth mail octets (Date test) = refl
+same_truth mail octets (CurrentDate test) = refl
+
+-- so the outcome is the same, whatever they are
+same_outcome : (mail : MailSpec) (octets : List ℕ) (tree : Commands) → outcome_at (record mail { octets = octets }) tree ≡ outcome_at mail tree
+same_outcome mail octets tree = ap (λ truth. outcome truth tree) (fun_ext (same_truth mail octets))
+
+module _ (envelope : E.Envelope) (when : When) (tree : Commands) where
+  -- with the fields and the size of another message
+  outcome_with : (one other : List ℕ) (size : ℕ) → fields_of one ≡ fields_of other → size ≡ size_of other
+      → outcome_at (with_size (Some size) (mail_of one envelope when)) tree ≡ outcome_at (mail_of other envelope when) tree
+  outcome_with one other size fields is =
+      ap (λ texts. outcome_at (record (mail_of one envelope when) { fields = texts; size = size }) tree) fields
+      ∙ ap (λ n. outcome_at (record (mail_of one envelope when) { fields = fields_of other; size = n }) tree) is
+      ∙ same_outcome (mail_of other envelope when) one tree
+
+  pub by_fields_and_size : (one other : List ℕ) → fields_of one ≡ fields_of other → size_of one ≡ size_of other
+      → outcome_at (mail_of one envelope when) tree ≡ outcome_at (mail_of other envelope when) tree
+  by_fields_and_size one other fields size = outcome_with one other (size_of one) fields size
+
+  pub of_front : (front message : List ℕ) → HasHeaderOf front message
+      → outcome_at (with_size (Some (size_of message)) (mail_of front envelope when)) tree ≡ outcome_at (mail_of message envelope when) tree
+  of_front front message has = outcome_with front message (size_of message) (fields_in_front front message has) refl
