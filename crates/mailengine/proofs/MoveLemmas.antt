@@ -22,34 +22,34 @@ use Rattle.mailengine.proofs.SpacingLemmas.{IsNoSooner, no_sooner_same, at_least
 
 -- of two moments the later one of each and a third
 latest_keeps : (o later : Option ℕ) (moment : ℕ) → IsNoSooner o later → latest o moment ≤ latest later moment
-latest_keeps None None moment no = omega arith
-latest_keeps None (Some y) moment no = omega arith
-latest_keeps (Some x) None moment no = absurd no
-latest_keeps (Some x) (Some y) moment no = omega (arith, no)
+latest_keeps None None moment before = omega arith
+latest_keeps None (Some y) moment before = omega arith
+latest_keeps (Some x) None moment before = absurd before
+latest_keeps (Some x) (Some y) moment before = omega arith
 
 -- where no moment is sooner before a moment comes, none is after it
 put_over : (one other : Replies) (k : List ℕ × List ℕ) (moment : ℕ) → ((key : List ℕ × List ℕ) → IsNoSooner (get one key) (get other key)) → (key : List ℕ × List ℕ)
     → IsNoSooner (get (insert one k (latest (get one k) moment)) key) (get (insert other k (latest (get other k) moment)) key)
-put_over one other k moment no key =
+put_over one other k moment before key =
     subst (λ o. IsNoSooner o (get (insert other k (latest (get other k) moment)) key)) (sym (get-insert reply_total one k (latest (get one k) moment) key))
     (subst (IsNoSooner (cond (is_eq (reply_cmp key k)) (Some (latest (get one k) moment)) (get one key))) (sym (get-insert reply_total other k (latest (get other k) moment) key))
     (go (is_eq (reply_cmp key k))))
   where
     go : (t : Bool) → IsNoSooner (cond t (Some (latest (get one k) moment)) (get one key)) (cond t (Some (latest (get other k) moment)) (get other key))
-    go true = latest_keeps (get one k) (get other k) moment (no k)
-    go false = no key
+    go true = latest_keeps (get one k) (get other k) moment (before k)
+    go false = before key
 
 -- nor after all parts
 parts_over : (parts : List Part) (one other : Replies) → ((key : List ℕ × List ℕ) → IsNoSooner (get one key) (get other key)) → (key : List ℕ × List ℕ)
     → IsNoSooner (get (fold replies_with one parts) key) (get (fold replies_with other parts) key)
-parts_over [] one other no = no
-parts_over (Script a b ∷ parts) one other no = parts_over parts one other no
-parts_over (Reply a b c ∷ parts) one other no =
-    parts_over parts (insert one (a, b) (latest (get one (a, b)) c)) (insert other (a, b) (latest (get other (a, b)) c)) (put_over one other (a, b) c no)
-parts_over (Mail a b c ∷ parts) one other no = parts_over parts one other no
-parts_over (Copy a b c ∷ parts) one other no = parts_over parts one other no
-parts_over (Letter a b c d e ∷ parts) one other no = parts_over parts one other no
-parts_over (Notice a b c ∷ parts) one other no = parts_over parts one other no
+parts_over [] one other before = before
+parts_over (Script a b ∷ parts) one other before = parts_over parts one other before
+parts_over (Reply a b c ∷ parts) one other before =
+    parts_over parts (insert one (a, b) (latest (get one (a, b)) c)) (insert other (a, b) (latest (get other (a, b)) c)) (put_over one other (a, b) c before)
+parts_over (Mail a b c ∷ parts) one other before = parts_over parts one other before
+parts_over (Copy a b c ∷ parts) one other before = parts_over parts one other before
+parts_over (Letter a b c d e ∷ parts) one other before = parts_over parts one other before
+parts_over (Notice a b c ∷ parts) one other before = parts_over parts one other before
 
 nothing_first : (other : Replies) (key : List ℕ × List ℕ) → IsNoSooner (get (let none : Replies = empty in none) key) (get other key)
 nothing_first other key = subst (λ o. IsNoSooner o (get other key)) (sym (get-empty reply_cmp key)) tt
@@ -58,7 +58,7 @@ nothing_first other key = subst (λ o. IsNoSooner o (get other key)) (sym (get-e
 
 module _ (head : Head) (parts : List Part) (here came : Accounts) where
   -- under its name there is an account that keeps no moment sooner than the text's
-  Comes : Type 0
+  abbrev Comes : Type 0
   Comes = (a : Account) × (get came head.owner.name ≡ Some a) × ((thread : Thread) → IsNoSooner (kept_in (Some (whole head parts empty)) thread) (kept_in (Some a) thread))
 
   over_one : (b : Account) → get here head.owner.name ≡ Some b → Replaces here head parts Imported came → Comes
