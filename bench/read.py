@@ -1,27 +1,34 @@
 #!/usr/bin/env python3
-"""How much memory SQLite alone takes to open a store with one row of 30 MB, to read the row, to find it by its key, and to take it out.
+"""How much memory SQLite alone takes to open a store with rows of 30 MB, to read one of them, to find it by its key, and to take it out.
 
-  bench/read.py [MB]       MB: millions of octets of the row, 30 where none is named
+  bench/read.py [MB]       MB: millions of octets of a row, 30 where none is named
 
-It makes a program crate on `sqlite` in a folder of its own, which opens a table of the shape of `outgoing`, does that one thing and
-closes the file, and proves and builds it with `rt run` (a minute). Prints the most memory that each process had, as a table of
-docs/PERFORMANCE.md: these are the calls that `sieved send` makes of a row (`outgoing`, `next_queued` and `take_out` of mailstore).
+It makes a program crate on `sqlite` in a folder of its own, which opens a table of the shape of `outgoing`, does one thing and closes the
+file, and proves and builds it with `rt run` (some minutes). Prints the most memory that each process had, with one row in the file and with
+three, as a table of docs/PERFORMANCE.md: these are the calls that `sieved send` makes of a row (`outgoing`, `next_queued` and `take_out` of
+mailstore), and that `export` makes of a message (`message_of`), whose table has the same key. `step` reads the row where SQLite has it,
+with no copy: what no caller can go below.
 """
 import os, shutil, sqlite3, subprocess, sys, tempfile
 from contextlib import closing
-
-from insert import peak
 
 SIZE = int(sys.argv[1] if len(sys.argv) > 1 else 30) * 1_000_000
 TABLES = """CREATE TABLE account (name BLOB NOT NULL PRIMARY KEY) STRICT;
 CREATE TABLE outgoing (owner BLOB NOT NULL REFERENCES account (name), id INTEGER NOT NULL, kind INTEGER NOT NULL, sender BLOB NOT NULL, target BLOB NOT NULL,
 message BLOB NOT NULL, PRIMARY KEY (owner, id)) STRICT; INSERT INTO account VALUES (X'61')"""
-DEEDS = {"open": "it is opened and closed", "find": "and the row found by its key (`next_queued`)", "read": "and the row read", "copy": "and its message copied out of the row, as a value leaves it (`outgoing`)",
-         "take": "and the row taken out (`take_out`)"}
-SOURCE = """//! Opens a file with a row of many octets, and does one thing with it.
-use sqlite::{Connection, Error, params};
+DEEDS = {"open": "it is opened and closed", "find": "and the row found by its key (`next_queued`)", "read": "and the row read (`query_all`)",
+         "copy": "and its message copied out of the row, as a value leaves it (`outgoing`)", "message": "and its message alone read, and copied out (`message_of`)",
+         "step": "and its message alone read where it is (`query`, `get_ref`)", "take": "and the row taken out (`take_out`)"}
+SOURCE = """//! Opens a file with rows of many octets, and does one thing with one of them.
+use sqlite::{Alter, Connection, Error, params};
+use sqlite_value::value::ValueRef;
 use std::env;
 use std::process::ExitCode;
+
+const OWNER: &[u8] = b"a";
+const ID: i64 = 1;
+const ROW: &str = "SELECT id, kind, sender, target, message FROM outgoing WHERE owner = ?1 AND id = ?2";
+const MESSAGE: &str = "SELECT message FROM outgoing WHERE owner = ?1 AND id = ?2";
 
 fn main(rt: HostRuntime) -> ExitCode {
     match act(&rt) {
@@ -31,55 +38,118 @@ fn main(rt: HostRuntime) -> ExitCode {
     }
 }
 
-fn act(rt: &HostRuntime) -> Result<bool, Error> {
-    let mut word = 0;
+fn word_of(rt: &HostRuntime) -> u8 {
     if let Ok(mut args) = env::args(rt) {
         if let Some(text) = args.nth(1) {
-            word = *text.as_bytes().first().unwrap_or(&0);
+            return *text.as_bytes().first().unwrap_or(&0);
         }
     }
-    let mut conn = Connection::open(rt, "queue.db")?;
-    let owner: &[u8] = b"a";
-    let id: i64 = 1;
+    0
+}
+
+fn find<S: Alter>(conn: &mut Connection<S>) -> Result<bool, Error> {
     let before: i64 = 0;
-    let mut done = true;
-    if word == b'f' {
-        let rows = conn.query_all("SELECT owner, id FROM outgoing WHERE owner = ?1 AND id > ?2 ORDER BY owner, id LIMIT 1", params![owner, &before])?;
-        done = rows.len() == 1;
-    }
-    if word == b'c' {
-        let rows = conn.query_all("SELECT id, kind, sender, target, message FROM outgoing WHERE owner = ?1 AND id = ?2", params![owner, &id])?;
-        done = false;
-        if let Some(row) = rows.first() {
-            let text: Vec<u8> = row.get(4)?;
-            done = text.len() == SIZE;
+    let rows = conn.query_all("SELECT owner, id FROM outgoing WHERE owner = ?1 AND id > ?2 ORDER BY owner, id LIMIT 1", params![OWNER, &before])?;
+    Ok(rows.len() == 1)
+}
+
+fn read<S: Alter>(conn: &mut Connection<S>) -> Result<bool, Error> {
+    let rows = conn.query_all(ROW, params![OWNER, &ID])?;
+    Ok(rows.len() == 1)
+}
+
+fn copy<S: Alter>(conn: &mut Connection<S>, sql: &str, at: usize) -> Result<bool, Error> {
+    let rows = conn.query_all(sql, params![OWNER, &ID])?;
+    match rows.first() {
+        Some(row) => {
+            let text: Vec<u8> = row.get(at)?;
+            Ok(text.len() == SIZE)
         }
+        None => Ok(false),
     }
-    if word == b'r' {
-        let rows = conn.query_all("SELECT id, kind, sender, target, message FROM outgoing WHERE owner = ?1 AND id = ?2", params![owner, &id])?;
-        done = rows.len() == 1;
+}
+
+fn step<S: Alter>(conn: &mut Connection<S>) -> Result<bool, Error> {
+    let mut rows = conn.query(MESSAGE, params![OWNER, &ID])?;
+    rows.advance()?;
+    match rows.get() {
+        Some(row) => match row.get_ref(0)? {
+            ValueRef::Blob(text) => Ok(text.len() == SIZE),
+            _ => Ok(false),
+        },
+        None => Ok(false),
     }
-    if word == b't' {
-        conn.execute("DELETE FROM outgoing WHERE owner = ?1 AND id = ?2", params![owner, &id])?;
+}
+
+fn take<S: Alter>(conn: &mut Connection<S>) -> Result<bool, Error> {
+    conn.execute("DELETE FROM outgoing WHERE owner = ?1 AND id = ?2", params![OWNER, &ID])?;
+    Ok(true)
+}
+
+fn deed<S: Alter>(conn: &mut Connection<S>, word: u8) -> Result<bool, Error> {
+    match word {
+        b'f' => find(conn),
+        b'r' => read(conn),
+        b'c' => copy(conn, ROW, 4),
+        b'm' => copy(conn, MESSAGE, 0),
+        b's' => step(conn),
+        b't' => take(conn),
+        _ => Ok(true),
     }
+}
+
+fn act(rt: &HostRuntime) -> Result<bool, Error> {
+    let mut conn = Connection::open(rt, "queue.db")?;
+    let done = deed(&mut conn, word_of(rt))?;
     conn.close()?;
     Ok(done)
 }
-""".replace("SIZE", str(SIZE))
+"""
 
-with tempfile.TemporaryDirectory() as folder:
+
+def peak(words, folder):
+    """The most memory that a process had, in MB."""
+    process = subprocess.Popen(words, cwd=folder)
+    _, status, used = os.wait4(process.pid, 0)
+    assert status == 0, (words, status)
+    return used.ru_maxrss / 1000
+
+
+def made(folder):
+    """The crate's folder, with the program built."""
     crate = f"{folder}/crates/read"
     os.makedirs(f"{crate}/src")
-    open(f"{folder}/crates.txt", "w").write("read: sqlite\n")
-    open(f"{crate}/src/main.rt", "w").write(SOURCE)
-    with closing(sqlite3.connect(f"{crate}/full.db")) as db, db:
-        db.executescript(TABLES)
-        db.execute("INSERT INTO outgoing VALUES (X'61', 1, 1, X'62', X'63', ?)", (b"a" * SIZE,))
-    shutil.copy(f"{crate}/full.db", f"{crate}/queue.db")
+    with open(f"{folder}/crates.txt", "w") as file:
+        file.write("read: sqlite sqlite_value\n")
+    with open(f"{crate}/src/main.rt", "w") as file:
+        file.write(SOURCE.replace("SIZE", str(SIZE)))
     subprocess.run(["rt", "run"], cwd=crate, check=True, stdout=subprocess.DEVNULL)
-    print(f"| The ported SQLite alone, a row of {SIZE:,} octets | Memory MB | MB over an open |\n|---|---:|---:|")
+    return crate
+
+
+def memory(crate, rows):
+    """What each deed takes at most, over a file with so many rows."""
+    full = f"{crate}/full.db"
+    with closing(sqlite3.connect(full)) as db, db:
+        db.executescript(TABLES)
+        for number in range(rows):
+            db.execute("INSERT INTO outgoing VALUES (X'61', ?, 1, X'62', X'63', ?)", (number + 1, b"a" * SIZE))
+    found = {}
+    for deed in DEEDS:
+        shutil.copy(full, f"{crate}/queue.db")
+        found[deed] = peak([f"{crate}/out/read", deed], crate)
+    os.remove(full)
+    return found
+
+
+def main():
+    with tempfile.TemporaryDirectory() as folder:
+        crate = made(folder)
+        one, three = memory(crate, 1), memory(crate, 3)
+    print(f"| The ported SQLite alone, a row of {SIZE:,} octets of | one: MB | over an open | three: MB | over an open |\n|---|---:|---:|---:|---:|")
     for deed, said in DEEDS.items():
-        shutil.copy(f"{crate}/full.db", f"{crate}/queue.db")
-        most = peak([f"{crate}/out/read", deed], crate)
-        least = most if deed == "open" else least
-        print(f"| {said} | {most:.0f} | {most - least:.0f} |")
+        print(f"| {said} | {one[deed]:.0f} | {one[deed] - one['open']:.0f} | {three[deed]:.0f} | {three[deed] - three['open']:.0f} |")
+
+
+if __name__ == "__main__":
+    main()

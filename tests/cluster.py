@@ -555,9 +555,9 @@ class Loss:
     def why_again(self, one, again):
         """Why an answer came once more: what had not forgotten it on the disk when the power went. Nothing else is a reason."""
         (machine, number), (later, other) = one.machine(), again.machine()
-        if machine == later == self.machine and number == other and number in self.spool:
+        if (machine, number, one.name) == (self.machine, other, again.name) and machine == later and number in self.spool:
             return "a file that Postfix had removed" if number in self.removed else "a message that Postfix was handing on"
-        rows = self.rows(one.user, one.target) if machine == self.machine and number in self.taken and number != other else []
+        rows = self.rows(one.user, one.target) if machine == self.machine and number in self.taken and number != other and one.date == again.date else []
         if len(rows) == 1 and (one.user, rows[0]) not in self.told:
             return "a row that wasn't taken out yet"
         raise AssertionError(f"came twice, {one.when - self.when:.2f} s and {again.when - self.when:.2f} s behind the loss of power; in Postfix's queue {sorted(self.spool)}, rows "
