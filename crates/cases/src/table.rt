@@ -23,7 +23,7 @@ pub enum Table {
 }
 
 /// All of them, in the order in which they are tried.
-pub const TABLES: [Table; 28] = [
+pub const TABLES: [Table; 29] = [
     Table::Text(TextTable::Ascii),
     Table::Text(TextTable::Addresses),
     Table::Text(TextTable::Targets),
