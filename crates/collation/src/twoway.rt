@@ -307,9 +307,10 @@ fn find_cut<C: Comparator, K: Key>(key: &K, cut: Cut, value: &[u8], from: usize)
 
 /// The first place of `value`, from `from` on, where the images of `key` stand.
 ///
-/// It takes no memory, and time linear in the lengths of key and value together, whatever they hold: after a few passes
-/// over the key, Two-Way compares each octet of the value at most twice, from `from` to the end of the match, and looks
-/// ahead by at most one run of octets more than it moves on. It is Two-Way of Crochemore and Perrin (Two-way
+/// It takes no memory, and time linear in the lengths of key and value together, whatever they hold: the key's first octet
+/// is looked for, and where it stands nowhere the key isn't looked at further. After a few passes over the key, Two-Way
+/// compares each octet of the value at most twice, from there to the end of the match, and looks ahead by at most one run
+/// of octets more than it moves on. It is Two-Way of Crochemore and Perrin (Two-way
 /// string-matching, 1991).
 pub fn find<C: Comparator, K: Key>(key: &K, value: &[u8], from: usize) -> Option<usize>
     requires { from ≤ length value.now }
@@ -322,6 +323,10 @@ pub fn find<C: Comparator, K: Key>(key: &K, value: &[u8], from: usize) -> Option
     if value.len() - from < m {
         return None;
     }
+    let first = next_candidate::<C, K>(key, key.first(), value, from, 0);
+    if value.len() - first < m {
+        return None;
+    }
     let cut = find_critical_cut::<C, K>(key);
-    find_cut::<C, K>(key, cut, value, from)
+    find_cut::<C, K>(key, cut, value, first)
 }

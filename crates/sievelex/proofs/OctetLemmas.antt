@@ -1,6 +1,11 @@
 -- Octets that are looked for, and those before them.
-use Rattle.std.proofs.Common.{◌≡◌, ℕ, ◌+◌, ◌-◌, ◌<◌, ◌≤◌, List, get_or, drop, refl, ⊎_elim, arith}
-use Rattle.std.proofs.lemmas.Bool.{cases_lt}
+use Rattle.std.proofs.Common.{◌≡◌, ℕ, ◌+◌, ◌-◌, ◌<◌, ◌≤◌, true, false, List, get_or, length, drop, refl, sym, ◌∙◌, ⊎_elim, arith}
+use Rattle.std.proofs.Math.ListN.{get_or-eq_default}
+use Rattle.std.proofs.lemmas.Bool.{cases_lt, le-ltb}
+use Rattle.std.proofs.lemmas.List.Folds.{list_all_at}
+use Rattle.std.specs.Char.{is_ascii}
+use Rattle.std.specs.List.{list_all}
+use Rattle.std.specs.Str.{IsAscii}
 use Rattle.std.proofs.lemmas.List.{get_or-drop}
 use Rattle.memchr.specs.Find.{Nowhere, Passes, is_byte2}
 
@@ -33,3 +38,13 @@ no_lone_cr_more text at n before clean k short is = ⊎_elim
     (λ less. before k less is)
     (λ from. absurd (clean (k - at) (omega arith) (omega (arith, short, from)) (cr_passes text at k from is)))
     (cases_lt k at)
+
+-- octets each of which is ASCII
+pub ascii_is : (text : List ℕ) → list_all is_ascii text ≡ true → IsAscii text
+ascii_is text all i = ⊎_elim
+    (λ inside. ⊎_elim
+    (λ small. small)
+    (λ large. let e : true ≡ false = sym all ∙ list_all_at is_ascii text i 0 inside (le-ltb (get_or text i 0) 128 large) in cc)
+    (cases_lt (get_or text i 0) 128))
+    (λ past. let none = get_or-eq_default text 0 past in omega (arith, none))
+    (cases_lt i (length text))

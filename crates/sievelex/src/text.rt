@@ -1,5 +1,8 @@
 //! Which texts may be scripts at all, and lines.
 ghost use Rattle.std.specs.Prelude.{◌≡◌, ◌+◌, ◌<◌, ◌≤◌, length, take, MatchOption, IfSome};
+ghost use Rattle.std.specs.Char.{is_ascii};
+ghost use Rattle.std.specs.List.{list_all};
+ghost use Rattle.std.specs.Str.{IsUtf8};
 ghost use Rattle.sievelex.specs.Text.{IsText, HasGoodOctets, line_ends};
 
 use crate::fault::{FaultKind, ScriptFault};
@@ -11,15 +14,35 @@ pub(crate) fn text_fault(text: &[u8]) -> Option<ScriptFault>
     ensures fault { MatchOption result (IsText text.now) (λ _. IsText text.now → ⊥) }
     ensures lines { IfSome result (λ f. (1 ≤ f.line) × (f.line ≤ 1 + line_ends text.now)) }
 {
-    let (place, kind) = match str::from_utf8(text) {
-        Err(broken) => (broken.valid_up_to(), FaultKind::NotUtf8),
-        Ok(_) => (bad_octet(text)?, FaultKind::BadByte),
+    let (place, kind) = match broken_at(text) {
+        Some(place) => (place, FaultKind::NotUtf8),
+        None => (bad_octet(text)?, FaultKind::BadByte),
     };
     let (before, _) = text.split_at(place);
     Some(ScriptFault {
         line: 1 + line_feeds(before),
         kind,
     })
+}
+
+/// Where the text stops being UTF-8.
+fn broken_at(text: &[u8]) -> Option<usize>
+    ensures { MatchOption result (IsUtf8 text.now) (λ place. (place ≤ length text.now) × (IsUtf8 text.now → ⊥)) }
+{
+    if is_ascii(text) {
+        return None;
+    }
+    match str::from_utf8(text) {
+        Err(broken) => Some(broken.valid_up_to()),
+        Ok(_) => None,
+    }
+}
+
+/// Whether all octets are ASCII: such a text is UTF-8, and most scripts are.
+fn is_ascii(text: &[u8]) -> bool
+    ensures { result ≡ list_all is_ascii text.now }
+{
+    text.iter().all(|octet| octet.is_ascii())
 }
 
 /// The place of the first NUL or lone CR.
