@@ -3,14 +3,15 @@
 
   bench/accounts.py [SIEVED]     SIEVED: the program, crates/sieved/out/sieved where none is named
 
-An account has ten or a hundred messages of 1 MB, or three of 30 MB, delivered each by a process of its own. `export` and `import` run once
+An account has ten or a hundred messages of 1 MB, or one, two or three of 30 MB, delivered each by a process of its own. `export` and `import` run once
 each; time is theirs, and memory is the most that they had.
 """
 import os, resource, subprocess, sys, tempfile, time
 
 HERE = os.path.dirname(os.path.abspath(__file__))
 SIEVED = os.path.abspath(sys.argv[1] if len(sys.argv) > 1 else f"{HERE}/../crates/sieved/out/sieved")
-ACCOUNTS = [("10 messages of 1 MB", 10, 1_000_000), ("100 messages of 1 MB", 100, 1_000_000), ("3 messages of 30 MB", 3, 30_000_000)]
+ACCOUNTS = [("10 messages of 1 MB", 10, 1_000_000), ("100 messages of 1 MB", 100, 1_000_000), ("1 message of 30 MB", 1, 30_000_000),
+            ("2 messages of 30 MB", 2, 30_000_000), ("3 messages of 30 MB", 3, 30_000_000)]
 
 
 def ran(words, given=None, taken=subprocess.DEVNULL):
