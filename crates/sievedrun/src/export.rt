@@ -24,7 +24,8 @@ use std::io::Write;
 
 /// `export`: the text of the user's account, which is closed behind it where that is asked for, in one holding of the store.
 ///
-/// Time is linear in the text. Memory is that of the names and numbers of what the account has, and twice its largest text or message.
+/// Time is linear in the text. Memory is that of the names and numbers of what the account has, and one to four times its largest text or
+/// message, nearly all of it SQLite's.
 pub fn run_export<W: Write, K: Keeper>(
     alloc: Global,
     asked: Export<'_>,
