@@ -1,0 +1,23 @@
+-- The size that was counted is the message's.
+use Rattle.std.proofs.Common.{◌≡◌, List, ℕ, subst}
+use Rattle.std.proofs.lemmas.Result.{IfOk-weaker}
+use Rattle.sievesyntax.specs.Tree.{Commands}
+use Rattle.sievesyntax.specs.Means.{Means}
+use Rattle.sieveexec.specs.Mails.{mail_of}
+use Rattle.sieveexec.specs.Outcomes.{outcome_at}
+use Rattle.sieveexec.specs.Runs.{outcome_view}
+use Rattle.sievedrun.specs.Fronts.{StandsFor}
+use Rattle.sievedrun.proofs.answer.outcome_on.Goals as goal
+
+pub returns-in-Some-clause-done : goal.returns-in-Some-clause-done
+returns-in-Some-clause-done c =
+    let script = c.args.script.now in
+    let front = c.args.front.now in
+    IfOk-weaker c.attempt_on_front.result
+    _
+    (λ done. (tree : Commands) (message : List ℕ) → Means script tree → StandsFor front c.args.count message
+    → outcome_view done ≡ outcome_at (mail_of message c.args.envelope c.args.when) tree)
+    (λ done so tree message means stands.
+    let here = subst (λ n. StandsFor front n message) c.in-Some.is stands in
+    so tree message means here.0 (c.size.ensures.counted message here.1))
+    c.attempt_on_front.ensures.done
