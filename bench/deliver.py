@@ -70,7 +70,7 @@ def store(folder, count, script=SCRIPT):
     if count:
         sql(file, f"""WITH RECURSIVE k(n) AS (SELECT 1 UNION ALL SELECT n + 1 FROM k WHERE n < {count})
             INSERT INTO message(owner, id, bytes) SELECT CAST('alice' AS BLOB), n, randomblob(8192) FROM k;
-            INSERT INTO copy(owner, folder, n, id) SELECT owner, CAST('INBOX' AS BLOB), id, id FROM message;
+            INSERT INTO copy(owner, folder, n, id, flags) SELECT owner, CAST('INBOX' AS BLOB), id, id, X'' FROM message;
             UPDATE account SET next_copy = {count + 1};""")
     return file
 

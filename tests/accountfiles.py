@@ -65,6 +65,11 @@ right("In order: names and senders by their octets, the shorter first; numbers w
 right(parts=[(b"reply", b"", b"a", 2), (b"reply", b"", b"b", 1), (b"reply", b"k", b"", 0), (b"reply", b"k", b"a", 0), (b"reply", b"kk", b"", 0)])
 right(parts=[(b"mail", 2, b"b", b"one"), (b"copy", 3, b"a", 2), (b"copy", 7, b"b", 2), (b"mail", 8, b"a", b"one"), (b"copy", 9, b"a", 8)], numbers=(1, 10, 1, 1))
 right(parts=[(b"notice", 2, 5, b"late"), (b"notice", 4, 1, b"early")], numbers=(1, 1, 1, 9))
+right("The flags of copies: a field more, and none where there are none; any octets", parts=[MAIL + (b"\\Seen",), COPY], numbers=(1, 3, 1, 1))
+right(parts=[MAIL, COPY + (b"\\Flagged $Label1",)], numbers=(1, 3, 1, 1))
+right(parts=[MAIL + (b"\\Seen",), COPY + (b"\\Seen \\Deleted",), (b"copy", 3, b"b", 1)], numbers=(1, 4, 1, 1))
+right(parts=[MAIL + (b"a,5:b\n\x00\xff",), COPY + (b" ",)], numbers=(1, 3, 1, 1))
+right(parts=[MAIL + (Long(b"x" * LIMIT),)], numbers=(1, 2, 1, 1))
 right("Limits: rounds, counters, numbers, moments, 300 of each part, a message of 33,554,432 octets", numbers=(2**32 - 1, 2**63 - 1, 2**63 - 1, 2**63 - 1))
 right(parts=[(b"reply", b"k", b"s", 2**63 - 1), (b"mail", 2**63 - 2, b"a", b""), (b"redirect", 2**63 - 2, b"", b"", b""), (b"notice", 2**63 - 2, 2**63 - 1, b"")],
       numbers=(1, 2**63 - 1, 2**63 - 1, 2**63 - 1))
@@ -78,6 +83,7 @@ right(parts=[(b"mail", 1, b"a", Long(b"x" * LIMIT))], numbers=(1, 2, 1, 1))
 
 print("\n# Past a limit")
 wrong(account(parts=[(b"mail", 1, b"a", Long(b"x" * (LIMIT + 1)))], numbers=(1, 2, 1, 1)))
+wrong(account(parts=[MAIL + (Long(b"x" * (LIMIT + 1)),)], numbers=(1, 2, 1, 1)))
 for numbers in [(2**32, 1, 1, 1), (1, 2**63, 1, 1), (1, 1, 2**63, 1), (1, 1, 1, 2**63), (1, 0, 1, 1), (1, 1, 0, 1), (1, 1, 1, 0), (1, 2**64, 1, 1)]:
     wrong(account(numbers=numbers))
 for part, numbers in [((b"reply", b"k", b"s", 2**63), NUMBERS), (MAIL, NUMBERS), ((b"mail", 0, b"a", b""), (1, 2, 1, 1)), (REDIRECT, NUMBERS), (NOTICE, NUMBERS),
@@ -118,6 +124,13 @@ wrong(ended(line(b"Sieved-account", b"1") + HEAD[1] + HEAD[2]))
 for part in [(b"script", b"a"), (b"script", b"a", b"", b""), (b"Script", b"a", b""), (b"mail", 1, b"a"), (b"copy", 1, b"a", b"x"), (b"reply", b"k", b"s"), (b"letter", 1, b"", b"", b""),
              (b"redirect", 1, b"", b""), (b"redirect", 1, b"", b"", b"", b""), (b"notice", 1, 1), (b"",), (b"script",), (b"sum", b"0" * 64), ()]:
     wrong(account(parts=[part], numbers=(1, 9, 9, 9)))
+wrong(account(parts=[MAIL + (b"",)], numbers=(1, 3, 1, 1)), "Flags whose field is empty, or that other parts have; two fields of flags")
+wrong(account(parts=[MAIL, COPY + (b"",)], numbers=(1, 3, 1, 1)))
+wrong(account(parts=[MAIL + (b"\\Seen", b"\\Seen")], numbers=(1, 3, 1, 1)))
+wrong(account(parts=[MAIL, COPY + (b"\\Seen", b"")], numbers=(1, 3, 1, 1)))
+for part in SCRIPT, REPLY, REDIRECT, ANSWER, NOTICE:
+    wrong(account(parts=[part + (b"\\Seen",)], numbers=(1, 9, 9, 9)))
+wrong(account(parts=[(b"mail", 1, b"a", b"m", b"\\Seen"), (b"copy", 2, b"b", b"x", b"\\Seen")], numbers=(1, 9, 9, 9)))
 
 print("\n# Numbers in another form; all with the right sum")
 for number in [b"01", b"+1", b"-1", b"", b" 1", b"1 ", b"0x1", b"1.0", b"\xd9\xa1", b"00"]:

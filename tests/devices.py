@@ -21,7 +21,7 @@ STEPS = [
     ('GETSCRIPT "main"\r\n', "{40}\r\n" + SCRIPT + "\r\nOK\r\n", "active"),
     ("LOGOUT\r\n", 'OK "Bye."\r\n', "active"),
 ]
-GREETING = ('"IMPLEMENTATION" "sieved 1"\r\n"SASL" "PLAIN"\r\n"SIEVE" "fileinto envelope vacation copy vacation-seconds subaddress relational comparator-i;ascii-numeric encoded-character mailbox date"\r\n'
+GREETING = ('"IMPLEMENTATION" "sieved 1"\r\n"SASL" "PLAIN"\r\n"SIEVE" "fileinto envelope vacation copy vacation-seconds subaddress relational comparator-i;ascii-numeric encoded-character mailbox date imap4flags"\r\n'
             '"MAXREDIRECTS" "16"\r\n"UNAUTHENTICATE"\r\n"VERSION" "1.0"\r\nOK\r\n')
 NONE = 'NO (NONEXISTENT) "No such script."\r\n'
 # The next session: what is there, and it is taken away again.
@@ -33,7 +33,7 @@ def account():
     """Statements that make a store with the account alice, whose digest is that of docs/STORE.md: SHA-256 over salt and password, and
     once more over the digest before, salt and password."""
     with open(RUNS) as file:
-        tables = next(line.split("\t")[1] for line in file if line.startswith("new\tCREATE TABLE meta") and "('version', 2)\tdone" in line)
+        tables = next(line.split("\t")[1] for line in file if line.startswith("new\tCREATE TABLE meta") and line.split("; ")[-1].startswith("CREATE INDEX copy_message"))
     digest = hashlib.sha256(hashlib.sha256(SALT + b"secret").digest() + SALT + b"secret").digest()
     values = ", ".join(f"x'{octets.hex()}'" for octets in (b"alice", b"alice@example.org", SALT))
     return f"{tables}; INSERT INTO account VALUES ({values}, 1, x'{digest.hex()}', NULL, 1, 1, 1)"

@@ -17,7 +17,7 @@ DAY = 86400
 SESSIONS = {1: "uma", 2: "uma", 3: "vic", 4: "vic", 5: "wes"}
 RECEIVED = "Received: x\r\n" * 101
 PASSWORDS = {"uma": "secret", "vic": "secret", "wes": "pass word"}
-CAPABILITIES = ['"IMPLEMENTATION" "sieved 1"', '"SASL" "PLAIN"', '"SIEVE" "fileinto envelope vacation copy vacation-seconds subaddress relational comparator-i;ascii-numeric encoded-character mailbox date"',
+CAPABILITIES = ['"IMPLEMENTATION" "sieved 1"', '"SASL" "PLAIN"', '"SIEVE" "fileinto envelope vacation copy vacation-seconds subaddress relational comparator-i;ascii-numeric encoded-character mailbox date imap4flags"',
                 '"MAXREDIRECTS" "16"', '"UNAUTHENTICATE"', '"VERSION" "1.0"']
 
 # What a script means: its text, then the folders, targets and vacation of a message. A vacation is (days, subject, handle, reason).

@@ -179,6 +179,22 @@ said("scripts --db F alice", b'"main" ACTIVE\r\n"other"\r\n')
 said("scripts --db F alice main", SCRIPT)
 row("send", "alice", "DELETESCRIPT \"other\"%0D%0A", 'OK "Done."%0D%0A')
 said("deliver --db F --from bob@example.net --to alice@example.org --at 1700604800 alice", FILED + b"vacation sent\n", [letter("later")])
+title("the flags of copies (RFC 5232): a script gives each copy its own, and a text has them; a text without flags is as it was")
+FLAGS = b'require ["fileinto", "imap4flags"]; setflag "\\\\Seen"; fileinto :flags ["\\\\Flagged", "$Label1"] "a"; fileinto :flags "" "b"; keep;'
+new_store("alice")
+said("put --db F --activate alice main", b"stored main\n", [FLAGS])
+said(DELIVER, b"file a\nfile b\nfile INBOX\n", [letter("one")])
+flagged = [(b"mail", 1, b"a", letter("one"), b"\\Flagged $Label1"), (b"copy", 2, b"b", 1), (b"copy", 3, b"INBOX", 1, b"\\Seen")]
+FLAGGED = account(owner=owner(), parts=[(b"script", b"main", FLAGS)] + flagged, numbers=(10_000, 4, 1, 1), active=b"main")
+exports(FLAGGED)
+comes_back(FLAGGED)
+said("drain --db F alice a m", b"drained 1\n")
+exports(account(owner=owner(), parts=[(b"script", b"main", FLAGS), (b"mail", 2, b"b", letter("one")), (b"copy", 3, b"INBOX", 2, b"\\Seen")], numbers=(10_000, 4, 1, 1), active=b"main"))
+for wrong_part in [(b"mail", 1, b"a", letter("x"), b""), (b"mail", 1, b"a", letter("x"), b"\\Seen", b""), (b"script", b"s", b"stop;", b"\\Seen", b"")]:
+    new_store()
+    refused("import --db F", BAD, account(owner=owner(), parts=[wrong_part], numbers=(10_000, 9, 1, 1)))
+refused("import --db F", BAD, account(owner=owner(), parts=[(b"mail", 1, b"a", letter("x")), (b"copy", 2, b"b", 1, b"")], numbers=(10_000, 9, 1, 1)))
+
 title("names of 64 octets, an account's own kinds of names, no active script")
 for name in b"a" * 64, b"A.b_c-d@example.org", b"-", b".":
     text = account(owner=owner(name), parts=[(b"script", b"s", b"stop;")])

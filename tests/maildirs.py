@@ -94,7 +94,7 @@ def fill(store, folders):
     """Writes rows as deliveries would, since so many deliveries take long: alice has one message in all the folders."""
     with closing(sqlite3.connect(store.file)) as conn, conn:
         conn.execute("INSERT INTO message(owner, id, bytes) VALUES (?, 1, ?)", (b"alice", MESSAGE))
-        conn.executemany("INSERT INTO copy(owner, folder, n, id) VALUES (?, ?, ?, 1)", ((b"alice", name, n) for n, name in enumerate(folders, 1)))
+        conn.executemany("INSERT INTO copy(owner, folder, n, id, flags) VALUES (?, ?, ?, 1, X'')", ((b"alice", name, n) for n, name in enumerate(folders, 1)))
         conn.execute("UPDATE account SET next_copy = ? WHERE name = ?", (len(folders) + 1, b"alice"))
 
 

@@ -3,14 +3,17 @@
 
   tests/pigeonhole.py [--quick] [--sieved SIEVED] [TRIAL ..]
 
-A script has six rules, each of which files into a folder of its own where its test holds; the tests, their keys and the messages
-are drawn with a fixed seed, so that keys are near to what the messages have. 20,000 scripts are tried, with --quick 2,000. What
-DECISIONS explains, and what `sieve-test` can't be given, isn't drawn: a null sender, one part of the envelope named twice, dates
-that only one of the two reads, zones that are none, `:count` of parts of addresses, keys that are no number with
-`i;ascii-numeric`, `:value` with `i;ascii-casemap`, `?` in patterns. A script at which sieve-test itself breaks off is passed over.
+A script has six rules, each of which files into a folder of its own where its test holds, and some change flags before or within
+them; the tests, their keys and the messages are drawn with a fixed seed, so that keys are near to what the messages have. 20,000
+scripts are tried, with --quick 2,000. `flags_of_copies` delivers by 1,000 of them (--quick 100) into a store, and holds the flags
+of each copy there against those that sieve-test tells; no folder is filed into twice. What DECISIONS explains, and what
+`sieve-test` can't be given, isn't drawn: a null sender, one part of the envelope named twice, dates that only one of the two
+reads, zones that are none, `:count` of parts of addresses, keys that are no number with `i;ascii-numeric`, `:value` with
+`i;ascii-casemap`, `?` in patterns. A script at which sieve-test itself breaks off is passed over.
 The moment is that of the run, the host's zone UTC. It needs root and dovecot-sieve; sieve-test runs as nobody.
 """
-import base64, os, random, re, subprocess, sys, tempfile, time
+import base64, os, random, re, sqlite3, subprocess, sys, tempfile, time
+from contextlib import closing
 from datetime import datetime, timedelta, timezone
 from concurrent.futures import ThreadPoolExecutor
 
@@ -20,7 +23,7 @@ import trials
 
 SIEVED = os.path.abspath(f"{HERE}/../crates/sieved/out/sieved")
 RULES, SCRIPTS, SEED = 6, 20_000, 5228
-EXTENSIONS = ["fileinto", "envelope", "subaddress", "relational", "comparator-i;ascii-numeric", "encoded-character", "date"]
+EXTENSIONS = ["fileinto", "envelope", "subaddress", "relational", "comparator-i;ascii-numeric", "encoded-character", "date", "imap4flags"]
 RELATIONS = ["gt", "ge", "lt", "le", "eq", "ne"]
 WORDS = ["lunch", "Lunch", "LUNCH", "dinner", "a", "b", "ab", "re:", "[list]", "10", "9", "010", "3", "*", "?", "\\", "x y", "caf\u00e9", "no", "é", "$", "${hex:41}"]
 NAMES = ["Subject", "X-A", "X-B", "X-Priority", "List-Id", "To", "From", "Cc", "Date", "Received", "X-Date", "X-None"]
@@ -32,6 +35,8 @@ PARTS = "year month day date julian hour minute second time iso8601 std11 zone w
 # Of the moment of the run what doesn't change while it is looked at, or seldom: such a script is tried again.
 SLOW_PARTS = "year month day date julian hour zone weekday".split()
 ZONES = ["+0000", "-0000", "+0100", "-0500", "+0530", "-0330", "+1200", "-1130"]
+FLAGS = ["\\Seen", "\\seen", "\\Flagged", "\\Answered", "\\Deleted", "\\Draft", "work", "Work", "$Forwarded", "NonJunk", "a", "\\Seen work",
+         "x  y a", "", " ", "\\Recent", "\\foo", "a(b", "\u00e9", "10", "3"]
 DOMAINS = ["example.org", "example.net", "Example.ORG", "mail.example.org", "b.c"]
 
 
@@ -168,12 +173,30 @@ def address_key(draw):
     return draw.choice([whole, local, domain, local.partition("+")[0], local.partition("+")[2], "", "a", "example", "alice"])
 
 
+def flag(draw):
+    return draw.choice(FLAGS)
+
+
+def flag_pattern(draw):
+    return "".join(draw.choice(["*", "w", "work", "\\\\", "seen", "S", "$", "a", "1"]) for _ in range(draw.randint(0, 3)))
+
+
+def flag_test(draw):
+    """A test `hasflag`."""
+    tags, key = matching(draw, flag)
+    return " ".join(["hasflag", *tags, strings(draw, flag_pattern if key is pattern else key)])
+
+
+def flag_command(draw):
+    return f'{draw.choice(["setflag", "addflag", "addflag", "removeflag"])} {strings(draw, flag)};'
+
+
 def names(draw):
     return strings(draw, lambda draw: draw.choice(NAMES))
 
 
 def test(draw, size, depth=0):
-    kind = draw.choice(["header", "header", "header", "address", "address", "envelope", "date", "date", "exists", "size", "bool"] + ["not", "allof", "anyof"] * (depth < 2))
+    kind = draw.choice(["header", "header", "header", "address", "address", "envelope", "date", "date", "hasflag", "hasflag", "exists", "size", "bool"] + ["not", "allof", "anyof"] * (depth < 2))
     if kind in ("header", "address", "envelope"):
         tags, key = matching(draw, word if kind == "header" else address_key)
         if kind != "header":
@@ -184,6 +207,8 @@ def test(draw, size, depth=0):
         return " ".join([kind, *tags, what, strings(draw, key)])
     if kind == "date":
         return date_test(draw)
+    if kind == "hasflag":
+        return flag_test(draw)
     if kind == "exists":
         return f"exists {names(draw)}"
     if kind == "size":
@@ -195,8 +220,16 @@ def test(draw, size, depth=0):
     return f"{kind} ({', '.join(test(draw, size, depth + 1) for _ in range(draw.randint(1, 3)))})"
 
 
+def rule(draw, size, at):
+    """A rule, some with changes of flags before it and within, in one line."""
+    before = flag_command(draw) + " " if draw.random() < 0.4 else ""
+    within = flag_command(draw) + " " if draw.random() < 0.2 else ""
+    given = f":flags {strings(draw, flag)} " if draw.random() < 0.2 else ""
+    return f'{before}if {test(draw, size)} {{ {within}fileinto {given}"r{at}"; }}\r\n'
+
+
 def script(draw, size):
-    rules = [f'if {test(draw, size)} {{ fileinto "r{at}"; }}\r\n' for at in range(RULES)]
+    rules = [rule(draw, size, at) for at in range(RULES)]
     return f"require [{', '.join(quoted(draw, name) for name in EXTENSIONS)}];\r\n" + "".join(rules)
 
 
@@ -215,13 +248,17 @@ def by_sieved(text, mail, sender, recipient):
     return sorted(set(re.findall(r"^file (r\d+)$", done.stdout.decode(), re.M)))
 
 
-def by_sieve_test(folder, text, mail, sender, recipient):
+def sieve_test(folder, text, mail, sender, recipient):
     with open(f"{folder}/a.sieve", "wb") as file:
         file.write(text)
     with open(f"{folder}/a.eml", "wb") as file:
         file.write(mail)
     words = ["sieve-test", "-C", "-c", f"{folder}/dovecot.conf", "-f", sender, "-a", recipient, "-r", recipient, f"{folder}/a.sieve", f"{folder}/a.eml"]
-    done = subprocess.run(words, capture_output=True, env={"USER": "nobody", "HOME": folder, "PATH": os.environ["PATH"], "TZ": "UTC"})
+    return subprocess.run(words, capture_output=True, env={"USER": "nobody", "HOME": folder, "PATH": os.environ["PATH"], "TZ": "UTC"})
+
+
+def by_sieve_test(folder, text, mail, sender, recipient):
+    done = sieve_test(folder, text, mail, sender, recipient)
     if b"Panic" in done.stderr:
         return None
     if done.returncode:
@@ -279,11 +316,73 @@ def scripts_and_mails():
     return f"{count} scripts of {RULES} rules do the same by both"
 
 
+def is_flag(name):
+    """One of the system flags, or an atom (RFC 3501, 9). sieve-test takes any text behind `:flags`, which DECISIONS explains."""
+    return name in ("\\seen", "\\answered", "\\flagged", "\\deleted", "\\draft") or name.isascii() and not set(name) & set('(){%*"\\]')
+
+
+def copies_told(said):
+    """To each folder that sieve-test files into the flags that it tells, in lower case."""
+    found, folder = {}, None
+    for line in said.splitlines():
+        filed = re.search(r"store message in folder: (\S+)$", line)
+        if filed:
+            folder = filed[1]
+            found[folder] = set()
+        flags = re.search(r"add IMAP flags: (.*)$", line)
+        if flags and folder:
+            found[folder] = set(filter(is_flag, flags[1].lower().split()))
+    return found
+
+
+def copies_kept(folder, text, mail, sender, recipient):
+    """The same of a store that the mail was delivered into."""
+    def run(*words, given=b""):
+        done = subprocess.run([SIEVED, words[0], "--db", f"{folder}/mail.db", *words[1:]], input=given, capture_output=True)
+        return done.returncode, done.stdout.decode(), done.stderr.decode()
+    if not os.path.exists(f"{folder}/mail.db"):
+        assert run("init")[0] == run("adduser", "alice", "alice@example.org", given=b"secret")[0] == 0
+    status, _, told = run("put", "--activate", "alice", "main", given=text)
+    if status:
+        return told.strip()
+    with closing(sqlite3.connect(f"file:{folder}/mail.db?mode=ro", uri=True)) as base:
+        last = base.execute("SELECT next_copy FROM account").fetchone()[0]
+    status, said, told = run("deliver", "--from", sender, "--to", recipient, "alice", given=mail)
+    assert status == 0, (status, said, told)
+    with closing(sqlite3.connect(f"file:{folder}/mail.db?mode=ro", uri=True)) as base:
+        return {name.decode(): set(flags.decode().lower().split()) for name, flags in base.execute("SELECT folder, flags FROM copy WHERE n >= ?", [last])}
+
+
+def flags_of_copies():
+    """What each copy in a store has, after a delivery by each of these scripts."""
+    trials.need_root()
+    trials.need("sieve-test")
+    count, found, kept = trials.some(1_000), [], 0
+    with tempfile.TemporaryDirectory() as folder:
+        os.chmod(folder, 0o777)
+        with open(f"{folder}/dovecot.conf", "w") as file:
+            file.write(CONFIGURATION.format(folder=folder))
+        for seed in range(SEED * 1_000_000, SEED * 1_000_000 + count):
+            text, mail, sender, recipient = drawn(seed)
+            done = sieve_test(folder, text.encode(), mail, sender, recipient)
+            if done.returncode or b"Panic" in done.stderr:
+                continue
+            theirs = copies_told(done.stdout.decode(errors="replace"))
+            ours = copies_kept(folder, text.encode(), mail, sender, recipient)
+            kept += sum(bool(flags) for flags in theirs.values())
+            if ours != theirs:
+                found.append((seed, ours, theirs))
+    for seed, ours, theirs in found[:10]:
+        print(f"seed {seed}: sieved {ours}, sieve-test {theirs}\n{drawn(seed)[0]}", flush=True)
+    assert not found, f"{len(found)} of {count} differ"
+    return f"{count} scripts: each copy has the same flags by both, {kept} copies have some"
+
+
 def main():
     def program(path):
         global SIEVED
         SIEVED = path
-    trials.main({"scripts_and_mails": scripts_and_mails}, program)
+    trials.main({"scripts_and_mails": scripts_and_mails, "flags_of_copies": flags_of_copies}, program)
 
 
 if __name__ == "__main__":

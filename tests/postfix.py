@@ -339,7 +339,7 @@ def bad_days():
         shutil.chown(f"{host.db}.good", "nobody", "nogroup")
         version(host, 1)
         host.send(b"bob@example.net", subject=b"version")
-        mended(host, "version", lambda: version(host, 2))
+        mended(host, "version", lambda: version(host, 3))
         assert host.arrived() == [b"absent", b"killed", b"version"], host.arrived()
         assert "status=bounced" not in host.log() and not host.sink.got, host.sink.got
     return "a killed program, an absent store, another version: each message waits and arrives, nothing is bounced"

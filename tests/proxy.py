@@ -249,6 +249,26 @@ def folders():
     return f"{len(scripts.FOLDERS)} folders by `.` and by `/`: listed, subscribed, each with its message"
 
 
+def flags():
+    """A drained message has the system flags that its script set, and no other."""
+    trials.need("flock")
+    names = {"D": rb"\Draft", "F": rb"\Flagged", "R": rb"\Answered", "S": rb"\Seen", "T": rb"\Deleted"}
+    with a_host() as host:
+        host.add_user("alice", host.store, "human")
+        given, messages = scripts.flagged()
+        status, _, said = given.call("sieved-drain", "alice", SIEVED_MAIL=f"{host.room}/var/mail")
+        assert (status, said) == (0, b""), said
+        subprocess.run(["chown", "-R", "nobody:nogroup", f"{host.room}/var/mail"], check=True)
+        client = host.imap_client("alice", "human")
+        for at, letters in enumerate(scripts.SET.values()):
+            assert client.select(f"f{at}", readonly=True) == ("OK", [b"1"]), at
+            ((told, octets), more) = client.fetch("1", "(FLAGS BODY.PEEK[])")[1]
+            found = {*imaplib.ParseFlags(told), *imaplib.ParseFlags(more)} - {rb"\Recent"}
+            assert found == {names[letter] for letter in letters or ""} and octets == messages[at], (at, told, more)
+        client.logout()
+    return f"{len(messages)} messages: Dovecot tells the flags that were set"
+
+
 def other_disk():
     """What the full disk's recipe has moved elsewhere comes back into the user's own folders, by the page's line."""
     trials.need("flock")
@@ -292,7 +312,7 @@ def name_of(line):
     return re.sub(r"\\(.)", r"\1", name[1:-1]) if name.startswith('"') else name
 
 
-TRIALS = {trial.__name__: trial for trial in (log_ins, two_stores, over_the_daemon, folders, other_disk)}
+TRIALS = {trial.__name__: trial for trial in (log_ins, two_stores, over_the_daemon, folders, flags, other_disk)}
 
 if __name__ == "__main__":
     trials.main(TRIALS, lambda program: scripts.PROGRAM.__setitem__(0, program))

@@ -79,7 +79,7 @@ class Host(managesieve.Store):
         """The messages in Maildirs."""
         found = []
         for folder, _, files in os.walk(self.mail):
-            for name in files if folder.endswith("/new") else []:
+            for name in files if folder.endswith(("/new", "/cur")) else []:
                 with open(f"{folder}/{name}", "rb") as file:
                     found.append(file.read())
         return found
@@ -347,12 +347,13 @@ FOLDERS = {  # as `.` and `/` have them: the rules of docs/REFERENCE.md, worked 
 }
 
 
-def filled(*names):
-    """A host where alice has one message in each folder, and by name that message."""
+def filled(*names, flags=False):
+    """A host where alice has one message in each folder, and by name that message; with flags each other one is seen."""
     host = Host("alice")
     quoted = lambda name: name.replace("\\", "\\\\").replace('"', '\\"')
-    rules = "".join(f'if header :is "subject" "{at}" {{ fileinto "{quoted(name)}"; }}\r\n' for at, name in enumerate(names))
-    host.script("alice", ('require "fileinto";\r\n' + rules).encode())
+    seen = lambda at: ':flags "\\\\Seen" ' if flags and at % 2 else ""
+    rules = "".join(f'if header :is "subject" "{at}" {{ fileinto {seen(at)}"{quoted(name)}"; }}\r\n' for at, name in enumerate(names))
+    host.script("alice", ('require ["fileinto", "imap4flags"];\r\n' + rules).encode())
     messages = {name: MAIL % b"%d" % at for at, name in enumerate(names)}
     for message in messages.values():
         assert host.deliver("--no-drain", "--to", "alice@example.org", "alice", data=message)[0] == 0
@@ -376,6 +377,84 @@ def drain_folders():
         wanted = {directories[at][1:].replace(".", "\t") for directories in FOLDERS.values()} - {""}
         assert lines[:2] == ["V\t2", ""] and lines[-1] == "" and sorted(lines[2:-1]) == sorted(wanted), lines
     return f"{len(FOLDERS)} folders by `.` and by `/`: each message in its directory, each folder subscribed once"
+
+
+# The flags that a script sets, and how the file of a Maildir is then called behind its name: its letters in their order; None: it is one of `new`.
+SET = {"": None, "work $x": None, "\\\\Seen work": "S", "\\\\seen": "S", "\\\\Deleted \\\\Seen \\\\Answered \\\\Flagged \\\\Draft": "DFRST", "\\\\Recent a(b": None,
+       "\\\\Flagged \\\\Draft": "DF"}
+
+
+def flagged():
+    """A host where alice has a message for each set of flags, each in a folder of its own, and by the folder's number that message."""
+    host = Host("alice")
+    rules = "".join(f'if header :is "subject" "{at}" {{ setflag "{flags}"; fileinto "f{at}"; }}\r\n' for at, flags in enumerate(SET))
+    host.script("alice", ('require ["fileinto", "imap4flags"];\r\n' + rules).encode())
+    messages = [MAIL % b"%d" % at for at in range(len(SET))]
+    for message in messages:
+        assert host.deliver("--no-drain", "--to", "alice@example.org", "alice", data=message)[0] == 0
+    return host, messages
+
+
+def drain_flags():
+    """A message with system flags is a file of `cur`, with their letters; without, of `new`: with `cur` there and without."""
+    for parts in ("tmp", "new", "cur"), ("tmp", "new"):
+        host, messages = flagged()
+        for at, (message, letters) in enumerate(zip(messages, SET.values())):
+            maildir = f"{host.mail}/f{at}"
+            for part in parts:
+                os.makedirs(f"{maildir}/{part}")
+            assert drained(host, f"f{at}", maildir) == (0, b"drained 1\n", b""), at
+            found = [f"{part}/{name}" for part in ("tmp", "new", "cur") if os.path.isdir(f"{maildir}/{part}") for name in os.listdir(f"{maildir}/{part}")]
+            name = name_of("alice", f"f{at}", at + 1, message)
+            assert found == [f"cur/{name}:2,{letters}" if letters else f"new/{name}"], (at, found)
+            with open(f"{maildir}/{found[0]}", "rb") as file:
+                assert file.read() == message, at
+        assert not host.stored()
+    return f"{len(SET)} messages, into Maildirs with `cur` and without"
+
+
+def drained(host, folder, maildir):
+    done = subprocess.run([host.sieved, "drain", "--db", host.file, "alice", folder, maildir], capture_output=True, timeout=60)
+    return done.returncode, done.stdout, done.stderr
+
+
+def name_of(user, folder, number, message):
+    """What a file is called by docs/REFERENCE.md: the number, and the SHA-256 of user, folder and message, the first two behind their lengths."""
+    counted = b"".join(len(text).to_bytes(8, "big") + text for text in (user.encode(), folder.encode()))
+    return f"{number}.{hashlib.sha256(counted + message).hexdigest()}"
+
+
+def drain_no_place():
+    """Where `cur` is a file, or can't be written to or made, a message with system flags stays, nothing stays in `tmp`, and another one moves."""
+    told = []
+    for how in "a file", "no directory to write to", "not to be made":
+        if how != "a file":
+            trials.need_root()
+            trials.need("setpriv")
+        host, messages = flagged()
+        maildir = f"{host.mail}/x"
+        for part in "tmp", "new":
+            os.makedirs(f"{maildir}/{part}")
+            os.chmod(f"{maildir}/{part}", 0o777)
+        if how == "a file":
+            open(f"{maildir}/cur", "w").close()
+        elif how == "no directory to write to":
+            os.mkdir(f"{maildir}/cur", 0o555)
+        # who may write all but that
+        for path, _, files in os.walk(host.room):
+            os.chmod(path, 0o755 if path in (maildir, f"{maildir}/cur") else 0o777)
+            for name in files:
+                os.chmod(f"{path}/{name}", 0o777)
+        user = [] if how == "a file" else ["setpriv", "--reuid=65534", "--regid=65534", "--clear-groups"]
+        drain = lambda folder: subprocess.run([*user, host.sieved, "drain", "--db", host.file, "alice", folder, maildir], capture_output=True, timeout=60)
+        done = drain("f2")
+        assert done.returncode == 75 and done.stdout == b"" and done.stderr.startswith(b"sieved: input or output failed\n"), (how, done)
+        told.append(done.stderr.decode().split("\n")[1:-1])
+        assert sorted(host.stored()) == sorted(messages) and not os.listdir(f"{maildir}/tmp") and not os.listdir(f"{maildir}/new"), how
+        done = drain("f1")
+        assert (done.returncode, done.stdout, done.stderr) == (0, b"drained 1\n", b""), (how, done)
+        assert os.listdir(f"{maildir}/new") == [name_of("alice", "f1", 2, messages[1])], how
+    return f"a message with a flag stays ({told}), one without moves"
 
 
 def drain_subscriptions():
@@ -437,7 +516,7 @@ def drain_listings():
 def drain_killed():
     trials.need("flock")
     names = [f"f{n}" for n in range(12)]
-    host, messages = filled("INBOX", *names)
+    host, messages = filled("INBOX", *names, flags=True)
     counts = collections.Counter()
     began = time.time()
     host.call("sieved-drain", "bob")
@@ -465,12 +544,15 @@ def drain_killed():
     assert host.call("sieved-drain", "alice")[0] == 0 and not host.stored()
     with open(f"{host.mail}/alice/subscriptions") as found:
         assert sorted(found.read().split("\n")[2:-1]) == sorted(names)
-    return f"{counts[-9]} runs killed: each message is there, each folder subscribed once"
+    for at, name in enumerate(names, 1):
+        (file,) = os.listdir(f"{host.mail}/alice/.{name}/{'cur' if at % 2 else 'new'}")
+        assert file.endswith(":2,S") == bool(at % 2) and not os.listdir(f"{host.mail}/alice/.{name}/tmp"), file
+    return f"{counts[-9]} runs killed: each message is there, the seen ones in `cur`, each folder subscribed once"
 
 
 def drain_full_disk():
     trials.need("flock")
-    host, messages = filled("INBOX", *(f"f{n}" for n in range(40)))
+    host, messages = filled("INBOX", *(f"f{n}" for n in range(40)), flags=True)
     with small_disk(host.mail, 100):
         status, _, said = host.call("sieved-drain", "alice")
         there = sorted(host.stored() + host.moved())
@@ -570,7 +652,7 @@ def swap_serves():
     with sqlite3.connect(host.file) as base:
         for number in range(1, count + 1):
             base.execute("INSERT INTO message(owner, id, bytes) VALUES (?, ?, ?)", (b"alice", number, MAIL % b"%d" % number + b"x" * 500_000))
-            base.execute("INSERT INTO copy(owner, folder, n, id) VALUES (?, ?, ?, ?)", (b"alice", b"INBOX", number, number))
+            base.execute("INSERT INTO copy(owner, folder, n, id, flags) VALUES (?, ?, ?, ?, X'')", (b"alice", b"INBOX", number, number))
         base.execute("UPDATE account SET next_copy = ? WHERE name = ?", (count + 1, b"alice"))
     base.close()
     given = {"/var/swap": f"{host.room}/swap", "/var/lib/sieved/mail.db": host.file, "runuser -u sieved -- sieved-drain alice bob": f"'{DOCS}/sieved-drain' alice"}
@@ -664,7 +746,7 @@ def text_by_shellcheck():
 
 TRIALS = {trial.__name__: trial for trial in (
     text_by_sh, text_by_shellcheck, deliver_statuses, deliver_faults, deliver_cut, deliver_killed, deliver_full_disk,
-    queue_addresses, queue_targets, queue_rows, queue_beside, queue_by_hand, drain_folders, drain_subscriptions, drain_users, drain_listings, drain_killed,
+    queue_addresses, queue_targets, queue_rows, queue_beside, queue_by_hand, drain_folders, drain_flags, drain_no_place, drain_subscriptions, drain_users, drain_listings, drain_killed,
     drain_full_disk, drain_order, reserve_makes_room, swap_serves, restore_keeps_the_old)}
 
 if __name__ == "__main__":

@@ -9,8 +9,9 @@ that are lost, all of them, or all but one; a write that is torn at a sector; on
 The program opens each. It has to show the accounts as before or as after, and once the word has answered as after. The same
 state of two moments is opened once. Nothing is thought durable that wasn't synced: a name needs a sync of its folder.
 
-The trials: init, adduser, deliver, done, imported, exported, drain, session; `upgrade_last` and `upgrade_fourth`, the first word over a store that a program of
-version 1 wrote (crates/cases/data); `again`, where the power goes once more as what it left is opened;
+The trials: init, adduser, deliver, done, imported, exported, drain, session; `drain_seen`, where two of three messages have a system flag, and
+`drain_made`, where the Maildir lacks `cur` besides; `upgrade_last`, `upgrade_fourth` and `upgrade_second`, the first word over a store that a
+program of version 1 or 2 wrote (crates/cases/data); `again`, where the power goes once more as what it left is opened;
 `unsynced`, a disk that loses a commit between its write and its sync, over which the next word reads the disk; and `planted`, in
 which a sync is left out of the log, an answer stands before one, or a commit before the last write, and a state has to be found
 that isn't as it should be.
@@ -43,8 +44,11 @@ LONG = b"# a script that takes some pages\r\n" * 300
 
 
 # One call. `write`: octets of a file from a place on. `cut`: its length. `name`: a name that comes or goes, (path, file or None); a
-# rename is two of them. `sync`: of a file, or of a folder by its path. `said`: octets for whoever called.
+# rename is two of them, and a folder that is made is FOLDER. `sync`: of a file, or of a folder by its path. `said`: octets for whoever called.
 Call = namedtuple("Call", "kind target at octets", defaults=(0, b""))
+
+
+FOLDER = "folder"
 
 
 class Log:
@@ -127,6 +131,10 @@ class Log:
         self.calls.append(Call("name", (path, file)))
         self.now[path] = file
 
+    def made(self, words, _):
+        (path,) = (self.path(word) for word in words if word.startswith('"'))
+        self.name(path, FOLDER)
+
     def rename(self, words, _):
         old, new = (self.path(word) for word in words if word.startswith('"'))
         self.name(new, self.now[old])
@@ -151,7 +159,7 @@ KNOWN = dict.fromkeys("""execve access faccessat2 newfstatat fstat stat lstat st
     mmap fchmod chmod fchown poll ioctl""".split())
 KNOWN |= {"open": lambda log, words, result: log.open([None, *words], result), "openat": Log.open, "close": Log.close,
           "fadvise64": Log.drop, "pread64": Log.read_at, "read": Log.moved, "write": Log.write, "pwrite64": Log.write_at, "ftruncate": Log.cut, "fsync": Log.sync, "fdatasync": Log.sync,
-          "rename": Log.rename, "renameat": Log.rename, "renameat2": Log.rename, "link": Log.link, "linkat": Log.link,
+          "mkdir": Log.made, "mkdirat": Log.made, "rename": Log.rename, "renameat": Log.rename, "renameat2": Log.rename, "link": Log.link, "linkat": Log.link,
           "unlink": Log.unlink, "unlinkat": Log.unlink}
 
 
@@ -230,7 +238,9 @@ def left_by(log, state):
             file.extend(bytes(call.at - len(file)))
         elif call.kind == "name":
             names[call.target[0]] = call.target[1]
-    return {path: bytes(files.get(number, b"")) for path, number in names.items() if number is not None}
+    made = {call.target[0] for call in log.calls if call.kind == "name" and call.target[1] == FOLDER}
+    is_there = lambda path: all(names.get(folder) == FOLDER for folder in made if path.startswith(f"{folder}/"))
+    return {path: bytes(files.get(number, b"")) for path, number in names.items() if number not in (None, FOLDER) and is_there(path)}
 
 
 def put(file, call, how):
@@ -266,7 +276,7 @@ class Look:
         """What the files show: of a Maildir the messages, and of the store each word's answer and the rows of all tables."""
         with tempfile.TemporaryDirectory(dir=self.top.name) as folder:
             lay(folder, files)
-            moved = tuple(sorted(octets for path, octets in files.items() if "/new/" in path))
+            moved = tuple(sorted(octets for path, octets in files.items() if "/new/" in path or "/cur/" in path))
             return self.store(folder), moved
 
     def store(self, folder):
@@ -509,11 +519,16 @@ def exported():
     return sweep(log, look, lambda state, answers: "as after" if state[0] == after else "as before" if state[0] == before else None)
 
 
-def moving():
-    """The log of a drain of three messages, what its states are judged by, and what opens them."""
+SEEN = b'require "imap4flags"; if not header :is "subject" "1" { setflag "\\\\Seen"; }\r\n'
+
+
+def moving(script=None, parts=("tmp", "new", "cur")):
+    """The log of a drain of three messages into a Maildir with these parts, what its states are judged by, and what opens them."""
     room = Room()
-    for part in "tmp", "new", "cur":
+    for part in parts:
         os.makedirs(f"{room.folder}/Maildir/{part}")
+    if script:
+        room.talk(put_script(b"main", script), b'SETACTIVE "main"\r\n')
     mails = [MAIL % number for number in range(3)]
     for mail in mails:
         room.run("deliver", "--from", "bob@example.net", "--to", "alice@example.org", "alice", data=mail)
@@ -527,12 +542,24 @@ def moving():
             return None
         return f"{len(state[1])} in the Maildir and {len(messages_of(state))} in the store"
 
+    counts = Counter(path.split("/")[1] for path in left_by(log, State(len(log.calls))) if path.startswith("Maildir/"))
+    assert counts == ({"cur": 2, "new": 1} if script else {"new": 3}), counts
     return log, look, judge
 
 
 def drain():
     """Each message is in the store, in the Maildir or in both, whole; the first ones leave first."""
     return sweep(*moving())
+
+
+def drain_seen():
+    """The same, where the first message and the last one come into `cur`."""
+    return sweep(*moving(SEEN))
+
+
+def drain_made():
+    """The same, where `cur` is made for the first one."""
+    return sweep(*moving(SEEN, ("tmp", "new")))
 
 
 def messages_of(state):
@@ -576,10 +603,10 @@ def session():
     return sweep(log, look, judge)
 
 
-def upgrade(order):
-    """A store of version 1 is one of version 2 then: of each state all is shown that was there, with the copies' own numbers."""
+def upgrade(file):
+    """A store of an earlier version is one of version 3 then: of each state all is shown that was there, with the copies' own numbers."""
     room = Room(users=False)
-    shutil.copy(f"{DATA}/copies-{order}.db", f"{room.folder}/mail.db")
+    shutil.copy(f"{DATA}/{file}", f"{room.folder}/mail.db")
     old = old_rows(f"{room.folder}/mail.db")
     log, said = room.recorded("folders", "alice")
     look = Look([])
@@ -590,28 +617,35 @@ def upgrade(order):
 
 
 def old_rows(db):
-    """The rows that a file of version 1 has: those of the copies as version 2 has them, and those of the tables that stay."""
+    """The rows that a file of version 1 or 2 has: those of the copies as version 3 has them, and those of the tables that stay."""
     with contextlib.closing(sqlite3.connect(f"file:{db}?mode=ro&immutable=1", uri=True)) as base:
-        assert base.execute("SELECT item, value FROM meta").fetchall() == [("version", 1)]
-        copies = base.execute("SELECT owner, folder, n, n, message FROM copy").fetchall()
+        ((item, version),) = base.execute("SELECT item, value FROM meta").fetchall()
+        assert item == "version" and version in (1, 2), (item, version)
+        copies = base.execute("SELECT owner, folder, n, n, X'', message FROM copy" if version == 1 else
+                              "SELECT owner, folder, n, id, X'', bytes FROM copy JOIN message USING (owner, id)").fetchall()
         return sorted(copies), *(sorted(base.execute(f"SELECT * FROM {table}").fetchall(), key=repr) for table in TABLES[1:6])
 
 
 def new_rows(found):
-    """The same of version 2, by its tables."""
-    assert found["meta"] == (("version", 2),) and len(found["message"]) == len(found["copy"]), found["meta"]
+    """The same of version 3, by its tables."""
+    assert found["meta"] == (("version", 3),) and len(found["message"]) == len({(row[0], row[3]) for row in found["copy"]}), found["meta"]
     octets = {(owner, id): message for owner, id, message in found["message"]}
     return sorted((*row, octets[row[0], row[3]]) for row in found["copy"]), *(list(found[table]) for table in TABLES[1:6])
 
 
 def upgrade_last():
     """With the copies after the other tables."""
-    return upgrade("last")
+    return upgrade("copies-last.db")
 
 
 def upgrade_fourth():
     """With the copies before the queue, the replies and the notices."""
-    return upgrade("fourth")
+    return upgrade("copies-fourth.db")
+
+
+def upgrade_second():
+    """Of version 2."""
+    return upgrade("version-2.db")
 
 
 def commit(log, look, after):
@@ -746,14 +780,15 @@ def planted():
 
 
 def planted_in_drain():
-    """A message's file, or the folder that it has come to, isn't synced."""
-    log, look, judge = moving()
-    whole, name = log.calls, next(call for call in log.calls if call.kind == "name" and "/new/" in call.target[0])
-    for target in name.target[1], "Maildir/new":
-        at = next(at for at, call in enumerate(whole) if call.kind == "sync" and call.target == target)
-        log.calls = whole[:at] + whole[at + 1:]
-        assert is_found(log, look, judge), f"a sync of {target} is left out, and not found"
-    return "of drain, found where a message or its folder isn't synced"
+    """A message's file, the folder that it has come to, or the one in which that was made isn't synced."""
+    for part, moved, folders in ("new", moving(), ["Maildir/new"]), ("cur", moving(SEEN, ("tmp", "new")), ["Maildir/cur", "Maildir"]):
+        log, look, judge = moved
+        whole, name = log.calls, next(call for call in log.calls if call.kind == "name" and f"/{part}/" in call.target[0])
+        for target in name.target[1], *folders:
+            at = next(at for at, call in enumerate(whole) if call.kind == "sync" and call.target == target)
+            log.calls = whole[:at] + whole[at + 1:]
+            assert is_found(log, look, judge), f"a sync of {target} is left out, and not found"
+    return "of drain, found where a message, its folder or the one in which that was made isn't synced"
 
 
 def planted_commit():
@@ -774,7 +809,7 @@ def is_found(log, look, judge):
     return False
 
 
-TRIALS = {trial.__name__: trial for trial in (init, adduser, deliver, done, imported, exported, drain, session, upgrade_last, upgrade_fourth, again, unsynced, planted)}
+TRIALS = {trial.__name__: trial for trial in (init, adduser, deliver, done, imported, exported, drain, drain_seen, drain_made, session, upgrade_last, upgrade_fourth, upgrade_second, again, unsynced, planted)}
 
 
 if __name__ == "__main__":

@@ -9,9 +9,9 @@ Prints a line for each trial, a last one that counts them, and ends with 1 where
 roundcube-core, roundcube-plugins, roundcube-sqlite3, php-cli, sqlite3, dovecot-imapd, chromium and chromium-driver, else its trials are left
 out. The lines of docs/OPERATING.md for Roundcube's plugin are those that it takes. All files are in a folder that goes with the trial.
 """
-import calendar, json, os, re, shutil, subprocess, tempfile, time, urllib.request
+import calendar, json, os, re, shutil, sqlite3, subprocess, tempfile, time, urllib.request
 import managesieve, scripts, trials
-from contextlib import contextmanager, suppress
+from contextlib import closing, contextmanager, suppress
 from postfix import free_port, wait_for
 from proxy import block, listens
 
@@ -70,13 +70,16 @@ THINGS = [
 PARTS = [("all", "alice+food@example.org"), ("domain", "example.org"), ("localpart", "alice+food"), ("user", "alice"), ("detail", "food")]
 # The comparator, and whether X-Count, `042 Eggs`, is `042 EGGS`, `042 eggs` and `42` by it (RFC 4790, 9.1 to 9.3; RFC 5228, 2.7.3).
 COMPARATORS = [("", "042 EGGS", True), ("i;octet", "042 EGGS", False), ("i;ascii-casemap", "042 eggs", True), ("i;ascii-numeric", "42", True)]
-# The action, how it is filled in, and what a delivery does then (RFC 5228, 4; RFC 3894; RFC 5230).
+# The action, how it is filled in, and what a delivery does then (RFC 5228, 4; RFC 3894; RFC 5230; RFC 5232).
 ACTIONS = [
     ("fileinto", {"_action_mailbox[0]": "hit"}, ["file hit"]), ("fileinto_copy", {"_action_mailbox[0]": "hit"}, ["file hit", "file INBOX"]),
     ("redirect", {"_action_target[0]": "far@example.com"}, ["send far@example.com"]),
     ("redirect_copy", {"_action_target[0]": "far@example.com"}, ["file INBOX", "send far@example.com"]),
     ("vacation", {"_action_reason[0]": "Away"}, ["file INBOX", "vacation sent"]), ("discard", {}, ["discard"]), ("keep", {}, ["file INBOX"]), ("stop", {}, ["file INBOX"]),
+    *((action, {"_action_flags[0][]": "\\Seen"}, ["file INBOX"]) for action in ("setflag", "addflag", "removeflag")),
 ]
+# The actions after which a copy has that flag (RFC 5232, 3).
+FLAGGING = ["setflag", "addflag"]
 DATED = (b"From: bob@example.net\nTo: alice+food@example.org\nCc: alice@example.org\nSubject: Lunch\nX-Kind: meal\nX-Count: 042 Eggs\n"
          b"Date: Sat, 29 Aug 2026 10:00:00 +0200\n\nHi\n")
 MESSAGE = b"From: bob@example.net\nTo: alice@example.org\nSubject: Lunch\n\nHi\n"
@@ -289,8 +292,8 @@ def offers():
         log_in(browser)
         browser.open("?_task=settings&_action=plugin.managesieve-action&_framed=1")
         counts = {name: len(offered(browser, name)) for name in ("_action_type[0]", "_rule_op[0]", "_header[0]", "_rule_mod_type[0]", "_rule_comp[0]")}
-        assert list(counts.values()) == [8, 20, 7, 5, 4], counts
-    return "8 actions, 20 comparisons, 7 things to compare, 5 parts of an address, 4 comparators"
+        assert list(counts.values()) == [11, 20, 7, 5, 4], counts
+    return "11 actions, 20 comparisons, 7 things to compare, 5 parts of an address, 4 comparators"
 
 
 def empty_script(host):
@@ -300,8 +303,12 @@ def empty_script(host):
 
 def fill_in(browser, name, value):
     """Chooses a value or types it, in the field of the form; what is behind 'Advanced options' is shown first."""
-    if browser.run("const field = document.querySelector(`[name='${arguments[0]}']`); return field.tagName", name) == "SELECT":
+    kind = browser.run("const field = document.querySelector(`[name='${arguments[0]}']`); return field.type", name)
+    if kind.startswith("select"):
         browser.choose(f"select[name='{name}']", value)
+    elif kind == "checkbox":
+        value = value.replace("\\", "\\\\")
+        browser.click(f"[name='{name}'][value='{value}']")
     else:
         browser.type(f"[name='{name}']:not(textarea[style*='none'])", value)
 
@@ -315,6 +322,12 @@ def make_filter(browser, fields):
             browser.click("#ruleadv0")
         fill_in(browser, name, value)
     browser.click("button.submit")
+
+
+def flags_of_last(host):
+    """The flags of the copy that came last."""
+    with closing(sqlite3.connect(f"file:{host.file}?mode=ro", uri=True)) as base:
+        return base.execute("SELECT flags FROM copy ORDER BY n DESC LIMIT 1").fetchone()[0]
 
 
 def one_of_each():
@@ -340,6 +353,9 @@ def one_of_each():
             wait_for(lambda: "[one]" in script(), f"a script of {fields}", 20)
             told = deliver(host, moment, DATED)
             assert told == said, (fields, told, script())
+            if "file INBOX" in told:
+                wanted = b"\\Seen" if fields.get("_action_type[0]") in FLAGGING else b""
+                assert flags_of_last(host) == wanted, (fields, script())
             empty_script(host)
     return f"{len(filters)} filters were clicked, and a delivery does what each says"
 

@@ -17,7 +17,7 @@ use Rattle.mailtables.specs.declared.queue.Kind.TheVariants as kind
 use Rattle.mailstore.specs.declared.notice.Notice.{Notice as KeptNotice}
 use Rattle.mailstore.specs.declared.queue.Outgoing.{Outgoing}
 use Rattle.mailstore.specs.Account.{bytes_cmp, reply_cmp, Account, Folders, Replies, Scripts, filed, latest}
-use Rattle.mailstore.specs.CopyRows.{Copy as KeptCopy, folders_from, message_of}
+use Rattle.mailstore.specs.CopyRows.{Copy as KeptCopy, filed_from, folders_from, flags_from, message_of}
 use Rattle.mailstore.specs.MessageRows.{Message, message_row}
 use Rattle.mailstore.specs.ScriptRows.{AreApart}
 use Rattle.mailstore.specs.Whole.{scripts_with, replies_with, kind_of, letters_in, notices_in, octets_after, copies_in_part, copies_of, whole}
@@ -34,14 +34,14 @@ fold_kept : {A X : Type 0} (f : A → Part → A) (g : X → Part) → ((s : A) 
 fold_kept f g same s [] = refl
 fold_kept f g same s (x ∷ xs) = ap (λ t. fold f t (map g xs)) (same s x) ∙ fold_kept f g same s xs
 
-fold_copies : {A : Type 0} (f : A → Part → A) → ((s : A) (n : ℕ) (folder message : List ℕ) → f s (Mail n folder message) ≡ s) → ((s : A) (n : ℕ) (folder : List ℕ) (first : ℕ) → f s (Copy n folder first) ≡ s)
+fold_copies : {A : Type 0} (f : A → Part → A) → ((s : A) (n : ℕ) (folder message flags : List ℕ) → f s (Mail n folder message flags) ≡ s) → ((s : A) (n : ℕ) (folder : List ℕ) (first : ℕ) (flags : List ℕ) → f s (Copy n folder first flags) ≡ s)
     → (run : Option Run) (cs : List KeptCopy) (s : A) → fold f s (copy_parts run cs) ≡ s
 fold_copies f mail copy run [] s = refl
 fold_copies {A} f mail copy run (c ∷ cs) s = ap (λ t. fold f t (copy_parts (Some (run_with run c.n c.id)) cs)) (go (goes_on run c.id)) ∙ fold_copies f mail copy (Some (run_with run c.n c.id)) cs s
   where
-    go : (b : Bool) → f s (cond b (Copy c.n c.folder (first_in run c.n c.id)) (Mail c.n c.folder c.message)) ≡ s
-    go true = copy s c.n c.folder (first_in run c.n c.id)
-    go false = mail s c.n c.folder c.message
+    go : (b : Bool) → f s (cond b (Copy c.n c.folder (first_in run c.n c.id) c.flags) (Mail c.n c.folder c.message c.flags)) ≡ s
+    go true = copy s c.n c.folder (first_in run c.n c.id) c.flags
+    go false = mail s c.n c.folder c.message c.flags
 
 none_in : {X Y : Type 0} (f : Part → List Y) (g : X → Part) → ((x : X) → f (g x) ≡ []) → (xs : List X) → flat_map f (map g xs) ≡ []
 none_in f g none [] = refl
@@ -51,14 +51,14 @@ one_in : {X : Type 0} (f : Part → List X) (g : X → Part) → ((x : X) → f 
 one_in f g one [] = refl
 one_in f g one (x ∷ xs) = ap₂ ◌++◌ (one x) (one_in f g one xs)
 
-none_in_copies : {Y : Type 0} (f : Part → List Y) → ((n : ℕ) (folder message : List ℕ) → f (Mail n folder message) ≡ []) → ((n : ℕ) (folder : List ℕ) (first : ℕ) → f (Copy n folder first) ≡ [])
+none_in_copies : {Y : Type 0} (f : Part → List Y) → ((n : ℕ) (folder message flags : List ℕ) → f (Mail n folder message flags) ≡ []) → ((n : ℕ) (folder : List ℕ) (first : ℕ) (flags : List ℕ) → f (Copy n folder first flags) ≡ [])
     → (run : Option Run) (cs : List KeptCopy) → flat_map f (copy_parts run cs) ≡ []
 none_in_copies f mail copy run [] = refl
 none_in_copies f mail copy run (c ∷ cs) = ap₂ ◌++◌ (go (goes_on run c.id)) (none_in_copies f mail copy (Some (run_with run c.n c.id)) cs)
   where
-    go : (b : Bool) → f (cond b (Copy c.n c.folder (first_in run c.n c.id)) (Mail c.n c.folder c.message)) ≡ []
-    go true = copy c.n c.folder (first_in run c.n c.id)
-    go false = mail c.n c.folder c.message
+    go : (b : Bool) → f (cond b (Copy c.n c.folder (first_in run c.n c.id) c.flags) (Mail c.n c.folder c.message c.flags)) ≡ []
+    go true = copy c.n c.folder (first_in run c.n c.id) c.flags
+    go false = mail c.n c.folder c.message c.flags
 
 -- ---- moments
 
@@ -80,15 +80,18 @@ all_free (e ∷ es) = (get-empty reply_cmp e.0, all_free es)
 
 -- ---- folders
 
--- where a copy is, and its octets
-abbrev said : KeptCopy → List ℕ × List ℕ
-said c = (c.folder, c.message)
+-- where a copy is, its octets, and its flags
+abbrev Said : Type 0
+Said = List ℕ × List ℕ × List ℕ
 
-abbrev filed_pair : Folders → List ℕ × List ℕ → Folders
-filed_pair folders e = filed folders e.0 e.1
+abbrev said : KeptCopy → Said
+said c = (c.folder, c.message, c.flags)
 
-folders_same : (xs ys : List KeptCopy) → map said xs ≡ map said ys → folders_from xs ≡ folders_from ys
-folders_same xs ys same = sym (fold-map filed_pair said empty xs) ∙ ap (fold filed_pair empty) same ∙ fold-map filed_pair said empty ys
+abbrev filed_by : (Said → List ℕ) → Folders → Said → Folders
+filed_by what folders e = filed folders e.0 (what e)
+
+filed_same : (what : Said → List ℕ) (xs ys : List KeptCopy) → map said xs ≡ map said ys → filed_from (λ c. what (said c)) xs ≡ filed_from (λ c. what (said c)) ys
+filed_same what xs ys same = sym (fold-map (filed_by what) said empty xs) ∙ ap (fold (filed_by what) empty) same ∙ fold-map (filed_by what) said empty ys
 
 -- copies of one message have the same octets
 abbrev pub AreAlike : List KeptCopy → Type 0
@@ -118,10 +121,10 @@ copies_again run last (c ∷ cs) same all = go (goes_on run c.id) refl (λ l mor
         all_weaker (λ d. c.id ≡ d.id → c.message ≡ d.message) (λ d. goes_on (Some (run_with run c.n c.id)) d.id ≡ true → d.message ≡ l) (λ d told on. sym (told (sym (eqb-true d.id c.id on))) ∙ is) cs same.0
 
     go : (b : Bool) → goes_on run c.id ≡ b → ((l : List ℕ) → AllByRecursion (λ d. goes_on (Some (run_with run c.n c.id)) d.id ≡ true → d.message ≡ l) cs → map said (copies_of l (copy_parts (Some (run_with run c.n c.id)) cs)) ≡ map said cs)
-        → map said (copies_of last (cond b (Copy c.n c.folder (first_in run c.n c.id)) (Mail c.n c.folder c.message) ∷ copy_parts (Some (run_with run c.n c.id)) cs)) ≡ said c ∷ map said cs
+        → map said (copies_of last (cond b (Copy c.n c.folder (first_in run c.n c.id) c.flags) (Mail c.n c.folder c.message c.flags) ∷ copy_parts (Some (run_with run c.n c.id)) cs)) ≡ said c ∷ map said cs
     go true on more =
         let here : c.message ≡ last = all.0 on in
-        ap₂ ◌∷◌ (ap (λ m. (c.folder, m)) (sym here)) (more last (alike_to last here))
+        ap₂ ◌∷◌ (ap (λ m. (c.folder, m, c.flags)) (sym here)) (more last (alike_to last here))
     go false off more = ap (λ l. said c ∷ l) (more c.message (alike_to c.message refl))
 
 -- parts that are no copies
@@ -158,7 +161,7 @@ module _ (a : Account) (copies : List KeptCopy) (notices : List (ℕ × KeptNoti
       ∙ fold-append scripts_with a.scripts (map reply_part (entries a.replies)) mail
       ∙ ap (λ s. fold scripts_with s mail) (fold_kept scripts_with reply_part (λ s x. refl) a.scripts (entries a.replies))
       ∙ fold-append scripts_with a.scripts (copy_parts None copies) out
-      ∙ ap (λ s. fold scripts_with s out) (fold_copies scripts_with (λ s n folder message. refl) (λ s n folder first. refl) None copies a.scripts)
+      ∙ ap (λ s. fold scripts_with s out) (fold_copies scripts_with (λ s n folder message flags. refl) (λ s n folder first flags. refl) None copies a.scripts)
       ∙ fold-append scripts_with a.scripts (map letter_part a.queue) (map notice_part notices)
       ∙ ap (λ s. fold scripts_with s (map notice_part notices)) (fold_kept scripts_with letter_part (λ s x. refl) a.scripts a.queue)
       ∙ fold_kept scripts_with notice_part (λ s x. refl) a.scripts notices
@@ -171,7 +174,7 @@ module _ (a : Account) (copies : List KeptCopy) (notices : List (ℕ × KeptNoti
       ∙ fold-append replies_with m (map reply_part (entries a.replies)) mail
       ∙ ap (λ s. fold replies_with s mail) (replies_put (entries a.replies) m (entries_apart reply_cmp reply_total reply_antisymmetric a.replies) (all_free (entries a.replies)) ∙ put_entries reply_cmp reply_total reply_antisymmetric a.replies)
       ∙ fold-append replies_with a.replies (copy_parts None copies) out
-      ∙ ap (λ s. fold replies_with s out) (fold_copies replies_with (λ s n folder message. refl) (λ s n folder first. refl) None copies a.replies)
+      ∙ ap (λ s. fold replies_with s out) (fold_copies replies_with (λ s n folder message flags. refl) (λ s n folder first flags. refl) None copies a.replies)
       ∙ fold-append replies_with a.replies (map letter_part a.queue) (map notice_part notices)
       ∙ ap (λ s. fold replies_with s (map notice_part notices)) (fold_kept replies_with letter_part (λ s x. refl) a.replies a.queue)
       ∙ fold_kept replies_with notice_part (λ s x. refl) a.replies notices
@@ -186,7 +189,7 @@ module _ (a : Account) (copies : List KeptCopy) (notices : List (ℕ × KeptNoti
       flat_map-append letters_in (map script_part (entries a.scripts)) moments
       ∙ ap₂ ◌++◌ (none_in letters_in script_part (λ x. refl) (entries a.scripts)) (flat_map-append letters_in (map reply_part (entries a.replies)) mail
       ∙ ap₂ ◌++◌ (none_in letters_in reply_part (λ x. refl) (entries a.replies)) (flat_map-append letters_in (copy_parts None copies) out
-      ∙ ap₂ ◌++◌ (none_in_copies letters_in (λ n folder message. refl) (λ n folder first. refl) None copies) (flat_map-append letters_in (map letter_part a.queue) (map notice_part notices)
+      ∙ ap₂ ◌++◌ (none_in_copies letters_in (λ n folder message flags. refl) (λ n folder first flags. refl) None copies) (flat_map-append letters_in (map letter_part a.queue) (map notice_part notices)
       ∙ ap₂ ◌++◌ (one_in letters_in letter_part letter_again a.queue) (none_in letters_in notice_part (λ x. refl) notices) ∙ append-nil a.queue)))
 
   notices_again : flat_map notices_in (parts_of a copies notices) ≡ notices
@@ -194,7 +197,7 @@ module _ (a : Account) (copies : List KeptCopy) (notices : List (ℕ × KeptNoti
       flat_map-append notices_in (map script_part (entries a.scripts)) moments
       ∙ ap₂ ◌++◌ (none_in notices_in script_part (λ x. refl) (entries a.scripts)) (flat_map-append notices_in (map reply_part (entries a.replies)) mail
       ∙ ap₂ ◌++◌ (none_in notices_in reply_part (λ x. refl) (entries a.replies)) (flat_map-append notices_in (copy_parts None copies) out
-      ∙ ap₂ ◌++◌ (none_in_copies notices_in (λ n folder message. refl) (λ n folder first. refl) None copies) (flat_map-append notices_in (map letter_part a.queue) (map notice_part notices)
+      ∙ ap₂ ◌++◌ (none_in_copies notices_in (λ n folder message flags. refl) (λ n folder first flags. refl) None copies) (flat_map-append notices_in (map letter_part a.queue) (map notice_part notices)
       ∙ ap₂ ◌++◌ (none_in notices_in letter_part (λ x. refl) a.queue) (one_in notices_in notice_part (λ x. refl) notices))))
 
   -- ---- the folders
@@ -204,11 +207,11 @@ module _ (a : Account) (copies : List KeptCopy) (notices : List (ℕ × KeptNoti
       passed letter_part (λ l x. refl) (λ l x. refl) last a.queue (map notice_part notices) ∙ ap (copies_of last) (sym (append-nil (map notice_part notices)))
       ∙ passed notice_part (λ l x. refl) (λ l x. refl) last notices []
 
-  folders_again : AreAlike copies → folders_from (copies_of [] (parts_of a copies notices)) ≡ folders_from copies
-  folders_again same =
+  filed_again : (what : Said → List ℕ) → AreAlike copies → filed_from (λ c. what (said c)) (copies_of [] (parts_of a copies notices)) ≡ filed_from (λ c. what (said c)) copies
+  filed_again what same =
       let only : copies_of [] (parts_of a copies notices) ≡ copies_of [] (copy_parts None copies) =
       passed script_part (λ l x. refl) (λ l x. refl) [] (entries a.scripts) moments ∙ passed reply_part (λ l x. refl) (λ l x. refl) [] (entries a.replies) mail ∙ front_copies out no_copies [] (copy_parts None copies) in
-      ap folders_from only ∙ folders_same (copies_of [] (copy_parts None copies)) copies (copies_again None [] copies same (never copies))
+      ap (filed_from (λ c. what (said c))) only ∙ filed_same what (copies_of [] (copy_parts None copies)) copies (copies_again None [] copies same (never copies))
     where
       never : (cs : List KeptCopy) → AllByRecursion (λ d. goes_on None d.id ≡ true → d.message ≡ []) cs
       never [] = tt
@@ -216,12 +219,13 @@ module _ (a : Account) (copies : List KeptCopy) (notices : List (ℕ × KeptNoti
 
   -- ---- all of it
 
-  pub account_again : (user : List ℕ) (next_copy next_notice : ℕ) → AreAlike copies → a.folders ≡ folders_from copies → a.notices ≡ map (λ e. e.1) notices → whole (head_of user a next_copy next_notice) (parts_of a copies notices) empty ≡ a
-  account_again user next_copy next_notice same folders kept =
+  pub account_again : (user : List ℕ) (next_copy next_notice : ℕ) → AreAlike copies → a.folders ≡ folders_from copies → a.flags ≡ flags_from copies → a.notices ≡ map (λ e. e.1) notices → whole (head_of user a next_copy next_notice) (parts_of a copies notices) empty ≡ a
+  account_again user next_copy next_notice same folders flags kept =
       let scripts = scripts_again in
       let replies = replies_again in
       let queue = queue_again in
-      let again = folders_again same ∙ sym folders in
+      let again = filed_again (λ e. e.1) same ∙ sym folders in
+      let flagged = filed_again (λ e. e.2) same ∙ sym flags in
       let notes = ap (map (λ (e : ℕ × KeptNotice). e.1)) notices_again ∙ sym kept in
       λ i. record {
         address = a.address;
@@ -229,6 +233,7 @@ module _ (a : Account) (copies : List KeptCopy) (notices : List (ℕ × KeptNoti
         scripts = scripts i;
         active = a.active;
         folders = again i;
+        flags = flagged i;
         queue = queue i;
         replies = replies i;
         notices = notes i;

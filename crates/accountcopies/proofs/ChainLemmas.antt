@@ -46,14 +46,14 @@ replies_rise x y less = ap is_lt less
 copy_rank : (run : Option Run) (c : KeptCopy) → rank_of (copy_part run c) ≡ 2
 copy_rank run c = go (goes_on run c.id)
   where
-    go : (b : Bool) → rank_of (cond b (Copy c.n c.folder (first_in run c.n c.id)) (Mail c.n c.folder c.message)) ≡ 2
+    go : (b : Bool) → rank_of (cond b (Copy c.n c.folder (first_in run c.n c.id) c.flags) (Mail c.n c.folder c.message c.flags)) ≡ 2
     go true = refl
     go false = refl
 
 copy_number : (run : Option Run) (c : KeptCopy) → number_of (copy_part run c) ≡ c.n
 copy_number run c = go (goes_on run c.id)
   where
-    go : (b : Bool) → number_of (cond b (Copy c.n c.folder (first_in run c.n c.id)) (Mail c.n c.folder c.message)) ≡ c.n
+    go : (b : Bool) → number_of (cond b (Copy c.n c.folder (first_in run c.n c.id) c.flags) (Mail c.n c.folder c.message c.flags)) ≡ c.n
     go true = refl
     go false = refl
 
@@ -107,14 +107,14 @@ joined_copies rest more run last knows [] = more last
 joined_copies rest more run last knows (c ∷ cs) = go (goes_on run c.id) refl (λ p known. joined_copies rest more (Some (run_with run c.n c.id)) (Some p) known cs)
   where
     go : (b : Bool) → goes_on run c.id ≡ b → ((p : Part) → IsRunOf (Some (run_with run c.n c.id)) (Some p) → Joined (Some p) (copy_parts (Some (run_with run c.n c.id)) cs ++ rest))
-        → Joined last (cond b (Copy c.n c.folder (first_in run c.n c.id)) (Mail c.n c.folder c.message) ∷ (copy_parts (Some (run_with run c.n c.id)) cs ++ rest))
+        → Joined last (cond b (Copy c.n c.folder (first_in run c.n c.id) c.flags) (Mail c.n c.folder c.message c.flags) ∷ (copy_parts (Some (run_with run c.n c.id)) cs ++ rest))
     go true on later =
         let r = run_with run c.n c.id in
-        let p = Copy c.n c.folder r.first in
+        let p = Copy c.n c.folder r.first c.flags in
         (knows c.n c.id on, later p (run_on r (Some p) (eq-eqb r.first r.first refl)))
     go false off later =
         let r = run_with run c.n c.id in
-        let p = Mail c.n c.folder c.message in
+        let p = Mail c.n c.folder c.message c.flags in
         (refl, later p (run_on r (Some p) (eq-eqb c.n r.first (sym (first_new run c.n c.id off)))))
 
 -- ---- all of it

@@ -114,24 +114,24 @@ module _ (user : List ℕ) (own : Tables) (a : Account) (s : IsShown user own a)
     named = λ name. refl;
   }
 
-  tells_mail : (c : KeptCopy) → Has s.copies.entries c → Tells (place.Mail (filing_of c)) (part.Mail c.n c.folder c.message)
+  tells_mail : (c : KeptCopy) → Has s.copies.entries c → Tells (place.Mail (filing_of c)) (part.Mail c.n c.folder c.message c.flags)
   tells_mail c there = record {
     told = λ q says.
         let row = ap (λ l. slice_get (map (λ r. column r bytes_column) l) 0) (own_message user own a s c there) in
         let both : Some (Blob c.message) ≡ Some (Blob says.0) = sym row ∙ says.1 in
         let octets : says.0 ≡ c.message = cc in
-        says.2 ∙ ap (part.Mail c.n c.folder) octets;
+        says.2 ∙ ap (λ o. part.Mail c.n c.folder o c.flags) octets;
     named = λ name. refl;
   }
 
-  tells_copy : (c : KeptCopy) (first : ℕ) → Tells (place.Copy (filing_of c) first) (part.Copy c.n c.folder first)
+  tells_copy : (c : KeptCopy) (first : ℕ) → Tells (place.Copy (filing_of c) first) (part.Copy c.n c.folder first c.flags)
   tells_copy c first = record { told = λ q says. says; named = λ name. refl }
 
   tells_copies : (run : Option Run) (cs : List KeptCopy) → ((c : KeptCopy) → Has cs c → Has s.copies.entries c) → AreTold (copy_places run (map filing_of cs)) (copy_parts run cs)
   tells_copies run [] each = tt
   tells_copies run (c ∷ cs) each = (go (goes_on run c.id), tells_copies (Some (run_with run c.n c.id)) cs (λ d there. each d (inr there)))
     where
-      go : (b : Bool) → Tells (cond b (place.Copy (filing_of c) (first_in run c.n c.id)) (place.Mail (filing_of c))) (cond b (part.Copy c.n c.folder (first_in run c.n c.id)) (part.Mail c.n c.folder c.message))
+      go : (b : Bool) → Tells (cond b (place.Copy (filing_of c) (first_in run c.n c.id)) (place.Mail (filing_of c))) (cond b (part.Copy c.n c.folder (first_in run c.n c.id) c.flags) (part.Mail c.n c.folder c.message c.flags))
       go true = tells_copy c (first_in run c.n c.id)
       go false = tells_mail c (each c (inl refl))
 

@@ -33,7 +33,7 @@ module _ (contents : Contents) (parts : List Part) (a : Account) (own : Tables) 
   makes_again : whole contents.head parts empty ≡ a
   makes_again =
       ap (λ h. whole h parts empty) listed.head ∙ ap (λ ps. whole (head_of contents.head.owner.name a s.next_copy s.next_notice) ps empty) all
-      ∙ account_again a s.copies.entries s.notices.entries contents.head.owner.name s.next_copy s.next_notice (alike s.copies.messages s.copies.stored.rise s.copies.entries s.copies.kept.present) s.copies.shown s.notices.shown
+      ∙ account_again a s.copies.entries s.notices.entries contents.head.owner.name s.next_copy s.next_notice (alike s.copies.messages s.copies.stored.rise s.copies.entries s.copies.kept.present) s.copies.shown s.copies.shown_flags s.notices.shown
 
   in_order : are_chained None parts ≡ true
   in_order = ap (are_chained None) all ∙ parts_chained a s.copies.entries s.notices.entries s.copies.numbered.rise s.queue.rise s.notices.numbered.rise

@@ -61,9 +61,9 @@ script_part e = Script e.0 e.1
 abbrev pub reply_part : (List ℕ × List ℕ) × ℕ → Part
 reply_part e = Reply e.0.0 e.0.1 e.1
 
--- a copy behind one of the same message says no more than where it is
+-- a copy behind one of the same message says no more than where it is, and its own flags
 abbrev pub copy_part : Option Run → KeptCopy → Part
-copy_part run c = if goes_on run c.id then Copy c.n c.folder (first_in run c.n c.id) else Mail c.n c.folder c.message
+copy_part run c = if goes_on run c.id then Copy c.n c.folder (first_in run c.n c.id) c.flags else Mail c.n c.folder c.message c.flags
 
 abbrev pub copy_parts : Option Run → List KeptCopy → List Part
 copy_parts run [] = []

@@ -20,8 +20,8 @@ use Rattle.accountcopies.specs.Places.{OfShown}
 abbrev pub Says : (user : List ℕ) (a : Account) (p : Part) → Place → (own : Tables) → IsShown user own a → Type 0
 Says user a p (place.Script name) own s = Some p ≡ option_map (part.Script name) (get a.scripts name)
 Says user a p (place.Reply key) own s = Some p ≡ option_map (part.Reply key.handle key.sender) (get a.replies (key.handle, key.sender))
-Says user a p (place.Mail copy) own s = (octets : List ℕ) × HasOctets user copy.id octets own × (p ≡ part.Mail copy.n copy.folder octets)
-Says user a p (place.Copy copy first) own s = p ≡ part.Copy copy.n copy.folder first
+Says user a p (place.Mail copy) own s = (octets : List ℕ) × HasOctets user copy.id octets own × (p ≡ part.Mail copy.n copy.folder octets copy.flags)
+Says user a p (place.Copy copy first) own s = p ≡ part.Copy copy.n copy.folder first copy.flags
 Says user a p (place.Letter id) own s = Some p ≡ option_map letter_part (row_with id a.queue)
 Says user a p (place.Notice n) own s = Some p ≡ option_map (λ e. part.Notice n e.moment e.text) (notice_with n s.notices.entries)
 

@@ -152,19 +152,20 @@ fn reply(alloc: Global, key: &ReplyKey, moment: Option<u64>) -> Result<Part, Ref
 }
 
 fn mail(alloc: Global, copy: &Filing, message: Octets) -> Result<Part, Refusal>
-    ensures made { IfOk result (λ part. part ≡ Part.Mail copy.now.n copy.now.folder message) }
+    ensures made { IfOk result (λ part. part ≡ Part.Mail copy.now.n copy.now.folder message copy.now.flags) }
     ensures named { IfErr result IsTransient }
 {
     Ok(Part::Mail {
         number: copy.n,
         folder: copy.folder.try_clone(alloc)?,
         message,
+        flags: copy.flags.try_clone(alloc)?,
     })
 }
 
 /// A copy behind another one; without another one it is refused.
 fn copy_behind(alloc: Global, copy: &Filing, first: u64, is_shared: bool) -> Result<Part, Refusal>
-    ensures made { IfOk result (λ part. part ≡ Part.Copy copy.now.n copy.now.folder first) }
+    ensures made { IfOk result (λ part. part ≡ Part.Copy copy.now.n copy.now.folder first copy.now.flags) }
     ensures named { IfErr result IsTransient }
 {
     if !is_shared {
@@ -174,6 +175,7 @@ fn copy_behind(alloc: Global, copy: &Filing, first: u64, is_shared: bool) -> Res
         number: copy.n,
         folder: copy.folder.try_clone(alloc)?,
         first,
+        flags: copy.flags.try_clone(alloc)?,
     })
 }
 

@@ -3,7 +3,7 @@ use Rattle.std.proofs.Common.{◌≡◌, ℕ, ◌^◌, ◌<◌, ◌⊎◌, inl, 
 use Rattle.std.specs.Prelude.{nat_lt, option_and_then, option_to_list, ⊤}
 use Rattle.std.proofs.lemmas.Bool.{and_parts, lt-ltb, ltb-true}
 use Rattle.accountfiles.specs.Netstring.{same_text, number_in}
-use Rattle.accountfiles.specs.Fields.{version_fields, owner_fields, numbers_fields, part_fields, sum_fields, letter_word, owner_at, owner_with, owner_by, rounds_in, counters_at, numbers_at, numbers_by, script_at, reply_at, mail_at, copy_at, notice_at, four_at, kind_at, letter_at, part_at, sum_at, is_version}
+use Rattle.accountfiles.specs.Fields.{version_fields, owner_fields, numbers_fields, part_fields, flags_fields, sum_fields, letter_word, owner_at, owner_with, owner_by, rounds_in, counters_at, numbers_at, numbers_by, script_at, reply_at, mail_at, copy_at, notice_at, four_at, where_flags, five_at, kind_at, letter_at, part_at, sum_at, is_version}
 use Rattle.accountfiles.specs.Reading.{HasNumbers, AreSmall, entry_fields, IsEntry, entry_by, entry_at}
 use Rattle.accountfiles.specs.declared.head.Owner.{Owner}
 use Rattle.accountfiles.specs.declared.head.Numbers.{Numbers}
@@ -163,21 +163,22 @@ reply_written handle sender moment p is =
     let number = number_written moment found.0 found.1 in
     subst (ReadsPart (codes "reply" ∷ handle ∷ sender ∷ moment ∷ [])) found.2 (ap (λ m. codes "reply" ∷ handle ∷ sender ∷ m ∷ []) number.0, number.1)
 
-mail_written : (number folder message : List ℕ) (p : Part) → mail_at number folder message ≡ Some p → ReadsPart (codes "mail" ∷ number ∷ folder ∷ message ∷ []) p
+mail_written : (number folder message flags : List ℕ) (more : List (List ℕ)) (p : Part) → more ≡ flags_fields flags → mail_at number folder message flags ≡ Some p → ReadsPart (codes "mail" ∷ number ∷ folder ∷ message ∷ more) p
 unfolding mail_at
-mail_written number folder message p is =
-    let found = mapped (λ n. Mail n folder message) (number_in number) p is in
+mail_written number folder message flags more p written is =
+    let found = mapped (λ n. Mail n folder message flags) (number_in number) p is in
     let read = number_written number found.0 found.1 in
-    subst (ReadsPart (codes "mail" ∷ number ∷ folder ∷ message ∷ [])) found.2 (ap (λ m. codes "mail" ∷ m ∷ folder ∷ message ∷ []) read.0, read.1)
+    subst (ReadsPart (codes "mail" ∷ number ∷ folder ∷ message ∷ more)) found.2 (ap (λ m. codes "mail" ∷ m ∷ folder ∷ message ∷ more) read.0 ∙ ap (λ fs. codes "mail" ∷ decimal found.0 ∷ folder ∷ message ∷ fs) written, read.1)
 
-copy_written : (number folder first : List ℕ) (p : Part) → copy_at number folder first ≡ Some p → ReadsPart (codes "copy" ∷ number ∷ folder ∷ first ∷ []) p
+copy_written : (number folder first flags : List ℕ) (more : List (List ℕ)) (p : Part) → more ≡ flags_fields flags → copy_at number folder first flags ≡ Some p → ReadsPart (codes "copy" ∷ number ∷ folder ∷ first ∷ more) p
 unfolding copy_at
-copy_written number folder first p is =
-    let one = then_some (λ n. option_map (λ m. Copy n folder m) (number_in first)) (number_in number) p is in
-    let two = mapped (λ m. Copy one.0 folder m) (number_in first) p one.2 in
+copy_written number folder first flags more p written is =
+    let one = then_some (λ n. option_map (λ m. Copy n folder m flags) (number_in first)) (number_in number) p is in
+    let two = mapped (λ m. Copy one.0 folder m flags) (number_in first) p one.2 in
     let read = number_written number one.0 one.1 in
     let other = number_written first two.0 two.1 in
-    subst (ReadsPart (codes "copy" ∷ number ∷ folder ∷ first ∷ [])) two.2 (ap (λ m. codes "copy" ∷ m ∷ folder ∷ first ∷ []) read.0 ∙ ap (λ m. codes "copy" ∷ decimal one.0 ∷ folder ∷ m ∷ []) other.0, (read.1, other.1))
+    subst (ReadsPart (codes "copy" ∷ number ∷ folder ∷ first ∷ more)) two.2
+    (ap (λ m. codes "copy" ∷ m ∷ folder ∷ first ∷ more) read.0 ∙ (ap (λ m. codes "copy" ∷ decimal one.0 ∷ folder ∷ m ∷ more) other.0 ∙ ap (λ fs. codes "copy" ∷ decimal one.0 ∷ folder ∷ decimal two.0 ∷ fs) written), (read.1, other.1))
 
 notice_written : (number moment text : List ℕ) (p : Part) → notice_at number moment text ≡ Some p → ReadsPart (codes "notice" ∷ number ∷ moment ∷ text ∷ []) p
 unfolding notice_at
@@ -207,10 +208,10 @@ letter_written word id sender target message p is =
 four_written : (word a b c : List ℕ) (p : Part) → four_at word a b c ≡ Some p → ReadsPart (word ∷ a ∷ b ∷ c ∷ []) p
 unfolding four_at
 four_written word a b c p is =
-    elim (either (same_text word (codes "mail")) (mail_at a b c) _ p is) [
-      | inl one ↦ named (codes "mail") one.0 (mail_written a b c p one.1)
-      | inr more ↦ elim (either (same_text word (codes "copy")) (copy_at a b c) _ p more.1) [
-        | inl one ↦ named (codes "copy") one.0 (copy_written a b c p one.1)
+    elim (either (same_text word (codes "mail")) (mail_at a b c []) _ p is) [
+      | inl one ↦ named (codes "mail") one.0 (mail_written a b c [] [] p refl one.1)
+      | inr more ↦ elim (either (same_text word (codes "copy")) (copy_at a b c []) _ p more.1) [
+        | inl one ↦ named (codes "copy") one.0 (copy_written a b c [] [] p refl one.1)
         | inr more ↦ elim (either (same_text word (codes "reply")) (reply_at a b c) _ p more.1) [
           | inl one ↦ named (codes "reply") one.0 (reply_written a b c p one.1)
           | inr more ↦ let last = passed (same_text word (codes "notice")) (notice_at a b c) p more.1 in named (codes "notice") last.0 (notice_written a b c p last.1)
@@ -221,6 +222,25 @@ four_written word a b c p is =
     named : (w : List ℕ) → same_text word w ≡ true → ReadsPart (w ∷ a ∷ b ∷ c ∷ []) p → ReadsPart (word ∷ a ∷ b ∷ c ∷ []) p
     named w same read = (ap (λ v. v ∷ a ∷ b ∷ c ∷ []) (same_is word w same) ∙ read.0, read.1)
 
+-- a field of flags that is there isn't empty
+flags_there : (flags : List ℕ) (o : Option Part) (p : Part) → where_flags flags o ≡ Some p → (flags ∷ [] ≡ flags_fields flags) × (o ≡ Some p)
+flags_there [] o p is = none_some p is
+flags_there (octet ∷ flags) o p is = (refl, is)
+
+five_written : (word a b c d : List ℕ) (p : Part) → five_at word a b c d ≡ Some p → ReadsPart (word ∷ a ∷ b ∷ c ∷ d ∷ []) p
+unfolding five_at
+five_written word a b c d p is =
+    elim (either (same_text word (codes "mail")) (where_flags d (mail_at a b c d)) _ p is) [
+      | inl one ↦ let there = flags_there d (mail_at a b c d) p one.1 in named (codes "mail") one.0 (mail_written a b c d (d ∷ []) p there.0 there.1)
+      | inr more ↦ elim (either (same_text word (codes "copy")) (where_flags d (copy_at a b c d)) _ p more.1) [
+        | inl one ↦ let there = flags_there d (copy_at a b c d) p one.1 in named (codes "copy") one.0 (copy_written a b c d (d ∷ []) p there.0 there.1)
+        | inr more ↦ letter_written word a b c d p more.1
+      ]
+    ]
+  where
+    named : (w : List ℕ) → same_text word w ≡ true → ReadsPart (w ∷ a ∷ b ∷ c ∷ d ∷ []) p → ReadsPart (word ∷ a ∷ b ∷ c ∷ d ∷ []) p
+    named w same read = (ap (λ v. v ∷ a ∷ b ∷ c ∷ d ∷ []) (same_is word w same) ∙ read.0, read.1)
+
 part_written : (fields : List (List ℕ)) (p : Part) → part_at fields ≡ Some p → ReadsPart fields p
 unfolding part_at
 part_written [] p is = none_some p is
@@ -228,15 +248,17 @@ part_written (word ∷ []) p is = none_some p is
 part_written (word ∷ a ∷ []) p is = none_some p is
 part_written (word ∷ a ∷ b ∷ []) p is = script_written word a b p is
 part_written (word ∷ a ∷ b ∷ c ∷ []) p is = four_written word a b c p is
-part_written (word ∷ a ∷ b ∷ c ∷ d ∷ []) p is = letter_written word a b c d p is
+part_written (word ∷ a ∷ b ∷ c ∷ d ∷ []) p is = five_written word a b c d p is
 part_written (word ∷ a ∷ b ∷ c ∷ d ∷ e ∷ more) p is = none_some p is
 
 part_again : (p : Part) → HasNumbers p → part_at (part_fields p) ≡ Some p
-unfolding part_at script_at four_at reply_at mail_at copy_at notice_at letter_at kind_at
+unfolding part_at script_at four_at five_at reply_at mail_at copy_at notice_at letter_at kind_at
 part_again (Script name text) fits = refl
 part_again (Reply handle sender moment) fits = rw (number_again moment fits) refl
-part_again (Mail number folder message) fits = rw (number_again number fits) refl
-part_again (Copy number folder first) fits = rw (number_again number fits.0, number_again first fits.1) refl
+part_again (Mail number folder message []) fits = rw (number_again number fits) refl
+part_again (Mail number folder message (octet ∷ flags)) fits = rw (number_again number fits) refl
+part_again (Copy number folder first []) fits = rw (number_again number fits.0, number_again first fits.1) refl
+part_again (Copy number folder first (octet ∷ flags)) fits = rw (number_again number fits.0, number_again first fits.1) refl
 part_again (Letter id Redirect sender target message) fits = rw (number_again id fits) refl
 part_again (Letter id Answer sender target message) fits = rw (number_again id fits) refl
 part_again (Notice number moment text) fits = rw (number_again number fits.0, number_again moment fits.1) refl
@@ -257,8 +279,8 @@ no_sum : (p : Part) → sum_at (part_fields p) ≡ None
 unfolding sum_at
 no_sum (Script name text) = refl
 no_sum (Reply handle sender moment) = refl
-no_sum (Mail number folder message) = refl
-no_sum (Copy number folder first) = refl
+no_sum (Mail number folder message flags) = refl
+no_sum (Copy number folder first flags) = refl
 no_sum (Letter id kind sender target message) = refl
 no_sum (Notice number moment text) = refl
 

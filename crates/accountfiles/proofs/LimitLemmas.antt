@@ -25,10 +25,10 @@ word_small Answer = lit≤ tt
 pub fields_small : (n : Numbers) → n.next_copy < 2 ^ 64 → n.next_out < 2 ^ 64 → n.next_notice < 2 ^ 64 → (p : Part) → fits n p ≡ true → AreFields (texts_of p) → AreFields (part_fields p)
 fields_small n copy out notice (Script name text) is small = (lit≤ tt, small)
 fields_small n copy out notice (Reply handle sender moment) is small = (lit≤ tt, (small.0, (small.1.0, (moment_small moment is, tt))))
-fields_small n copy out notice (Mail number folder message) is small = (lit≤ tt, (given_small n.next_copy number copy is, small))
-fields_small n copy out notice (Copy number folder first) is small =
+fields_small n copy out notice (Mail number folder message flags) is small = (lit≤ tt, (given_small n.next_copy number copy is, small))
+fields_small n copy out notice (Copy number folder first flags) is small =
     let parts = and_parts _ _ is in
-    (lit≤ tt, (given_small n.next_copy number copy parts.0, (small.0, (given_small n.next_copy first copy parts.1, tt))))
+    (lit≤ tt, (given_small n.next_copy number copy parts.0, (small.0, (given_small n.next_copy first copy parts.1, small.1))))
 fields_small n copy out notice (Letter id kind sender target message) is small = (word_small kind, (given_small n.next_out id out is, small))
 fields_small n copy out notice (Notice number moment text) is small =
     let parts = and_parts _ _ is in
@@ -37,7 +37,7 @@ fields_small n copy out notice (Notice number moment text) is small =
 pub texts_small : (p : Part) → AreFields (part_fields p) → AreFields (texts_of p)
 texts_small (Script name text) small = small.1
 texts_small (Reply handle sender moment) small = (small.1.0, (small.1.1.0, tt))
-texts_small (Mail number folder message) small = small.1.1
-texts_small (Copy number folder first) small = (small.1.1.0, tt)
+texts_small (Mail number folder message flags) small = small.1.1
+texts_small (Copy number folder first flags) small = (small.1.1.0, small.1.1.1.1)
 texts_small (Letter id kind sender target message) small = small.1.1
 texts_small (Notice number moment text) small = small.1.1.1

@@ -146,8 +146,8 @@ given_below next n small is = let less : n < next = ltb-true n next (and_parts (
 pub part_numbers : (n : Numbers) → AreSmall n → (p : Part) → fits n p ≡ true → HasNumbers p
 part_numbers n small (Script name text) is = tt
 part_numbers n small (Reply handle sender moment) is = ltb-true moment (2 ^ 63) is
-part_numbers n small (Mail number folder message) is = given_below n.next_copy number small.copy is
-part_numbers n small (Copy number folder first) is =
+part_numbers n small (Mail number folder message flags) is = given_below n.next_copy number small.copy is
+part_numbers n small (Copy number folder first flags) is =
     let parts = and_parts _ _ is in
     (given_below n.next_copy number small.copy parts.0, given_below n.next_copy first small.copy parts.1)
 part_numbers n small (Letter id kind sender target message) is = given_below n.next_out id small.out is

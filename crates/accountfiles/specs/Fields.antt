@@ -25,11 +25,16 @@ abbrev pub letter_word : LetterKind → List ℕ
 letter_word Redirect = codes "redirect"
 letter_word Answer = codes "answer"
 
+-- where there are none, no field is written
+abbrev pub flags_fields : List ℕ → List (List ℕ)
+flags_fields [] = []
+flags_fields (octet ∷ flags) = (octet ∷ flags) ∷ []
+
 abbrev pub part_fields : Part → List (List ℕ)
 part_fields (Script name text) = codes "script" ∷ name ∷ text ∷ []
 part_fields (Reply handle sender moment) = codes "reply" ∷ handle ∷ sender ∷ decimal moment ∷ []
-part_fields (Mail number folder message) = codes "mail" ∷ decimal number ∷ folder ∷ message ∷ []
-part_fields (Copy number folder first) = codes "copy" ∷ decimal number ∷ folder ∷ decimal first ∷ []
+part_fields (Mail number folder message flags) = codes "mail" ∷ decimal number ∷ folder ∷ message ∷ flags_fields flags
+part_fields (Copy number folder first flags) = codes "copy" ∷ decimal number ∷ folder ∷ decimal first ∷ flags_fields flags
 part_fields (Letter id kind sender target message) = letter_word kind ∷ decimal id ∷ sender ∷ target ∷ message ∷ []
 part_fields (Notice number moment text) = codes "notice" ∷ decimal number ∷ decimal moment ∷ text ∷ []
 
@@ -80,19 +85,19 @@ script_at word name text = cond (same_text word (codes "script")) (Some (Script 
 unfoldable pub reply_at : List ℕ → List ℕ → List ℕ → Option Part
 reply_at handle sender moment = option_map (λ n. Reply handle sender n) (number_in moment)
 
-unfoldable pub mail_at : List ℕ → List ℕ → List ℕ → Option Part
-mail_at number folder message = option_map (λ n. Mail n folder message) (number_in number)
+unfoldable pub mail_at : List ℕ → List ℕ → List ℕ → List ℕ → Option Part
+mail_at number folder message flags = option_map (λ n. Mail n folder message flags) (number_in number)
 
-unfoldable pub copy_at : List ℕ → List ℕ → List ℕ → Option Part
-copy_at number folder first = option_and_then (λ n. option_map (λ m. Copy n folder m) (number_in first)) (number_in number)
+unfoldable pub copy_at : List ℕ → List ℕ → List ℕ → List ℕ → Option Part
+copy_at number folder first flags = option_and_then (λ n. option_map (λ m. Copy n folder m flags) (number_in first)) (number_in number)
 
 unfoldable pub notice_at : List ℕ → List ℕ → List ℕ → Option Part
 notice_at number moment text = option_and_then (λ n. option_map (λ m. Notice n m text) (number_in moment)) (number_in number)
 
 unfoldable pub four_at : List ℕ → List ℕ → List ℕ → List ℕ → Option Part
 four_at word a b c =
-    cond (same_text word (codes "mail")) (mail_at a b c)
-    (cond (same_text word (codes "copy")) (copy_at a b c)
+    cond (same_text word (codes "mail")) (mail_at a b c [])
+    (cond (same_text word (codes "copy")) (copy_at a b c [])
     (cond (same_text word (codes "reply")) (reply_at a b c)
     (cond (same_text word (codes "notice")) (notice_at a b c) None)))
 
@@ -102,6 +107,16 @@ kind_at word = cond (same_text word (codes "redirect")) (Some Redirect) (cond (s
 unfoldable pub letter_at : List ℕ → List ℕ → List ℕ → List ℕ → List ℕ → Option Part
 letter_at word id sender target message = option_and_then (λ kind. option_map (λ n. Letter n kind sender target message) (number_in id)) (kind_at word)
 
+-- a field of flags that is there isn't empty
+abbrev pub where_flags : List ℕ → Option Part → Option Part
+where_flags [] part = None
+where_flags (octet ∷ flags) part = part
+
+unfoldable pub five_at : List ℕ → List ℕ → List ℕ → List ℕ → List ℕ → Option Part
+five_at word a b c d =
+    cond (same_text word (codes "mail")) (where_flags d (mail_at a b c d))
+    (cond (same_text word (codes "copy")) (where_flags d (copy_at a b c d)) (letter_at word a b c d))
+
 -- the part that the fields say, if they say one
 unfoldable pub part_at : List (List ℕ) → Option Part
 part_at [] = None
@@ -109,7 +124,7 @@ part_at (word ∷ []) = None
 part_at (word ∷ a ∷ []) = None
 part_at (word ∷ a ∷ b ∷ []) = script_at word a b
 part_at (word ∷ a ∷ b ∷ c ∷ []) = four_at word a b c
-part_at (word ∷ a ∷ b ∷ c ∷ d ∷ []) = letter_at word a b c d
+part_at (word ∷ a ∷ b ∷ c ∷ d ∷ []) = five_at word a b c d
 part_at (word ∷ a ∷ b ∷ c ∷ d ∷ e ∷ more) = None
 
 -- the sum that the fields say, if they say one

@@ -1,7 +1,7 @@
 -- Which parts an account with these numbers may have.
 use Rattle.std.specs.Prelude.{◌≡◌, true, ℕ, List, [], ◌∷◌}
 use Rattle.accountfiles.specs.Netstring.{AreFields}
-use Rattle.accountfiles.specs.Fields.{part_fields}
+use Rattle.accountfiles.specs.Fields.{part_fields, flags_fields}
 use Rattle.accountfiles.specs.Order.{fits}
 use Rattle.accountfiles.specs.declared.head.Numbers.{Numbers}
 use Rattle.accountfiles.specs.declared.part.Part.{Part}
@@ -11,8 +11,8 @@ use Rattle.accountfiles.specs.declared.part.Part.TheVariants.{Script, Reply, Mai
 abbrev pub texts_of : Part → List (List ℕ)
 texts_of (Script name text) = name ∷ text ∷ []
 texts_of (Reply handle sender moment) = handle ∷ sender ∷ []
-texts_of (Mail number folder message) = folder ∷ message ∷ []
-texts_of (Copy number folder first) = folder ∷ []
+texts_of (Mail number folder message flags) = folder ∷ message ∷ flags_fields flags
+texts_of (Copy number folder first flags) = folder ∷ flags_fields flags
 texts_of (Letter id kind sender target message) = sender ∷ target ∷ message ∷ []
 texts_of (Notice number moment text) = text ∷ []
 

@@ -13,16 +13,16 @@ use Rattle.accountfiles.specs.declared.part.Part.TheVariants.{Script, Reply, Mai
 abbrev pub rank_of : Part → ℕ
 rank_of (Script name text) = 0
 rank_of (Reply handle sender moment) = 1
-rank_of (Mail number folder message) = 2
-rank_of (Copy number folder first) = 2
+rank_of (Mail number folder message flags) = 2
+rank_of (Copy number folder first flags) = 2
 rank_of (Letter id kind sender target message) = 3
 rank_of (Notice number moment text) = 4
 
 abbrev pub number_of : Part → ℕ
 number_of (Script name text) = 0
 number_of (Reply handle sender moment) = 0
-number_of (Mail number folder message) = number
-number_of (Copy number folder first) = number
+number_of (Mail number folder message flags) = number
+number_of (Copy number folder first flags) = number
 number_of (Letter id kind sender target message) = id
 number_of (Notice number moment text) = number
 
@@ -41,13 +41,13 @@ part_cmp = then_cmp (on rank_of nat_cmp) (then_cmp (on number_of nat_cmp) (then_
 
 -- the copy that the part before it is of the same message
 abbrev pub has_come : ℕ → Option Part → Bool
-has_come first (Some (Mail number folder message)) = number == first
-has_come first (Some (Copy number folder other)) = other == first
+has_come first (Some (Mail number folder message flags)) = number == first
+has_come first (Some (Copy number folder other flags)) = other == first
 has_come first part = false
 
 -- a copy stands behind its message or another copy of it
 abbrev pub joins : Option Part → Part → Bool
-joins last (Copy number folder first) = has_come first last
+joins last (Copy number folder first flags) = has_come first last
 joins last part = true
 
 abbrev pub comes_after : Option Part → Part → Bool
@@ -70,8 +70,8 @@ is_given next number = nat_le 1 number && nat_lt number next
 abbrev pub fits : Numbers → Part → Bool
 fits n (Script name text) = true
 fits n (Reply handle sender moment) = nat_lt moment (2 ^ 63)
-fits n (Mail number folder message) = is_given n.next_copy number
-fits n (Copy number folder first) = is_given n.next_copy number && is_given n.next_copy first
+fits n (Mail number folder message flags) = is_given n.next_copy number
+fits n (Copy number folder first flags) = is_given n.next_copy number && is_given n.next_copy first
 fits n (Letter id kind sender target message) = is_given n.next_out id
 fits n (Notice number moment text) = is_given n.next_notice number && nat_lt moment (2 ^ 63)
 

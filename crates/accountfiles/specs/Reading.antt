@@ -18,8 +18,8 @@ use Rattle.accountfiles.specs.declared.part.Part.TheVariants.{Script, Reply, Mai
 abbrev pub HasNumbers : Part → Type 0
 HasNumbers (Script name text) = Unit {0}
 HasNumbers (Reply handle sender moment) = moment < 2 ^ 63
-HasNumbers (Mail number folder message) = number < 2 ^ 63
-HasNumbers (Copy number folder first) = (number < 2 ^ 63) × (first < 2 ^ 63)
+HasNumbers (Mail number folder message flags) = number < 2 ^ 63
+HasNumbers (Copy number folder first flags) = (number < 2 ^ 63) × (first < 2 ^ 63)
 HasNumbers (Letter id kind sender target message) = id < 2 ^ 63
 HasNumbers (Notice number moment text) = (number < 2 ^ 63) × (moment < 2 ^ 63)
 

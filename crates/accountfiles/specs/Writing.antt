@@ -10,4 +10,4 @@ HasWritten writer text = Holds256 writer.hasher text
 
 -- the octets of a line
 abbrev pub text_in : Line → List ℕ
-text_in line = line.front ++ (line.last.now ++ line.back.now)
+text_in line = line.front ++ (line.last.now ++ line.back)

@@ -1,6 +1,6 @@
 //! The parts of an account by the fields of a line.
 ghost use Rattle.std.specs.Prelude.{◌≡◌, ◌&&◌, IfOk, codes, option_map};
-ghost use Rattle.accountfiles.specs.Fields.{is_version, owner_at, owner_with as owner_by_word, rounds_in, counters_at, numbers_at, sum_at, part_at, script_at, reply_at, mail_at, copy_at, notice_at, four_at, kind_at, letter_at};
+ghost use Rattle.accountfiles.specs.Fields.{is_version, owner_at, owner_with as owner_by_word, rounds_in, counters_at, numbers_at, sum_at, part_at, script_at, reply_at, mail_at, copy_at, notice_at, four_at, where_flags, five_at, kind_at, letter_at};
 ghost use Rattle.accountfiles.specs.Netstring.{same_text, texts};
 
 use crate::head::{Numbers, Owner};
@@ -140,7 +140,7 @@ pub(crate) fn part_of(alloc: Global, fields: &[&[u8]]) -> Found
     match fields {
         [word, name, text] => script(alloc, word, name, text),
         [word, a, b, c] => four(alloc, word, a, b, c),
-        [word, id, sender, target, message] => letter(alloc, word, id, sender, target, message),
+        [word, a, b, c, d] => five(alloc, word, a, b, c, d),
         _ => Ok(None),
     }
 }
@@ -164,9 +164,9 @@ fn four(alloc: Global, word: &[u8], a: &[u8], b: &[u8], c: &[u8]) -> Found
     ensures { IfOk result (λ part. part ≡ four_at word.now a.now b.now c.now) }
 {
     if word == b"mail".as_slice() {
-        mail(alloc, a, b, c)
+        mail(alloc, a, b, c, &[])
     } else if word == b"copy".as_slice() {
-        copy(alloc, a, b, c)
+        copy(alloc, a, b, c, &[])
     } else if word == b"reply".as_slice() {
         reply(alloc, a, b, c)
     } else if word == b"notice".as_slice() {
@@ -174,6 +174,38 @@ fn four(alloc: Global, word: &[u8], a: &[u8], b: &[u8], c: &[u8]) -> Found
     } else {
         Ok(None)
     }
+}
+
+/// A part of five fields: one of which the last field has flags, or a message on its way out.
+#[tactic(auto, unfolding(crate::specs::Fields::five_at))]
+fn five(alloc: Global, word: &[u8], a: &[u8], b: &[u8], c: &[u8], d: &[u8]) -> Found
+    ensures { IfOk result (λ part. part ≡ five_at word.now a.now b.now c.now d.now) }
+{
+    if word == b"mail".as_slice() {
+        flagged_mail(alloc, a, b, c, d)
+    } else if word == b"copy".as_slice() {
+        flagged_copy(alloc, a, b, c, d)
+    } else {
+        letter(alloc, word, a, b, c, d)
+    }
+}
+
+fn flagged_mail(alloc: Global, number: &[u8], folder: &[u8], message: &[u8], flags: &[u8]) -> Found
+    ensures { IfOk result (λ part. part ≡ where_flags flags.now (mail_at number.now folder.now message.now flags.now)) }
+{
+    if flags.is_empty() {
+        return Ok(None);
+    }
+    mail(alloc, number, folder, message, flags)
+}
+
+fn flagged_copy(alloc: Global, number: &[u8], folder: &[u8], first: &[u8], flags: &[u8]) -> Found
+    ensures { IfOk result (λ part. part ≡ where_flags flags.now (copy_at number.now folder.now first.now flags.now)) }
+{
+    if flags.is_empty() {
+        return Ok(None);
+    }
+    copy(alloc, number, folder, first, flags)
 }
 
 #[tactic(auto, unfolding(crate::specs::Fields::reply_at))]
@@ -191,8 +223,8 @@ fn reply(alloc: Global, handle: &[u8], sender: &[u8], moment: &[u8]) -> Found
 }
 
 #[tactic(auto, unfolding(crate::specs::Fields::mail_at))]
-fn mail(alloc: Global, number: &[u8], folder: &[u8], message: &[u8]) -> Found
-    ensures { IfOk result (λ part. part ≡ mail_at number.now folder.now message.now) }
+fn mail(alloc: Global, number: &[u8], folder: &[u8], message: &[u8], flags: &[u8]) -> Found
+    ensures { IfOk result (λ part. part ≡ mail_at number.now folder.now message.now flags.now) }
 {
     let Some(number) = number_of(number) else {
         return Ok(None);
@@ -201,12 +233,13 @@ fn mail(alloc: Global, number: &[u8], folder: &[u8], message: &[u8]) -> Found
         number,
         folder: Octets::from_slice(alloc, folder)?,
         message: Octets::from_slice(alloc, message)?,
+        flags: Octets::from_slice(alloc, flags)?,
     }))
 }
 
 #[tactic(auto, unfolding(crate::specs::Fields::copy_at))]
-fn copy(alloc: Global, number: &[u8], folder: &[u8], first: &[u8]) -> Found
-    ensures { IfOk result (λ part. part ≡ copy_at number.now folder.now first.now) }
+fn copy(alloc: Global, number: &[u8], folder: &[u8], first: &[u8], flags: &[u8]) -> Found
+    ensures { IfOk result (λ part. part ≡ copy_at number.now folder.now first.now flags.now) }
 {
     let Some(number) = number_of(number) else {
         return Ok(None);
@@ -218,6 +251,7 @@ fn copy(alloc: Global, number: &[u8], folder: &[u8], first: &[u8]) -> Found
         number,
         folder: Octets::from_slice(alloc, folder)?,
         first,
+        flags: Octets::from_slice(alloc, flags)?,
     }))
 }
 

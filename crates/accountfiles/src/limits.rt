@@ -1,6 +1,6 @@
 //! What a text can have: numbers that were given, and fields that are no longer than a message may be.
 ghost use Rattle.std.specs.Prelude.{◌≡◌, ◌<◌, ◌^◌, ◌↔◌, true, IsTrue, option_copied, option_to_list};
-ghost use Rattle.accountfiles.specs.Fields.{owner_fields};
+ghost use Rattle.accountfiles.specs.Fields.{owner_fields, flags_fields};
 ghost use Rattle.accountfiles.specs.Limits.{MayHave, texts_of};
 ghost use Rattle.accountfiles.specs.Netstring.{AreFields, IsField};
 ghost use Rattle.accountfiles.specs.Order.{are_numbers as are_numbers_in};
@@ -60,6 +60,13 @@ fn is_name(name: Option<&Octets>) -> bool
     }
 }
 
+/// Whether the flags, if there are some, are a field.
+fn are_flags(flags: &Octets) -> bool
+    ensures { IsTrue result ↔ AreFields (flags_fields flags.now) }
+{
+    is_field(flags)
+}
+
 /// Whether no text of the part is too long. A number never is.
 fn has_texts(part: &Part) -> bool
     ensures { IsTrue result ↔ AreFields (texts_of part.now) }
@@ -70,9 +77,10 @@ fn has_texts(part: &Part) -> bool
         Part::Mail {
             folder,
             message,
+            flags,
             ..
-        } => is_field(folder) && is_field(message),
-        Part::Copy { folder, .. } => is_field(folder),
+        } => is_field(folder) && is_field(message) && are_flags(flags),
+        Part::Copy { folder, flags, .. } => is_field(folder) && are_flags(flags),
         Part::Letter {
             sender,
             target,

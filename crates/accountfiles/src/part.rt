@@ -25,17 +25,19 @@ pub enum Part {
         sender: Octets,
         moment: u64,
     },
-    /// A message in a folder, with the number of its copy there.
+    /// A message in a folder, with the number of its copy there, and the text that names the copy's flags (empty: it has none).
     Mail {
         number: u64,
         folder: Octets,
         message: Octets,
+        flags: Octets,
     },
-    /// Another copy of the message before it, which came as `Mail` with the number `first`.
+    /// Another copy of the message before it, which came as `Mail` with the number `first`, and the text that names its own flags.
     Copy {
         number: u64,
         folder: Octets,
         first: u64,
+        flags: Octets,
     },
     /// A message on its way out.
     Letter {

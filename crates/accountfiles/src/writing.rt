@@ -4,7 +4,7 @@ ghost use Rattle.std.specs.List.{flat_map};
 ghost use Rattle.sha2.specs.Sha256.{sha256};
 ghost use Rattle.hex.specs.Hex.{encode_lower};
 ghost use Rattle.accountfiles.specs.Netstring.{netstring, line};
-ghost use Rattle.accountfiles.specs.Fields.{version_fields, owner_fields, numbers_fields, part_fields, letter_word, sum_fields};
+ghost use Rattle.accountfiles.specs.Fields.{version_fields, owner_fields, numbers_fields, part_fields, flags_fields, letter_word, sum_fields};
 ghost use Rattle.accountfiles.specs.Text.{head_text, part_line, sum_line};
 ghost use Rattle.accountfiles.specs.Writing.{HasWritten, text_in};
 
@@ -27,7 +27,7 @@ pub struct Writer {
 pub struct Line<'a> {
     pub front: Octets,
     pub last: &'a [u8],
-    pub back: &'static [u8],
+    pub back: Octets,
 }
 
 impl Writer {
@@ -52,7 +52,7 @@ impl Writer {
         let line = line_of(alloc, part)?;
         self.hasher.update(line.front.as_slice());
         self.hasher.update(line.last);
-        self.hasher.update(line.back);
+        self.hasher.update(line.back.as_slice());
         Ok(line)
     }
 
@@ -113,30 +113,51 @@ fn push_numbers(out: &mut Octets, numbers: Numbers) -> Result<(), AllocError>
     out.push(b'\n')
 }
 
-/// A line that ends with this text behind other fields.
-#[tactic(auto, unfolding(crate::specs::Netstring::netstring))]
-fn ended(mut front: Octets, last: &[u8]) -> Result<Line<'_>, AllocError>
-    ensures { IfOk result (λ line. text_in line ≡ front ++ (netstring last.now ++ 10 ∷ [])) }
+/// The flags, if there are some.
+fn push_flags(out: &mut Octets, flags: &[u8]) -> Result<(), AllocError>
+    ensures { OnOk result (out.new ≡ out.old ++ flat_map netstring (flags_fields flags.now)) }
 {
-    push_length(&mut front, last.len())?;
-    Ok(Line {
-        front,
-        last,
-        back: b",\n",
-    })
+    if flags.is_empty() {
+        return Ok(());
+    }
+    push_netstring(out, flags)
 }
 
-/// A line that ends with this number behind other fields.
+/// A line that ends with this text behind other fields, and with the flags, if there are some.
 #[tactic(auto, unfolding(crate::specs::Netstring::netstring))]
-fn counted<'a>(mut front: Octets, last: u64) -> Result<Line<'a>, AllocError>
-    ensures { IfOk result (λ line. text_in line ≡ front ++ (netstring (decimal last) ++ 10 ∷ [])) }
+fn ended<'a>(
+    alloc: Global,
+    mut front: Octets,
+    last: &'a [u8],
+    flags: &[u8],
+) -> Result<Line<'a>, AllocError>
+    ensures { IfOk result (λ line. text_in line ≡ front ++ (netstring last.now ++ (flat_map netstring (flags_fields flags.now) ++ 10 ∷ []))) }
+{
+    push_length(&mut front, last.len())?;
+    let mut back = Octets::new(alloc);
+    back.push(b',')?;
+    push_flags(&mut back, flags)?;
+    back.push(b'\n')?;
+    Ok(Line { front, last, back })
+}
+
+/// A line that ends with this number behind other fields, and with the flags, if there are some.
+#[tactic(auto, unfolding(crate::specs::Netstring::netstring))]
+fn counted<'a>(
+    alloc: Global,
+    mut front: Octets,
+    last: u64,
+    flags: &[u8],
+) -> Result<Line<'a>, AllocError>
+    ensures { IfOk result (λ line. text_in line ≡ front ++ (netstring (decimal last) ++ (flat_map netstring (flags_fields flags.now) ++ 10 ∷ []))) }
 {
     push_number(&mut front, last)?;
+    push_flags(&mut front, flags)?;
     front.push(b'\n')?;
     Ok(Line {
         front,
         last: b"",
-        back: b"",
+        back: Octets::new(alloc),
     })
 }
 
@@ -159,7 +180,7 @@ fn line_of(alloc: Global, part: &Part) -> Result<Line<'_>, AllocError>
         Part::Script { name, text } => {
             push_netstring(&mut front, b"script")?;
             push_netstring(&mut front, name.as_slice())?;
-            ended(front, text.as_slice())
+            ended(alloc, front, text.as_slice(), b"")
         }
         Part::Reply {
             handle,
@@ -169,27 +190,29 @@ fn line_of(alloc: Global, part: &Part) -> Result<Line<'_>, AllocError>
             push_netstring(&mut front, b"reply")?;
             push_netstring(&mut front, handle.as_slice())?;
             push_netstring(&mut front, sender.as_slice())?;
-            counted(front, *moment)
+            counted(alloc, front, *moment, b"")
         }
         Part::Mail {
             number,
             folder,
             message,
+            flags,
         } => {
             push_netstring(&mut front, b"mail")?;
             push_number(&mut front, *number)?;
             push_netstring(&mut front, folder.as_slice())?;
-            ended(front, message.as_slice())
+            ended(alloc, front, message.as_slice(), flags.as_slice())
         }
         Part::Copy {
             number,
             folder,
             first,
+            flags,
         } => {
             push_netstring(&mut front, b"copy")?;
             push_number(&mut front, *number)?;
             push_netstring(&mut front, folder.as_slice())?;
-            counted(front, *first)
+            counted(alloc, front, *first, flags.as_slice())
         }
         Part::Letter {
             id,
@@ -202,7 +225,7 @@ fn line_of(alloc: Global, part: &Part) -> Result<Line<'_>, AllocError>
             push_number(&mut front, *id)?;
             push_netstring(&mut front, sender.as_slice())?;
             push_netstring(&mut front, target.as_slice())?;
-            ended(front, message.as_slice())
+            ended(alloc, front, message.as_slice(), b"")
         }
         Part::Notice {
             number,
@@ -212,7 +235,7 @@ fn line_of(alloc: Global, part: &Part) -> Result<Line<'_>, AllocError>
             push_netstring(&mut front, b"notice")?;
             push_number(&mut front, *number)?;
             push_number(&mut front, *moment)?;
-            ended(front, text.as_slice())
+            ended(alloc, front, text.as_slice(), b"")
         }
     }
 }

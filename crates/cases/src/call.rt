@@ -3,8 +3,9 @@ use crate::answer::add_line;
 use casefiles::Part::{Number, Text};
 use casefiles::{add_parts, decode, split_at_first, trim_end};
 use mailengine::Refusal;
+use mailflags::Placement;
 use mailstore::{KeptReply, Outgoing, Plan, Profile, Report, Store, VacationReply, VacationReport};
-use octets::{Octets, Texts};
+use octets::{List, Octets, Texts};
 use sqlite::MemStore;
 use std::alloc::{AllocError, Global};
 
@@ -27,10 +28,25 @@ pub fn commit(
         message: message.as_slice(),
         sender: b"bob@example.net",
         moment: 1_800_000_000,
+        filed: copies(alloc)?,
         report: whole_report(alloc)?,
         reply: Some(reply(alloc)?),
     };
     store.commit_delivery(user, &plan)
+}
+
+/// A copy with two flags, and one without.
+fn copies(alloc: Global) -> Result<List<Placement>, AllocError> {
+    let mut copies = List::new(alloc);
+    copies.push(Placement {
+        mailbox: Octets::from_slice(alloc, b"INBOX")?,
+        flags: Octets::from_slice(alloc, b"\\Seen work")?,
+    })?;
+    copies.push(Placement {
+        mailbox: Octets::from_slice(alloc, b"a")?,
+        flags: Octets::new(alloc),
+    })?;
+    Ok(copies)
 }
 
 /// A report that tells of everything that a delivery can write.

@@ -122,7 +122,7 @@ fn add_messages(out: &mut Octets, messages: &Texts) -> Result<(), AllocError> {
     add_lines(out, messages)
 }
 
-/// Appends the number of the folder's first message and the message, or `none`.
+/// Appends the number of the folder's first message, the message and, where it has some, a line with its flags; or `none`.
 fn add_first(
     store: &mut Store<MemStore>,
     out: &mut Octets,
@@ -135,17 +135,24 @@ fn add_first(
 
 fn add_numbered(out: &mut Octets, first: Option<&NumberedMessage>) -> Result<(), AllocError> {
     match first {
-        Some(first) => add_parts(
-            out,
-            &[
-                Number(first.number),
-                Text(b" "),
-                Text(first.message.as_slice()),
-                Text(b"\n"),
-            ],
-        ),
+        Some(first) => {
+            let message = Text(first.message.as_slice());
+            add_parts(
+                out,
+                &[Number(first.number), Text(b" "), message, Text(b"\n")],
+            )?;
+            add_flags(out, first.flags.as_slice())
+        }
         None => add_line(out, b"", b"none"),
     }
+}
+
+/// Appends a line with a message's flags, where it has some.
+fn add_flags(out: &mut Octets, flags: &[u8]) -> Result<(), AllocError> {
+    if flags.is_empty() {
+        return Ok(());
+    }
+    add_line(out, b"flags ", flags)
 }
 
 /// Appends a line `NAME COUNT` for each folder.

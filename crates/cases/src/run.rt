@@ -148,13 +148,22 @@ impl Answers for MemoryRuns {
     }
 }
 
-/// Appends how many messages there are, and each of them after a `|`.
+/// Appends how many messages there are, and each of them after a `|`, with its flags behind a `#` where it has some.
 fn add_messages(out: &mut Octets, messages: &[KeptMail]) -> Result<(), AllocError> {
     write_decimal(out, messages.len() as u64)?;
     for mail in messages {
         add_parts(out, &[Text(b"|"), Text(mail.message.as_slice())])?;
+        add_flags(out, mail.flags.as_slice())?;
     }
     Ok(())
+}
+
+/// Appends a message's flags, where it has some.
+fn add_flags(out: &mut Octets, flags: &[u8]) -> Result<(), AllocError> {
+    if flags.is_empty() {
+        return Ok(());
+    }
+    add_parts(out, &[Text(b"#"), Text(flags)])
 }
 
 /// Appends what comes of a row that any keeper can have: `run`, `full`, `write N`, `default TEXT`, `timeless` and `said` are runs of the

@@ -106,7 +106,7 @@ fn discard_after(alloc: Global, test: &str) -> Result<Octets, AllocError> {
         &mut script,
         &[
             Text(
-                b"require [\"envelope\", \"subaddress\", \"relational\", \"comparator-i;ascii-numeric\", \"encoded-character\", \"mailbox\", \"date\"]; if ",
+                b"require [\"envelope\", \"subaddress\", \"relational\", \"comparator-i;ascii-numeric\", \"encoded-character\", \"mailbox\", \"date\", \"imap4flags\"]; if ",
             ),
             Text(test.as_slice()),
             Text(b" { discard; }"),

@@ -38,7 +38,7 @@ use Rattle.daemonhosts.specs.declared.held.HeldStore.{HeldStore}
 
 -- tables of ours are tables that `open` takes
 presented : (db : Database) (accounts : Accounts) → Presents db accounts → Offers db accounts
-presented db accounts shown = inl (shown.0, inl shown.1, shown.2)
+presented db accounts shown = inl shown
 
 module _ {S : Type 0} (g : Ghosts S) (tells : Bool) where
   -- a store that was taken shows what its keeper's tables offered, and a crash leaves that alone

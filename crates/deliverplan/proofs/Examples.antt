@@ -3,6 +3,7 @@ use Rattle.std.proofs.Common.{◌≡◌, ℕ, suc, true, false, List, [], ◌∷
 use Rattle.std.specs.Prelude.{replicate}
 use Rattle.mailhead.specs.Fields.{FieldText}
 use Rattle.addrparts.specs.declared.address.Addr.{Addr}
+use Rattle.mailflags.specs.declared.placement.Placement.{Placement}
 use Rattle.sievesyntax.specs.RunState.{TwoVacations, TooManyRedirects, inbox}
 use Rattle.sievesyntax.specs.Meaning.{Failed}
 use Rattle.sievesyntax.specs.declared.tree.vacation.VacArgs.{VacArgs}
@@ -12,7 +13,7 @@ use Rattle.mailstore.specs.Account.{Account, latest, files_copies, notes, rememb
 use Rattle.mailtables.specs.declared.queue.Kind.TheVariants.{Redirect, Reply}
 use Rattle.mailstore.specs.declared.report.VacationReport.TheVariants as V
 use Rattle.deliverplan.specs.Views.{moment_under}
-use Rattle.deliverplan.specs.Delivered.{Acts, Tells, Disposes, disposition_of, invalid_text, is_looping, is_received, kept, loop_text, Silent, Quiet, Sent, Responds, responds, redirects, report_of, notice_report, Delivers}
+use Rattle.deliverplan.specs.Delivered.{Acts, Tells, Disposes, disposition_of, invalid_text, is_looping, is_received, kept, loop_text, Silent, Quiet, Sent, Responds, responds, redirects, report_of, notice_report, Delivers, unflagged}
 use Rattle.deliverplan.proofs.DeliveryLaws.{one_delivery}
 
 abbrev alice : Addr
@@ -50,7 +51,7 @@ kept_without_script : Disposes None (mail_with bob []) (Acts kept)
 kept_without_script = refl
 
 dropped_without_script : Disposes None (mail_with bob []) (Acts (record { filed = []; sent = []; reply = None })) → ⊥
-dropped_without_script same = let is : [] ≡ inbox ∷ [] = ap (λ d. elim d as (λ _. List (List ℕ)) [ Acts deeds ↦ deeds.filed | Tells text ↦ [] ]) same in cc
+dropped_without_script same = let is : [] ≡ unflagged inbox ∷ [] = ap (λ d. elim d as (λ _. List Placement) [ Acts deeds ↦ deeds.filed | Tells text ↦ [] ]) same in cc
 
 told_without_script : Disposes None (mail_with bob []) (Tells invalid_text) → ⊥
 told_without_script same = cc
@@ -106,14 +107,14 @@ quiet_changes_nothing a = refl
 
 -- ---- what is reported
 
-reports : (report_of (record { filed = inbox ∷ []; sent = carol ∷ []; reply = Some away }) (Quiet R.TooSoon)
+reports : (report_of (record { filed = record { mailbox = inbox; flags = codes "\\Seen" } ∷ []; sent = carol ∷ []; reply = Some away }) (Quiet R.TooSoon)
     ≡ record { filed = inbox ∷ []; sent = codes "\"c d\"@example.com" ∷ []; vacation = V.Quiet 9; notice = None })
     × (notice_report (codes "n") ≡ record { filed = inbox ∷ []; sent = []; vacation = V.None; notice = Some (codes "n") })
 reports = (refl, refl)
 
 -- ---- a delivery
 
-delivered : (a : Account) → Delivers alice (mail_with bob []) None a (report_of kept Silent) (files_copies (inbox ∷ []) (65 ∷ []) a)
+delivered : (a : Account) → Delivers alice (mail_with bob []) None a (report_of kept Silent) (files_copies (unflagged inbox ∷ []) (65 ∷ []) a)
 delivered a =
     record {
       disposition = Acts kept;
@@ -121,7 +122,7 @@ delivered a =
       delivers = record { response = Silent; is_response = refl; reported = refl; changed = refl };
     }
 
-looped : (a : Account) → Delivers alice (mail_with bob (replicate 101 (field (codes "Received")))) None a (notice_report loop_text) (notes 5 loop_text (files_copies (inbox ∷ []) (65 ∷ []) a))
+looped : (a : Account) → Delivers alice (mail_with bob (replicate 101 (field (codes "Received")))) None a (notice_report loop_text) (notes 5 loop_text (files_copies (unflagged inbox ∷ []) (65 ∷ []) a))
 looped a = record { disposition = Tells loop_text; disposes = refl; delivers = record { reported = refl; changed = refl } }
 
 -- near miss: the delivery leaves a notice, and doesn't tell of it

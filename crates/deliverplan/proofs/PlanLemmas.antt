@@ -45,10 +45,10 @@ acting view moment mail deeds plan a is of =
       response = is.response;
       is_response = responds_along view.address moment mail (moment_under view.replies) (last_reply a mail.from) deeds.reply is.response of.replies is.is_response;
       reported = is.report;
-      changed = rw (is.report, is.reply, is.sender, is.message) (done mail deeds is.response a);
+      changed = rw (is.filed, is.report, is.reply, is.sender, is.message) (done mail deeds is.response a);
     }
 
 pub telling : (moment : ℕ) (mail : MailSpec) (text : List ℕ) (plan : Plan) (a : Account)
     → IsNoticePlan moment mail text plan → LeavesNotice moment mail text a plan.report (delivers plan a)
 telling moment mail text plan a is =
-    record { reported = is.report; changed = rw (is.report, is.reply, is.message, is.at) refl }
+    record { reported = is.report; changed = rw (is.filed, is.report, is.reply, is.message, is.at) refl }

@@ -4,6 +4,7 @@ use Rattle.std.specs.List.{fold}
 use Rattle.mailhead.specs.Fields.{FieldText}
 use Rattle.addrparts.specs.declared.address.Addr.{Addr}
 use Rattle.addrparts.specs.Spelling.{spelling}
+use Rattle.mailflags.specs.declared.placement.Placement.{Placement}
 use Rattle.sievesyntax.specs.Tree.{Commands}
 use Rattle.sievesyntax.specs.Means.{Means}
 use Rattle.sievesyntax.specs.RunState.{Failure, TwoVacations, TooManyRedirects, inbox}
@@ -57,9 +58,13 @@ abbrev pub disposition_of : Outcome → Disposition
 disposition_of (Done deeds) = Acts deeds
 disposition_of (Failed failure) = Tells (failure_text failure)
 
+-- a mailbox that the message goes into without flags
+abbrev pub unflagged : List ℕ → Placement
+unflagged mailbox = record { mailbox = mailbox; flags = [] }
+
 -- the implicit keep, and nothing else (RFC 5228, 2.10.2)
 abbrev pub kept : Actions
-kept = record { filed = inbox ∷ []; sent = []; reply = None }
+kept = record { filed = unflagged inbox ∷ []; sent = []; reply = None }
 
 -- under the text of a script: what its tree comes to, where it means one
 abbrev pub DisposesBy : List ℕ → MailSpec → Disposition → Type 0
@@ -107,7 +112,7 @@ Responds own moment mail last (Some args) response =
 abbrev pub redirects : MailSpec → List Addr → Account → Account
 redirects mail targets a = fold (λ b target. queues kind.Redirect mail.from (spelling target) mail.octets b) a targets
 
--- the message joins the end of each folder, and then it is queued
+-- a copy of the message joins the end of each folder, with its flags, and then the message is queued
 abbrev pub acts : MailSpec → Actions → Account → Account
 acts mail deeds a = redirects mail deeds.sent (files_copies deeds.filed mail.octets a)
 
@@ -125,7 +130,7 @@ vacation_report (Quiet reason) = V.Quiet (number_of reason)
 vacation_report (Sent key reply kept) = V.Sent
 
 abbrev pub report_of : Actions → Response → Report
-report_of deeds response = record { filed = deeds.filed; sent = map spelling deeds.sent; vacation = vacation_report response; notice = None }
+report_of deeds response = record { filed = map (λ f. f.mailbox) deeds.filed; sent = map spelling deeds.sent; vacation = vacation_report response; notice = None }
 
 abbrev pub notice_report : List ℕ → Report
 notice_report text = record { filed = inbox ∷ []; sent = []; vacation = V.None; notice = Some text }
@@ -142,7 +147,7 @@ pub record CarriesOut (own : Addr) (moment : ℕ) (mail : MailSpec) (deeds : Act
 -- the message joins INBOX, and a notice the others; nothing is sent
 pub record LeavesNotice (moment : ℕ) (mail : MailSpec) (text : List ℕ) (a : Account) (report : Report) (a2 : Account) : Type 0 where
   pub reported : report ≡ notice_report text
-  pub changed : a2 ≡ notes moment text (files_copies (inbox ∷ []) mail.octets a)
+  pub changed : a2 ≡ notes moment text (files_copies (unflagged inbox ∷ []) mail.octets a)
 
 abbrev pub DeliversAs : Addr → ℕ → MailSpec → Disposition → Account → Report → Account → Type 0
 DeliversAs own moment mail (Acts deeds) a report a2 = CarriesOut own moment mail deeds a report a2

@@ -1,6 +1,7 @@
 -- Plans of deliveries, by what they are to do.
-use Rattle.std.specs.Prelude.{◌≡◌, ℕ, List, Option, None, Some}
+use Rattle.std.specs.Prelude.{◌≡◌, ℕ, List, [], ◌∷◌, Option, None, Some}
 use Rattle.addrparts.specs.declared.address.Addr.{Addr}
+use Rattle.sievesyntax.specs.RunState.{inbox}
 use Rattle.sievesyntax.specs.Meaning.{Actions}
 use Rattle.sievesyntax.specs.declared.tree.vacation.VacArgs.{VacArgs}
 use Rattle.sieveexec.specs.Mails.{MailSpec}
@@ -10,7 +11,7 @@ use Rattle.mailstore.specs.declared.report.VacationReply.{VacationReply}
 use Rattle.mailstore.specs.declared.report.Plan.{Plan}
 use Rattle.mailstore.specs.declared.report.VacationReport.{VacationReport}
 use Rattle.deliverplan.specs.declared.vacation.VacationPlan.{VacationPlan}
-use Rattle.deliverplan.specs.Delivered.{Response, Silent, Quiet, Sent, Responds, vacation_report, report_of, notice_report}
+use Rattle.deliverplan.specs.Delivered.{Response, Silent, Quiet, Sent, Responds, vacation_report, report_of, notice_report, unflagged}
 
 -- what is queued and remembered of a response, if one is sent
 abbrev pub reply_of : Response → Option VacationReply
@@ -43,6 +44,7 @@ pub record IsActingPlan (own : Addr) (moment : ℕ) (mail : MailSpec) (last : Li
   pub message : plan.message.now ≡ mail.octets
   pub sender : plan.sender.now ≡ mail.from
   pub at : plan.moment ≡ moment
+  pub filed : plan.filed ≡ deeds.filed
   pub report : plan.report ≡ report_of deeds response
   pub reply : plan.reply ≡ reply_of response
 
@@ -50,5 +52,6 @@ pub record IsActingPlan (own : Addr) (moment : ℕ) (mail : MailSpec) (last : Li
 pub record IsNoticePlan (moment : ℕ) (mail : MailSpec) (text : List ℕ) (plan : Plan) : Type 0 where
   pub message : plan.message.now ≡ mail.octets
   pub at : plan.moment ≡ moment
+  pub filed : plan.filed ≡ unflagged inbox ∷ []
   pub report : plan.report ≡ notice_report text
   pub reply : plan.reply ≡ None

@@ -10,12 +10,13 @@ ghost use Rattle.deliverplan.specs.Views.{IsViewOf, moment_under};
 use crate::looping::is_looping;
 use crate::notice::{INVALID_TEXT, LOOP_TEXT, failure_text};
 use crate::outcome::outcome_on;
-use crate::texts::{inbox, spelled};
+use crate::texts::{inbox, mailboxes, spelled};
 use crate::vacation::{VacationPlan, plan_vacation};
 use crate::view::View;
 use addrparts::Addr;
+use mailflags::Placement;
 use mailstore::{Plan, Report, VacationReport};
-use octets::{Octets, Texts};
+use octets::{List, Octets, Texts};
 use sieveexec::{Mail, Outcome};
 use sievelex::ScriptError;
 use sievesyntax::VacArgs;
@@ -65,13 +66,15 @@ fn leave_notice<'m>(alloc: Global, mail: &'m Mail<'_>, text: &[u8]) -> Result<Pl
     ensures { IfOk result (IsNoticePlan mail.now.moment mail.now text.now) }
 {
     let filed = inbox(alloc)?;
+    let names = mailboxes(alloc, filed.as_slice())?;
     let notice = Octets::from_slice(alloc, text)?;
     Ok(Plan {
         message: mail.message(),
         sender: mail.from(),
         moment: mail.moment(),
+        filed,
         report: Report {
-            filed,
+            filed: names,
             sent: Texts::new(alloc),
             vacation: VacationReport::None,
             notice: Some(notice),
@@ -80,12 +83,12 @@ fn leave_notice<'m>(alloc: Global, mail: &'m Mail<'_>, text: &[u8]) -> Result<Pl
     })
 }
 
-/// The message joins these mailboxes and is sent to these addresses, and the sender is answered.
+/// Copies of the message join these mailboxes, each with its flags, it is sent to these addresses, and the sender is answered.
 fn act<'m>(
     alloc: Global,
     view: &View,
     mail: &'m Mail<'_>,
-    filed: Texts,
+    filed: List<Placement>,
     targets: &[Addr],
     reply: Option<&VacArgs>,
 ) -> Result<Plan<'m>, AllocError>
@@ -93,14 +96,16 @@ fn act<'m>(
     ensures { IfOk result (IsActingPlan view.now.address mail.now.moment mail.now (moment_under view.now.replies)
         (record { filed = filed; sent = targets.now; reply = option_copied reply.entry })) }
 {
+    let names = mailboxes(alloc, filed.as_slice())?;
     let sent = spelled(alloc, targets)?;
     let VacationPlan { vacation, reply } = plan_vacation(alloc, view, mail, mail.moment(), reply)?;
     Ok(Plan {
         message: mail.message(),
         sender: mail.from(),
         moment: mail.moment(),
+        filed,
         report: Report {
-            filed,
+            filed: names,
             sent,
             vacation,
             notice: None,

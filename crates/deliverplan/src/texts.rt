@@ -1,20 +1,36 @@
-//! Lists of texts.
+//! Lists of mailboxes and of addresses.
 ghost use Rattle.std.specs.Prelude.{◌≡◌, [], ◌∷◌, map, IfOk};
 ghost use Rattle.addrparts.specs.Spelling.{spelling};
 ghost use Rattle.sievesyntax.specs.RunState.{inbox as inbox_of};
+ghost use Rattle.deliverplan.specs.Delivered.{unflagged};
 
 use addrparts::{Addr, spell};
-use octets::{Octets, Texts};
+use mailflags::Placement;
+use octets::{List, Octets, Texts};
 use sieveexec::INBOX;
 use std::alloc::{AllocError, Global};
 
-/// INBOX alone.
-pub(crate) fn inbox(alloc: Global) -> Result<Texts, AllocError>
-    ensures { IfOk result (λ filed. filed ≡ inbox_of ∷ []) }
+/// INBOX alone, without flags.
+pub(crate) fn inbox(alloc: Global) -> Result<List<Placement>, AllocError>
+    ensures { IfOk result (λ filed. filed ≡ unflagged inbox_of ∷ []) }
 {
-    let mut filed = Texts::new(alloc);
-    filed.push(Octets::from_slice(alloc, INBOX)?)?;
+    let mut filed = List::new(alloc);
+    filed.push(Placement {
+        mailbox: Octets::from_slice(alloc, INBOX)?,
+        flags: Octets::new(alloc),
+    })?;
     Ok(filed)
+}
+
+/// The names of the mailboxes.
+pub(crate) fn mailboxes(alloc: Global, filed: &[Placement]) -> Result<Texts, AllocError>
+    ensures { IfOk result (λ texts. texts ≡ map (λ f. f.mailbox) filed.now) }
+{
+    let mut texts = Texts::new(alloc);
+    for placement in filed {
+        texts.push(placement.mailbox.try_clone(alloc)?)?;
+    }
+    Ok(texts)
 }
 
 /// Addresses as they are written.

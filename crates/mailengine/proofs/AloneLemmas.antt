@@ -12,7 +12,7 @@ use Rattle.msproto.specs.declared.replies.Status.{Status}
 use Rattle.msproto.specs.Replies.{spelled}
 use Rattle.saslplain.specs.Parts.{login_of}
 use Rattle.sieveexec.specs.declared.envelope.Envelope.{Envelope}
-use Rattle.mailstore.specs.Account.{Account, Accounts, is_closed, open_one, open_of, has_mail, renews, in_place, with_user, messages_in, takes_out, takes_mail}
+use Rattle.mailstore.specs.Account.{Account, Accounts, is_closed, open_of, has_mail, renews, in_place, with_user, messages_in, takes_out, takes_mail}
 use Rattle.mailstore.proofs.StandingLemmas.{open_there}
 use Rattle.sqlite_typed.proofs.TestLemmas.{bytes_eq_refl, same_bytes}
 use Rattle.accountfiles.specs.declared.head.Head.{Head}

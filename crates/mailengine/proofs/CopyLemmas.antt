@@ -9,7 +9,7 @@ use Rattle.accountfiles.proofs.ReadLemmas.{texts_same}
 use Rattle.mailstore.specs.Account.{Account, Accounts}
 use Rattle.mailstore.specs.Whole.{whole, IsCopyOf}
 use Rattle.mailengine.specs.AccountEvents.{ImportsUnder, Importing}
-use Rattle.mailengine.specs.Importable.{may_guard}
+use Rattle.mailengine.specs.Importable.{may_guard, have_short_flags}
 use Rattle.mailengine.specs.Limits.{is_user_name}
 use Rattle.mailengine.specs.Sound.{IsSound}
 use Rattle.mailengine.specs.declared.answer.Answer.{Answer}
@@ -25,8 +25,8 @@ module _ (text user : List ℕ) (a : Account) (head : Head) (parts : List Part) 
   pub copy_makes : whole head parts empty ≡ a
   copy_makes = ap (λ h. whole h parts empty) (sym same.0) ∙ (ap (λ ps. whole copy.head ps empty) (sym same.1) ∙ copy.makes)
 
-  pub copy_imported : (accounts later : Accounts) (answer : Answer) → is_user_name user ≡ true → may_guard a.password ≡ true → IsSound a → get accounts user ≡ None → Importing accounts head parts answer later → (answer ≡ Imported) × (later ≡ insert accounts user a)
-  copy_imported accounts later answer name guarded sound free (inl (fit, made)) =
+  pub copy_imported : (accounts later : Accounts) (answer : Answer) → is_user_name user ≡ true → may_guard a.password ≡ true → have_short_flags parts ≡ true → IsSound a → get accounts user ≡ None → Importing accounts head parts answer later → (answer ≡ Imported) × (later ≡ insert accounts user a)
+  copy_imported accounts later answer name guarded flagged sound free (inl (fit, made)) =
       let is = subst (λ o. ImportsUnder accounts head parts o answer later) (ap (get accounts) copy_named ∙ free) made in
       (is.imported, is.changed ∙ (ap (λ n. insert accounts n (whole head parts empty)) copy_named ∙ ap (insert accounts user) copy_makes))
-  copy_imported accounts later answer name guarded sound free (inr (bad, made)) = absurd (bad (record { named = ap is_user_name copy_named ∙ name; guarded = ap (λ (account : Account). may_guard account.password) copy_makes ∙ guarded; sound = subst IsSound (sym copy_makes) sound }))
+  copy_imported accounts later answer name guarded flagged sound free (inr (bad, made)) = absurd (bad (record { named = ap is_user_name copy_named ∙ name; guarded = ap (λ (account : Account). may_guard account.password) copy_makes ∙ guarded; flagged = flagged; sound = subst IsSound (sym copy_makes) sound }))

@@ -13,8 +13,8 @@ use Rattle.mailstore.specs.declared.refusal.Refusal.{Refusal}
 use Rattle.mailstore.specs.declared.refusal.Refusal.TheVariants.{NoUser, TooLarge, BadEnvelope, BadMoment, AccountClosed}
 use Rattle.mailstore.specs.declared.report.Plan.{Plan}
 use Rattle.mailstore.specs.declared.report.Report.{Report}
-use Rattle.mailstore.specs.Account.{Account, Accounts, is_removed, open_of, in_place, with_user, delivers}
-use Rattle.mailstore.specs.Promises.{HasUser, HasNoOpen, OfOpen, HasOurTables, WritesAccount}
+use Rattle.mailstore.specs.Account.{Account, Accounts, open_of, in_place, with_user, delivers}
+use Rattle.mailstore.specs.Promises.{HasUser, HasNoOpen, OfOpen, WritesAccount}
 use Rattle.mailstore.proofs.StandingLemmas.{open_there, has_there}
 use Rattle.mailstore.specs.Refusals.{IsTransient}
 use Rattle.mailstore.specs.Shows.{Presents}

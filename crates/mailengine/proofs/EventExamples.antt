@@ -11,7 +11,7 @@ use Rattle.mailstore.specs.Account.{bytes_cmp, Account, Accounts, no_accounts, i
 use Rattle.mailtables.specs.declared.queue.Kind.TheVariants.{Redirect}
 use Rattle.mailstore.specs.declared.queue.Outgoing.{Outgoing}
 use Rattle.mailstore.specs.declared.refusal.Refusal.TheVariants.{NoUser, BadMoment, UserExists, UserHasMail, BadUser, NoRow}
-use Rattle.deliverplan.specs.Delivered.{Acts, kept, Silent, report_of}
+use Rattle.deliverplan.specs.Delivered.{Acts, kept, Silent, report_of, unflagged}
 use Rattle.mailengine.specs.declared.answer.Answer.{Answer}
 use Rattle.mailengine.specs.declared.answer.Answer.TheVariants.{Delivered, Added, Taken, Refused}
 use Rattle.mailengine.specs.Limits.{IsNewUser}
@@ -90,12 +90,12 @@ module _ (a : Account) (open_is : is_closed a ≡ false) where
   unknown_user_late = record { refused = refl; stays = refl }
 
   -- without an active script the message joins INBOX
-  filed : (own : Addr) → IsBareAddress a.address own → a.active ≡ None → Delivery one alice envelope message at_five (Delivered (report_of kept Silent)) (insert one alice (files_copies (inbox ∷ []) message a))
+  filed : (own : Addr) → IsBareAddress a.address own → a.active ≡ None → Delivery one alice envelope message at_five (Delivered (report_of kept Silent)) (insert one alice (files_copies (unflagged inbox ∷ []) message a))
   unfolding one
-  filed own address none = subst (λ o. DeliversIn one alice at_five envelope message o (Delivered (report_of kept Silent)) (insert one alice (files_copies (inbox ∷ []) message a))) (sym open_alice)
+  filed own address none = subst (λ o. DeliversIn one alice at_five envelope message o (Delivered (report_of kept Silent)) (insert one alice (files_copies (unflagged inbox ∷ []) message a))) (sym open_alice)
       (record {
         report = report_of kept Silent;
-        account = files_copies (inbox ∷ []) message a;
+        account = files_copies (unflagged inbox ∷ []) message a;
         delivers = record {
           own = own;
           address = address;

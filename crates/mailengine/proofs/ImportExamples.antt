@@ -1,19 +1,19 @@
 -- An account that comes whole, on small cases: what is right, and beside it what nearly is.
-use Rattle.std.proofs.Common.{◌≡◌, ℕ, true, false, cond, List, [], ◌∷◌, codes, replicate, Some, None, MatchBool, refl, sym, ap, ◌∙◌, subst, inl, inr}
+use Rattle.std.proofs.Common.{◌≡◌, ℕ, true, false, cond, List, [], ◌∷◌, codes, replicate, Some, None, MatchBool, refl, sym, ap, ◌∙◌, subst, inl, inr, length, nat_le, ◌&&◌}
 use Rattle.std.specs.Prelude.{unwrap_or}
 use Rattle.std.specs.FinMap.{empty, get, insert, get-empty, get-insert}
 use Rattle.std.specs.Ordering.{is_eq}
 use Rattle.std.proofs.lemmas.Cmp.{nat_list_cmp_total}
 use Rattle.accountfiles.specs.declared.head.Head.{Head}
 use Rattle.accountfiles.specs.declared.part.Part.{Part}
-use Rattle.accountfiles.specs.declared.part.Part.TheVariants.{Script, Reply}
+use Rattle.accountfiles.specs.declared.part.Part.TheVariants.{Script, Reply, Mail, Copy}
 use Rattle.mailstore.specs.Account.{bytes_cmp, reply_cmp, Account, Accounts, no_accounts, latest, is_closed, has_mail, with_user}
 use Rattle.mailstore.specs.Whole.{whole, takes_whole, password_of}
 use Rattle.mailstore.specs.declared.refusal.Refusal.TheVariants.{UserExists, UserHasMail, BadAccount}
 use Rattle.mailstore.proofs.AccountLemmas.{reply_total}
 use Rattle.sessions.specs.Scripts.{IsValid}
 use Rattle.mailengine.specs.AccountEvents.{Refuses, IsImportable, Replaces, ImportsUnder, Importing}
-use Rattle.mailengine.specs.Importable.{may_guard}
+use Rattle.mailengine.specs.Importable.{may_guard, have_short_flags}
 use Rattle.mailengine.specs.Limits.{is_user_name}
 use Rattle.mailengine.specs.declared.answer.Answer.{Answer}
 use Rattle.mailengine.specs.declared.answer.Answer.TheVariants.{Imported, Refused}
@@ -145,3 +145,15 @@ removed = refl
 unguarded : (parts : List Part) (accounts later : Accounts) (head : Head) → may_guard (password_of head) ≡ false → Importing accounts head parts Imported later → ⊥
 unguarded parts accounts later head is (inl (fit, made)) = let no : false ≡ true = sym is ∙ fit.guarded in cc
 unguarded parts accounts later head is (inr (bad, told)) = let no : Imported ≡ Refused BadAccount = told.refused in cc
+
+-- ---- flags
+
+-- as many octets as a hundred names of 128 have; near misses: one more, of a copy too
+whole_flags : (flags : List ℕ) → length flags ≡ 12899 → have_short_flags (Mail 1 (codes "a") (codes "x") flags ∷ []) ≡ true
+whole_flags flags is = ap (λ n. nat_le n 12899 && true) is
+
+long_flags : (flags : List ℕ) → length flags ≡ 12900 → have_short_flags (Mail 1 (codes "a") (codes "x") flags ∷ []) ≡ false
+long_flags flags is = ap (λ n. nat_le n 12899 && true) is
+
+long_flags_of_a_copy : (flags : List ℕ) → length flags ≡ 12900 → have_short_flags (Copy 2 (codes "a") 1 flags ∷ []) ≡ false
+long_flags_of_a_copy flags is = ap (λ n. nat_le n 12899 && true) is

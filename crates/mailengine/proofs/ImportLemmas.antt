@@ -22,9 +22,9 @@ use Rattle.mailstore.specs.Whole.{scripts_with, copies_of, password_of}
 use Rattle.mailstore.proofs.MapLemmas.{tied_is}
 use Rattle.mailengine.specs.Limits.{IsOwnAddress, is_user_name}
 use Rattle.mailengine.specs.AccountEvents.{IsImportable}
-use Rattle.mailengine.specs.Importable.{IsSoundPart, is_a_script, HasSoundScripts, may_guard}
+use Rattle.mailengine.specs.Importable.{IsSoundPart, is_a_script, HasSoundScripts, may_guard, have_short_flags}
 use Rattle.mailengine.specs.Sound.{IsSoundScript}
-use Rattle.mailengine.proofs.SoundLemmas.{inserted, still_there, filled_in}
+use Rattle.mailengine.proofs.SoundLemmas.{inserted, still_there, filled_one}
 
 -- ---- what the scripts of the parts make
 
@@ -38,8 +38,8 @@ from_parts (Script n t ∷ parts) scripts all were = from_parts parts (insert sc
     go name text (inl new) = subst (λ m. IsSoundScript m text) (sym new.0) (subst (IsSoundScript n) new.1 all.0)
     go name text (inr old) = were name text old
 from_parts (Reply a b c ∷ parts) scripts all were = from_parts parts scripts all.1 were
-from_parts (Mail a b c ∷ parts) scripts all were = from_parts parts scripts all.1 were
-from_parts (Copy a b c ∷ parts) scripts all were = from_parts parts scripts all.1 were
+from_parts (Mail a b c d ∷ parts) scripts all were = from_parts parts scripts all.1 were
+from_parts (Copy a b c d ∷ parts) scripts all were = from_parts parts scripts all.1 were
 from_parts (Letter a b c d e ∷ parts) scripts all were = from_parts parts scripts all.1 were
 from_parts (Notice a b c ∷ parts) scripts all were = from_parts parts scripts all.1 were
 
@@ -48,8 +48,8 @@ stays : (parts : List Part) (scripts : Scripts) (name : List ℕ) → IsSome (ge
 stays [] scripts name there = there
 stays (Script n t ∷ parts) scripts name there = stays parts (insert scripts n t) name (still_there scripts n t name there)
 stays (Reply a b c ∷ parts) scripts name there = stays parts scripts name there
-stays (Mail a b c ∷ parts) scripts name there = stays parts scripts name there
-stays (Copy a b c ∷ parts) scripts name there = stays parts scripts name there
+stays (Mail a b c d ∷ parts) scripts name there = stays parts scripts name there
+stays (Copy a b c d ∷ parts) scripts name there = stays parts scripts name there
 stays (Letter a b c d e ∷ parts) scripts name there = stays parts scripts name there
 stays (Notice a b c ∷ parts) scripts name there = stays parts scripts name there
 
@@ -66,8 +66,8 @@ named_there (Script n t ∷ parts) scripts name is = go (same_text name n) refl 
     go true same h more = stays parts (insert scripts n t) name (subst IsSome (sym (ap (get (insert scripts n t)) (texts_same name n (sym same)) ∙ put_there scripts n t)) refl)
     go false apart h more = more h
 named_there (Reply a b c ∷ parts) scripts name is = named_there parts scripts name is
-named_there (Mail a b c ∷ parts) scripts name is = named_there parts scripts name is
-named_there (Copy a b c ∷ parts) scripts name is = named_there parts scripts name is
+named_there (Mail a b c d ∷ parts) scripts name is = named_there parts scripts name is
+named_there (Copy a b c d ∷ parts) scripts name is = named_there parts scripts name is
 named_there (Letter a b c d e ∷ parts) scripts name is = named_there parts scripts name is
 named_there (Notice a b c ∷ parts) scripts name is = named_there parts scripts name is
 
@@ -86,8 +86,8 @@ few_parts (Script n t ∷ parts) scripts = let more = few_parts parts (insert sc
         go true = omega arith
         go false = omega arith
 few_parts (Reply a b c ∷ parts) scripts = let more = few_parts parts scripts in let all = counted (Reply a b c) parts in omega (arith, more, all)
-few_parts (Mail a b c ∷ parts) scripts = let more = few_parts parts scripts in let all = counted (Mail a b c) parts in omega (arith, more, all)
-few_parts (Copy a b c ∷ parts) scripts = let more = few_parts parts scripts in let all = counted (Copy a b c) parts in omega (arith, more, all)
+few_parts (Mail a b c d ∷ parts) scripts = let more = few_parts parts scripts in let all = counted (Mail a b c d) parts in omega (arith, more, all)
+few_parts (Copy a b c d ∷ parts) scripts = let more = few_parts parts scripts in let all = counted (Copy a b c d) parts in omega (arith, more, all)
 few_parts (Letter a b c d e ∷ parts) scripts = let more = few_parts parts scripts in let all = counted (Letter a b c d e) parts in omega (arith, more, all)
 few_parts (Notice a b c ∷ parts) scripts = let more = few_parts parts scripts in let all = counted (Notice a b c) parts in omega (arith, more, all)
 
@@ -114,8 +114,8 @@ before_script name text (Script n t) h = go (is_eq (bytes_cmp name n)) refl
         let less : is_lt (ordering_then (bytes_cmp n n) Equal) ≡ true = subst (λ m. Before (Script n t) (Script m text)) same h in
         absurd (let never : false ≡ true = sym (ap (λ o. is_lt (ordering_then o Equal)) (tied_is (bytes_cmp n n) (bytes_eq_refl n))) ∙ less in cc)
 before_script name text (Reply a b c) h = tt
-before_script name text (Mail a b c) h = tt
-before_script name text (Copy a b c) h = tt
+before_script name text (Mail a b c d) h = tt
+before_script name text (Copy a b c d) h = tt
 before_script name text (Letter a b c d e) h = tt
 before_script name text (Notice a b c) h = tt
 
@@ -129,8 +129,8 @@ kept_so_far name [] scripts all = refl
 kept_so_far name (Script n t ∷ done) scripts all =
     kept_so_far name done (insert scripts n t) all.1 ∙ (get-insert nat_list_cmp_total scripts n t name ∙ ap (λ b. cond b (Some t) (get scripts name)) all.0)
 kept_so_far name (Reply a b c ∷ done) scripts all = kept_so_far name done scripts all.1
-kept_so_far name (Mail a b c ∷ done) scripts all = kept_so_far name done scripts all.1
-kept_so_far name (Copy a b c ∷ done) scripts all = kept_so_far name done scripts all.1
+kept_so_far name (Mail a b c d ∷ done) scripts all = kept_so_far name done scripts all.1
+kept_so_far name (Copy a b c d ∷ done) scripts all = kept_so_far name done scripts all.1
 kept_so_far name (Letter a b c d e ∷ done) scripts all = kept_so_far name done scripts all.1
 kept_so_far name (Notice a b c ∷ done) scripts all = kept_so_far name done scripts all.1
 
@@ -144,8 +144,8 @@ new_from done (p ∷ rest) chained =
     go (Script n t) before more =
         (kept_so_far n done empty (before_scripts n t done before) ∙ get-empty bytes_cmp n, more)
     go (Reply a b c) before more = more
-    go (Mail a b c) before more = more
-    go (Copy a b c) before more = more
+    go (Mail a b c d) before more = more
+    go (Copy a b c d) before more = more
     go (Letter a b c d e) before more = more
     go (Notice a b c) before more = more
 
@@ -159,8 +159,8 @@ stays_so (Script n t ∷ parts) scripts name text new is =
     apart false at = at
     apart true at = absurd (let never : None ≡ Some text = sym new.0 ∙ (ap (get scripts) (sym (same_bytes name n at)) ∙ is) in cc)
 stays_so (Reply a b c ∷ parts) scripts name text new is = stays_so parts scripts name text new is
-stays_so (Mail a b c ∷ parts) scripts name text new is = stays_so parts scripts name text new is
-stays_so (Copy a b c ∷ parts) scripts name text new is = stays_so parts scripts name text new is
+stays_so (Mail a b c d ∷ parts) scripts name text new is = stays_so parts scripts name text new is
+stays_so (Copy a b c d ∷ parts) scripts name text new is = stays_so parts scripts name text new is
 stays_so (Letter a b c d e ∷ parts) scripts name text new is = stays_so parts scripts name text new is
 stays_so (Notice a b c ∷ parts) scripts name text new is = stays_so parts scripts name text new is
 
@@ -170,8 +170,8 @@ each_sound [] scripts new sound = tt
 each_sound (Script n t ∷ parts) scripts new sound =
     (sound n t (stays_so parts (insert scripts n t) n t new.1 (put_there scripts n t)), each_sound parts (insert scripts n t) new.1 sound)
 each_sound (Reply a b c ∷ parts) scripts new sound = (tt, each_sound parts scripts new sound)
-each_sound (Mail a b c ∷ parts) scripts new sound = (tt, each_sound parts scripts new sound)
-each_sound (Copy a b c ∷ parts) scripts new sound = (tt, each_sound parts scripts new sound)
+each_sound (Mail a b c d ∷ parts) scripts new sound = (tt, each_sound parts scripts new sound)
+each_sound (Copy a b c d ∷ parts) scripts new sound = (tt, each_sound parts scripts new sound)
 each_sound (Letter a b c d e ∷ parts) scripts new sound = (tt, each_sound parts scripts new sound)
 each_sound (Notice a b c ∷ parts) scripts new sound = (tt, each_sound parts scripts new sound)
 
@@ -183,8 +183,8 @@ as_many (Script n t ∷ parts) scripts new =
     let all = counted (Script n t) parts in
     omega (arith, more, one, all)
 as_many (Reply a b c ∷ parts) scripts new = let more = as_many parts scripts new in let all = counted (Reply a b c) parts in omega (arith, more, all)
-as_many (Mail a b c ∷ parts) scripts new = let more = as_many parts scripts new in let all = counted (Mail a b c) parts in omega (arith, more, all)
-as_many (Copy a b c ∷ parts) scripts new = let more = as_many parts scripts new in let all = counted (Copy a b c) parts in omega (arith, more, all)
+as_many (Mail a b c d ∷ parts) scripts new = let more = as_many parts scripts new in let all = counted (Mail a b c d) parts in omega (arith, more, all)
+as_many (Copy a b c d ∷ parts) scripts new = let more = as_many parts scripts new in let all = counted (Copy a b c d) parts in omega (arith, more, all)
 as_many (Letter a b c d e ∷ parts) scripts new = let more = as_many parts scripts new in let all = counted (Letter a b c d e) parts in omega (arith, more, all)
 as_many (Notice a b c ∷ parts) scripts new = let more = as_many parts scripts new in let all = counted (Notice a b c) parts in omega (arith, more, all)
 
@@ -193,17 +193,18 @@ as_many (Notice a b c ∷ parts) scripts new = let more = as_many parts scripts 
 -- each copy fills its folder
 all_filled : (copies : List KeptCopy) (folders : Folders) → ((f : List ℕ) → get folders f ≢ Some []) → (f : List ℕ) → get (fold (λ all copy. filed all copy.folder copy.message) folders copies) f ≢ Some []
 all_filled [] folders full = full
-all_filled (copy ∷ copies) folders full = all_filled copies (filed folders copy.folder copy.message) (filled_in copy.message (copy.folder ∷ []) folders full)
+all_filled (copy ∷ copies) folders full = all_filled copies (filed folders copy.folder copy.message) (filled_one folders copy.folder copy.message full)
 
 module _ (head : Head) (parts : List Part) (is : IsAccount head parts) where
   active_there : (o : Option (List ℕ)) → has_active o parts ≡ true → IfSome o (λ name. IsSome (get (fold scripts_with empty parts) name))
   active_there None h = tt
   active_there (Some name) h = named_there parts empty name h
 
-  pub importable : is_user_name head.owner.name ≡ true → may_guard (password_of head) ≡ true → IsOwnAddress head.owner.address → HasSoundScripts parts → IsImportable head parts
-  importable named guarded addressed scripts = record {
+  pub importable : is_user_name head.owner.name ≡ true → may_guard (password_of head) ≡ true → have_short_flags parts ≡ true → IsOwnAddress head.owner.address → HasSoundScripts parts → IsImportable head parts
+  importable named guarded flagged addressed scripts = record {
     named = named;
     guarded = guarded;
+    flagged = flagged;
     sound = record {
       address = addressed;
       scripts = from_parts parts empty scripts.each (λ name text there. absurd (let never : None ≡ Some text = sym (get-empty bytes_cmp name) ∙ there in cc));
@@ -221,9 +222,9 @@ module _ (head : Head) (parts : List Part) (is : IsAccount head parts) where
       let few = importable.sound.few in
       record { each = each_sound parts empty new importable.sound.scripts; few = omega (arith, count, none, few) }
 
-  -- whether it may be kept, once its name, its password and its address are what they have to be
-  pub tested : {E : Type 0} → is_user_name head.owner.name ≡ true → may_guard (password_of head) ≡ true → IsOwnAddress head.owner.address → (r : Result Bool E) → IfOk r (λ holds. MatchBool holds (HasSoundScripts parts) (HasSoundScripts parts → ⊥))
+  -- whether it may be kept, once its name, its password, its flags and its address are what they have to be
+  pub tested : {E : Type 0} → is_user_name head.owner.name ≡ true → may_guard (password_of head) ≡ true → have_short_flags parts ≡ true → IsOwnAddress head.owner.address → (r : Result Bool E) → IfOk r (λ holds. MatchBool holds (HasSoundScripts parts) (HasSoundScripts parts → ⊥))
       → IfOk r (λ holds. MatchBool holds (IsImportable head parts) (IsImportable head parts → ⊥))
-  tested named guarded addressed (Err e) told = tt
-  tested named guarded addressed (Ok true) told = importable named guarded addressed told
-  tested named guarded addressed (Ok false) told = λ fit. told (sound_scripts fit)
+  tested named guarded flagged addressed (Err e) told = tt
+  tested named guarded flagged addressed (Ok true) told = importable named guarded flagged addressed told
+  tested named guarded flagged addressed (Ok false) told = λ fit. told (sound_scripts fit)

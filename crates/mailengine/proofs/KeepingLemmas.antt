@@ -1,6 +1,6 @@
 -- What an administrator does to an account: the tests, the reads, and then the write.
 use Rattle.std.proofs.Common.{◌≡◌, ◌⊎◌, ◌≤◌, ℕ, Bool, true, false, cond, not, ◌&&◌, length, List, Option, Some, None, option_map, Ok, Err, Result, MatchBool, OnOk, IfOk, IfErr, IsSome, IsTrue, refl, sym, ap, ◌∙◌, subst, inl, inr}
-use Rattle.std.specs.FinMap.{get, len, keys}
+use Rattle.std.specs.FinMap.{get}
 use Rattle.std.specs.Result.{result_and}
 use Rattle.sqlite.specs.State.{State, HasCleanDisk}
 use Rattle.sievelex.specs.declared.fault.ScriptFault.{ScriptFault}

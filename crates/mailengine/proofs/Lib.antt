@@ -24,3 +24,4 @@ pub mod MailTakingLemmas
 mod UpkeepExamples
 pub mod UserLemmas
 mod WorldExamples
+mod FlagLemmas

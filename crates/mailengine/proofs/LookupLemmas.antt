@@ -7,7 +7,7 @@ use Rattle.mailstore.specs.declared.refusal.Refusal.{Refusal}
 use Rattle.mailstore.specs.declared.refusal.Refusal.TheVariants.{NoUser}
 use Rattle.mailstore.specs.Account.{Account, Accounts}
 use Rattle.mailstore.specs.AccountRows.{profile_of}
-use Rattle.mailstore.specs.Promises.{IsFree, OfUser, HasNoOpen, OfOpen, Reads, ReadsEntered, ReadsProfile}
+use Rattle.mailstore.specs.Promises.{IsFree, OfUser, HasNoOpen, OfOpen, Reads, ReadsEntered}
 use Rattle.mailstore.specs.Refusals.{IsTransient}
 use Rattle.mailstore.specs.Shows.{Presents}
 use Rattle.mailstore.proofs.KeepLemmas.{keeps_ok, keeps_refused, keeps_then, mid_shows, transient_other, reads_answer}

@@ -5,7 +5,7 @@ use Rattle.mailstore.specs.declared.taking.NumberedMessage.{NumberedMessage}
 use Rattle.mailstore.specs.declared.refusal.Refusal.{Refusal}
 use Rattle.mailstore.specs.declared.refusal.Refusal.TheVariants.{NoUser, NoRow}
 use Rattle.mailstore.specs.Account.{Account, Accounts, with_user, messages_in, takes_mail}
-use Rattle.mailstore.specs.CopyRows.{HasFirst}
+use Rattle.mailstore.specs.CopyRows.{HasFirst, IsFirstIn}
 use Rattle.mailstore.specs.Promises.{HasUser, HasNoOpen, OfOpen, WritesAccount}
 use Rattle.mailstore.proofs.StandingLemmas.{has_there}
 use Rattle.mailstore.specs.Refusals.{IsTransient}
@@ -23,7 +23,7 @@ module _ (user folder : List ℕ) where
   Row accounts = MailTaking accounts user folder
 
   abbrev First : Option NumberedMessage → Account → Type 0
-  First first account = HasFirst first (messages_in account.folders folder)
+  First = IsFirstIn folder
 
   transient_turn : (e : Refusal) (accounts : Accounts) → IsTransient e → TurnsBy Row IsTransient (Refused e) accounts accounts
   transient_turn e accounts transient = inr (e, transient, refl, refl)
@@ -59,7 +59,7 @@ module _ (user folder : List ℕ) where
     mail_none is = acts_read a b (TurnsBy Row IsTransient (Refused NoRow)) (MayTurnBy Row) (Err NoRow) (λ clean open_before. tt) (glanced a b r look.reads.keeps)
         (λ clean accounts shown.
         let own = found clean accounts (read_shows a b r first was look.reads.keeps clean accounts shown).0 in
-        inl (subst (λ o. TakesMailIn accounts user folder o (Refused NoRow) accounts) (sym own.1) (none_first accounts (messages_in own.0.folders folder) (subst (λ f. HasFirst f (messages_in own.0.folders folder)) is own.2))))
+        inl (subst (λ o. TakesMailIn accounts user folder o (Refused NoRow) accounts) (sym own.1) (none_first accounts (messages_in own.0.folders folder) (subst (λ f. HasFirst f (messages_in own.0.folders folder)) is own.2.message))))
 
     module _ (message : NumberedMessage) (is : first ≡ Some message) (c : State) (w : Result (Unit {0}) Refusal) (late : WritesAccount user (takes_mail folder 1) b c w) where
       fits : HasCleanDisk b → (accounts : Accounts) → Presents a.now accounts → HasUser user accounts × Row accounts MailTaken (with_user accounts user (takes_mail folder 1))
@@ -67,7 +67,7 @@ module _ (user folder : List ℕ) where
           let own = found clean accounts p in (
             has_there accounts user (subst IsSome (sym own.1) refl),
             subst (λ o. TakesMailIn accounts user folder o MailTaken (with_user accounts user (takes_mail folder 1))) (sym own.1)
-                (some_first accounts message (messages_in own.0.folders folder) (subst (λ f. HasFirst f (messages_in own.0.folders folder)) is own.2)),
+                (some_first accounts message (messages_in own.0.folders folder) (subst (λ f. HasFirst f (messages_in own.0.folders folder)) is own.2.message)),
           )
 
       pub mail_made : (y : Unit {0}) (q : Result (Unit {0}) Refusal) → w ≡ Ok y → q ≡ Ok y → ActsMailTaking user folder a c q

@@ -6,7 +6,7 @@ use Rattle.sqlite_typed.proofs.TestLemmas.{bytes_eq_refl}
 use Rattle.accountfiles.specs.declared.head.Head.{Head}
 use Rattle.accountfiles.specs.declared.part.Part.{Part}
 use Rattle.accountfiles.specs.declared.part.Part.TheVariants.{Script, Reply, Mail, Copy, Letter, Notice}
-use Rattle.mailstore.specs.Account.{bytes_cmp, reply_cmp, latest, Account, Accounts, Replies, is_closed, has_mail, with_user}
+use Rattle.mailstore.specs.Account.{reply_cmp, latest, Account, Accounts, Replies, is_closed, has_mail}
 use Rattle.mailstore.specs.Whole.{whole, takes_whole, replies_with}
 use Rattle.mailstore.specs.declared.refusal.Refusal.TheVariants.{UserExists, UserHasMail, BadAccount}
 use Rattle.mailstore.proofs.AccountLemmas.{reply_total}
@@ -46,8 +46,8 @@ parts_over [] one other before = before
 parts_over (Script a b ∷ parts) one other before = parts_over parts one other before
 parts_over (Reply a b c ∷ parts) one other before =
     parts_over parts (insert one (a, b) (latest (get one (a, b)) c)) (insert other (a, b) (latest (get other (a, b)) c)) (put_over one other (a, b) c before)
-parts_over (Mail a b c ∷ parts) one other before = parts_over parts one other before
-parts_over (Copy a b c ∷ parts) one other before = parts_over parts one other before
+parts_over (Mail a b c d ∷ parts) one other before = parts_over parts one other before
+parts_over (Copy a b c d ∷ parts) one other before = parts_over parts one other before
 parts_over (Letter a b c d e ∷ parts) one other before = parts_over parts one other before
 parts_over (Notice a b c ∷ parts) one other before = parts_over parts one other before
 

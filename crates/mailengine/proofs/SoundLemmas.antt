@@ -10,6 +10,7 @@ use Rattle.accountfiles.specs.declared.head.Head.{Head}
 use Rattle.accountfiles.specs.declared.part.Part.{Part}
 use Rattle.addrparts.specs.declared.address.Addr.{Addr}
 use Rattle.addrparts.specs.Spelling.{spelling}
+use Rattle.mailflags.specs.declared.placement.Placement.{Placement}
 use Rattle.sievesyntax.specs.RunState.{inbox}
 use Rattle.sieveexec.specs.Mails.{MailSpec, mail_of}
 use Rattle.msproto.specs.declared.commands.Command.{Command}
@@ -26,7 +27,7 @@ use Rattle.mailstore.proofs.AccountLemmas.{bytes_antisymmetric}
 use Rattle.sessions.specs.Limits.{scripts_limit, IsScriptName}
 use Rattle.sessions.specs.Replies.{is_ok}
 use Rattle.sessions.specs.Scripts.{HasRoom, RepliesToPut, RepliesToSet, RepliesToDelete, RepliesToRename, RepliesTo, active_name, carried_out, obeyed}
-use Rattle.deliverplan.specs.Delivered.{Disposition, Acts, Tells, Response, Silent, Quiet, Sent, acts, redirects, responds, DeliversAs}
+use Rattle.deliverplan.specs.Delivered.{Disposition, Acts, Tells, Response, Silent, Quiet, Sent, acts, redirects, responds, unflagged, DeliversAs}
 use Rattle.mailengine.specs.declared.event.Event.{Event}
 use Rattle.mailengine.specs.declared.answer.Answer.{Answer}
 use Rattle.mailengine.specs.Limits.{limit_refusal, IsNewUser, IsOwnAddress}
@@ -35,7 +36,7 @@ use Rattle.mailengine.specs.Upkeep.{kept_password, stores, instead}
 use Rattle.mailengine.proofs.UpkeepLemmas.{LastsThrough, keeps_holds}
 use Rattle.mailstore.specs.declared.refusal.Refusal.TheVariants.{UserExists, UserHasMail}
 use Rattle.mailstore.proofs.StandingLemmas.{open_there}
-use Rattle.sessions.specs.Table.{RepliesOf, early_reply}
+use Rattle.sessions.specs.Table.{RepliesOf}
 use Rattle.mailstore.specs.Account.{row_with}
 use Rattle.mailengine.specs.OwnActs as own
 use Rattle.mailengine.specs.OwnActs.{Act, ActsAlone, Alone, CommandsAlone, RepliesAlone, ReceivesOpen, ReceivesIn, RenewsAlone, JoinsIn, ReplacesAlone, ImportsIn, TakesRowAlone, TakesOpen, TakesFirstAlone, TakesMailOpen, fresh}
@@ -111,18 +112,22 @@ not_empty : {X : Type 0} (xs : List X) (x : X) → xs ++ x ∷ [] ≡ [] → ⊥
 not_empty [] x e = cc
 not_empty (y ∷ ys) x e = cc
 
--- where no folder is empty, none is after a message has joined some
-pub filled_in : (message : List ℕ) (names : List (List ℕ)) (folders : Folders) → ((f : List ℕ) → get folders f ≢ Some []) → (f : List ℕ) → get (filed_in message folders names) f ≢ Some []
-filled_in message [] folders full = full
-filled_in message (name ∷ names) folders full = filled_in message names (filed folders name message) (λ f is. go f (inserted folders name (messages_in folders name ++ message ∷ []) f [] is))
+-- where no folder is empty, none is after a message has joined one
+pub filled_one : (folders : Folders) (name message : List ℕ) → ((f : List ℕ) → get folders f ≢ Some []) → (f : List ℕ) → get (filed folders name message) f ≢ Some []
+filled_one folders name message full f is = go (inserted folders name (messages_in folders name ++ message ∷ []) f [] is)
   where
-    go : (f : List ℕ) → ((f ≡ name) × (messages_in folders name ++ message ∷ [] ≡ [])) ⊎ (get folders f ≡ Some []) → ⊥
-    go f (inl new) = not_empty (messages_in folders name) message new.1
-    go f (inr old) = full f old
+    go : ((f ≡ name) × (messages_in folders name ++ message ∷ [] ≡ [])) ⊎ (get folders f ≡ Some []) → ⊥
+    go (inl new) = not_empty (messages_in folders name) message new.1
+    go (inr old) = full f old
+
+-- nor after it has joined some
+filled_in : (what : Placement → List ℕ) (copies : List Placement) (folders : Folders) → ((f : List ℕ) → get folders f ≢ Some []) → (f : List ℕ) → get (filed_in what folders copies) f ≢ Some []
+filled_in what [] folders full = full
+filled_in what (copy ∷ copies) folders full = filled_in what copies (filed folders copy.mailbox (what copy)) (filled_one folders copy.mailbox (what copy) full)
 
 module _ (a : Account) (own : IsSound a) where
-  pub sound_filed : (message : List ℕ) (names : List (List ℕ)) → IsSound (files_copies names message a)
-  sound_filed message names = record { address = own.address; scripts = own.scripts; few = own.few; active = own.active; filled = filled_in message names a.folders own.filled }
+  pub sound_filed : (message : List ℕ) (copies : List Placement) → IsSound (files_copies copies message a)
+  sound_filed message copies = record { address = own.address; scripts = own.scripts; few = own.few; active = own.active; filled = filled_in (λ copy. message) copies a.folders own.filled }
 
   pub sound_put : (name text : List ℕ) → IsSoundScript name text → HasRoom a name → IsSound (keeps_script name text a)
   sound_put name text new room = record {
@@ -261,7 +266,7 @@ delivers_sound : (addr : Addr) (moment : ℕ) (mail : MailSpec) (disposition : D
 delivers_sound addr moment mail (Acts deeds) a a2 report own is =
     subst IsSound (sym is.changed) (responds_sound mail is.response (acts mail deeds a) (redirects_sound mail deeds.sent (files_copies deeds.filed mail.octets a) (sound_filed a own mail.octets deeds.filed)))
 delivers_sound addr moment mail (Tells text) a a2 report own is =
-    let kept = sound_filed a own mail.octets (inbox ∷ []) in
+    let kept = sound_filed a own mail.octets (unflagged inbox ∷ []) in
     subst IsSound (sym is.changed) (record { address = kept.address; scripts = kept.scripts; few = kept.few; active = kept.active; filled = kept.filled })
 
 -- ---- the acts of one user

@@ -53,7 +53,7 @@ use Rattle.mailengine.specs.World.{World, Next, Runs}
 use Rattle.mailengine.specs.Spacing.{Thread, Entry, entry_of, entries_if, vacation_in, sent_in, sent_under, sent_by, sent_at, sent, kept_in, kept, IsPast, ComeAfter, Follow, IsAtLeast, IsSpacing}
 use Rattle.mailengine.proofs.AloneLemmas.{put_own, next_alone, projection}
 use Rattle.mailstore.proofs.AccountLemmas.{reply_total, reply_antisymmetric}
-use Rattle.mailengine.specs.Terms.{Terms, terms}
+use Rattle.mailengine.specs.Terms.{terms}
 use Rattle.sqlite_typed.proofs.TestLemmas.{bytes_eq_refl}
 
 -- ---- a kept moment never goes back
@@ -277,8 +277,8 @@ parts_keep (Script a b ∷ parts) replies key = parts_keep parts replies key
 parts_keep (Reply a b c ∷ parts) replies key =
     let next = insert replies (a, b) (latest (get replies (a, b)) c) in
     no_sooner_then (get replies key) (get next key) (get (fold replies_with next parts) key) (put_keeps replies (a, b) c key) (parts_keep parts next key)
-parts_keep (Mail a b c ∷ parts) replies key = parts_keep parts replies key
-parts_keep (Copy a b c ∷ parts) replies key = parts_keep parts replies key
+parts_keep (Mail a b c d ∷ parts) replies key = parts_keep parts replies key
+parts_keep (Copy a b c d ∷ parts) replies key = parts_keep parts replies key
 parts_keep (Letter a b c d e ∷ parts) replies key = parts_keep parts replies key
 parts_keep (Notice a b c ∷ parts) replies key = parts_keep parts replies key
 

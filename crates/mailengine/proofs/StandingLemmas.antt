@@ -1,5 +1,5 @@
 -- How a user's account stands, by its row and its messages.
-use Rattle.std.proofs.Common.{◌≡◌, ◌==◌, ◌&&◌, ℕ, Bool, length, List, Option, Some, None, option_map, Ok, Err, Result, OnOk, IfOk, IfErr, IfSome, refl, sym, ap, ◌∙◌, subst}
+use Rattle.std.proofs.Common.{◌≡◌, ◌==◌, ◌&&◌, ℕ, Bool, length, List, Option, Some, None, option_map, Ok, Result, OnOk, IfOk, IfErr, IfSome, refl, ap, ◌∙◌, subst}
 use Rattle.std.specs.FinMap.{get}
 use Rattle.sqlite.specs.State.{State, HasCleanDisk}
 use Rattle.mailstore.specs.declared.profile.Profile.{Profile}

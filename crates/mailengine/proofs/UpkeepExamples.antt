@@ -3,7 +3,7 @@ use Rattle.std.proofs.Common.{◌≡◌, ◌||◌, not, ℕ, ◌≤◌, Bool, tr
 use Rattle.std.specs.Prelude.{◌==◌, MatchBool}
 use Rattle.std.specs.FinMap.{empty, len-empty}
 use Rattle.mailstore.specs.Account.{bytes_cmp, Account, Accounts, open_one, known_one, has_mail, keeps_script, addresses, guards, closes, removes, takes_notices, renews, with_user}
-use Rattle.mailstore.specs.declared.refusal.Refusal.TheVariants.{NoUser, UserExists, AccountClosed, UserIsOpen, UserHasMail, BadScriptName, Memory}
+use Rattle.mailstore.specs.declared.refusal.Refusal.TheVariants.{NoUser, UserExists, AccountClosed, UserHasMail, BadScriptName, Memory}
 use Rattle.sessions.specs.Limits.{script_limit, IsScriptName}
 use Rattle.sessions.specs.Replies.{accepted}
 use Rattle.sessions.specs.Scripts.{RepliesToPut, IsValid}

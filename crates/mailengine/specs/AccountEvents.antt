@@ -20,7 +20,7 @@ use Rattle.sessions.specs.Scripts.{Where}
 use Rattle.mailengine.specs.declared.answer.Answer.{Answer}
 use Rattle.mailengine.specs.declared.answer.Answer.TheVariants.{Delivered, Added, Imported, Taken, MailTaken, Refused}
 use Rattle.mailengine.specs.Limits.{limit_refusal, is_user_name, IsNewUser}
-use Rattle.mailengine.specs.Importable.{may_guard}
+use Rattle.mailengine.specs.Importable.{may_guard, have_short_flags}
 use Rattle.mailengine.specs.Sound.{IsSound}
 use Rattle.mailengine.specs.Terms.{Terms}
 use Rattle.mailengine.specs.Upkeep.{rounds, kept_password}
@@ -114,10 +114,12 @@ Addition accounts name address salt password answer later =
 
 -- ---- an account that comes whole, as a text says it (`whole`)
 
--- an account of this text may be kept: its name is a user's, its password one that accounts have, and what the text makes is sound
+-- an account of this text may be kept: its name is a user's, its password one that accounts have, its copies have no longer flags than a
+-- delivery gives them, and what the text makes is sound
 pub record IsImportable (head : Head) (parts : List Part) : Type 0 where
   pub named : is_user_name head.owner.name ≡ true
   pub guarded : may_guard (password_of head) ≡ true
+  pub flagged : have_short_flags parts ≡ true
   pub sound : IsSound (whole head parts empty)
 
 -- it is there, as the text says

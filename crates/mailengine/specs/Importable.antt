@@ -1,8 +1,8 @@
--- What is asked of the scripts and of the password of a text, so that its account may be kept.
+-- What is asked of the scripts, the flags and the password of a text, so that its account may be kept.
 use Rattle.std.specs.Prelude.{◌≤◌, ◌==◌, ◌&&◌, ◌||◌, ℕ, Bool, true, false, not, nat_le, List, length}
-use Rattle.std.specs.List.{AllByRecursion, count_by}
+use Rattle.std.specs.List.{AllByRecursion, count_by, list_all}
 use Rattle.accountfiles.specs.declared.part.Part.{Part}
-use Rattle.accountfiles.specs.declared.part.Part.TheVariants.{Script}
+use Rattle.accountfiles.specs.declared.part.Part.TheVariants.{Script, Mail, Copy}
 use Rattle.sessions.specs.Limits.{scripts_limit}
 use Rattle.mailstore.specs.Account.{Password}
 use Rattle.mailengine.specs.Sound.{IsSoundScript}
@@ -21,6 +21,20 @@ is_a_script part = false
 pub record HasSoundScripts (parts : List Part) : Type 0 where
   pub each : AllByRecursion IsSoundPart parts
   pub few : count_by is_a_script parts ≤ scripts_limit
+
+-- how many octets the flags of a copy have at most, as a text: a hundred names of 128 octets, with a blank between two
+abbrev pub flags_limit : ℕ
+flags_limit = 12899
+
+-- a copy with no longer flags, or no copy
+abbrev pub has_short_flags : Part → Bool
+has_short_flags (Mail number folder message flags) = nat_le (length flags) flags_limit
+has_short_flags (Copy number folder first flags) = nat_le (length flags) flags_limit
+has_short_flags part = true
+
+-- no copy has longer flags
+abbrev pub have_short_flags : List Part → Bool
+have_short_flags parts = list_all has_short_flags parts
 
 -- how many octets the salt of such a password has at most
 abbrev pub salt_limit : ℕ

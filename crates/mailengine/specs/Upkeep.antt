@@ -4,7 +4,6 @@ use Rattle.std.specs.FinMap.{get, insert}
 use Rattle.saslplain.specs.Password.{digest_of}
 use Rattle.sievelex.specs.declared.fault.ScriptFault.{ScriptFault}
 use Rattle.mailstore.specs.Account.{Account, Accounts, Password, is_closed, open_one, known_one, has_mail, keeps_script, keeps_active, addresses, guards, closes, opens, takes_notices, removes}
-use Rattle.mailstore.specs.declared.refusal.Refusal.{Refusal}
 use Rattle.mailstore.specs.declared.refusal.Refusal.TheVariants.{NoUser, BadUser, BadScriptName, ScriptTooLarge, TooManyScripts, UserIsOpen, UserHasMail}
 use Rattle.sessions.specs.Limits.{script_limit, IsScriptName}
 use Rattle.sessions.specs.Scripts.{Where, HasRoom, IsValid, IsVerdict}

@@ -131,6 +131,7 @@ fn report_of(plan: Plan<'_>) -> Report
         message: _,
         sender: _,
         moment: _,
+        filed: _,
         report,
         reply: _,
     } = plan;

@@ -6,7 +6,7 @@ ghost use Rattle.mailstore.specs.Connection.{IsSettled};
 ghost use Rattle.mailstore.specs.declared.refusal.Refusal.TheVariants.{BadAccount};
 ghost use Rattle.mailengine.specs.AccountEvents.{IsImportable};
 ghost use Rattle.mailengine.specs.Hosts.{ActsImport, RefusesImport};
-ghost use Rattle.mailengine.specs.Importable.{HasSoundScripts, may_guard};
+ghost use Rattle.mailengine.specs.Importable.{HasSoundScripts, may_guard, has_short_flags as has_short_flags_of, have_short_flags};
 ghost use Rattle.mailengine.specs.Sound.{IsSoundScript};
 
 use crate::standing::read_standing;
@@ -22,6 +22,9 @@ use std::alloc::{AllocError, Global};
 /// How many octets the salt of a password that comes with an account has at most.
 const MAX_SALT: usize = 64;
 
+/// How many octets the flags of a copy have at most, as a text: a hundred names of 128 octets, with a blank between two.
+const MAX_FLAGS: usize = 12_899;
+
 /// Makes the account of a text whole, in one transaction, which is its last act: its scripts, folders, queue, notices, moments of
 /// replies and numbers, open or closed as the text says. A closed account of the name that has no mail is replaced: of its moments of
 /// replies those stay that are later than the text's, or of which the text has none.
@@ -31,9 +34,10 @@ const MAX_SALT: usize = 64;
 /// # Errors
 ///
 /// In this order: [`Refusal::BadAccount`] where the name is no user's name, the address isn't an addr-spec alone (RFC 5322, 3.4.1), the
-/// password has rounds that are neither 10,000 nor 0, a salt of more than 64 octets or no digest, a script isn't valid, has more than
-/// 262,144 octets or a name that none may have, or there are more than 32: the store isn't asked then. Then [`Refusal::UserExists`] for a name whose account is open, and [`Refusal::UserHasMail`] for a closed one with messages,
-/// which would go. [`Refusal::Memory`] may come at any place, [`Refusal::Store`] at any place after the first. The store then stays
+/// password has rounds that are neither 10,000 nor 0, a salt of more than 64 octets or no digest, a copy has flags of more than 12,899
+/// octets, a script isn't valid, has more than 262,144 octets or a name that none may have, or there are more than 32: the store isn't
+/// asked then. Then [`Refusal::UserExists`] for a name whose account is open, and [`Refusal::UserHasMail`] for a closed one with
+/// messages, which would go. [`Refusal::Memory`] may come at any place, [`Refusal::Store`] at any place after the first. The store then stays
 /// as it was.
 pub fn import<S: Alter>(
     alloc: Global,
@@ -73,7 +77,26 @@ fn is_importable(alloc: Global, file: &AccountFile) -> Result<bool, AllocError>
     if !may_guard(owner, file.head.numbers.rounds) {
         return Ok(false);
     }
+    if !have_short_flags(file.parts.as_slice()) {
+        return Ok(false);
+    }
     has_sound_scripts(alloc, file.parts.as_slice())
+}
+
+/// Whether no copy has longer flags than a delivery gives: they are read as the message moves.
+fn have_short_flags(parts: &[Part]) -> bool
+    ensures { result ≡ have_short_flags parts.now }
+{
+    parts.iter().all(|part| has_short_flags(part))
+}
+
+fn has_short_flags(part: &Part) -> bool
+    ensures { result ≡ has_short_flags_of part.now }
+{
+    match part {
+        Part::Mail { flags, .. } | Part::Copy { flags, .. } => flags.len() <= MAX_FLAGS,
+        _ => true,
+    }
 }
 
 /// Whether a password of so many rounds may be kept: each login takes their time, by anyone and with any password.

@@ -1,5 +1,5 @@
 //! Laws of the definitions, each the contract of a function that does nothing.
-ghost use Rattle.std.specs.Prelude.{◌≡◌, ℕ, true, List, Option, None};
+ghost use Rattle.std.specs.Prelude.{◌≡◌, ℕ, true, List, length, Option, Some, None};
 ghost use Rattle.std.specs.FinMap.{empty, get, insert};
 ghost use Rattle.accountfiles.specs.Text.{IsTextOf};
 ghost use Rattle.accountfiles.specs.declared.head.Head.{Head};
@@ -8,11 +8,13 @@ ghost use Rattle.mailengine.specs.declared.event.Event.{Event};
 ghost use Rattle.mailengine.specs.declared.answer.Answer.{Answer};
 ghost use Rattle.mailengine.specs.declared.answer.Answer.TheVariants.{Imported};
 ghost use Rattle.mailengine.specs.AccountEvents.{Importing};
-ghost use Rattle.mailengine.specs.Importable.{may_guard};
+ghost use Rattle.mailengine.specs.Importable.{may_guard, have_short_flags};
 ghost use Rattle.mailengine.specs.Limits.{is_user_name};
 ghost use Rattle.mailengine.specs.Sound.{IsSound, AreSound};
 ghost use Rattle.mailengine.specs.World.{World, Next, Runs};
-ghost use Rattle.mailstore.specs.Account.{Account, Accounts};
+ghost use Rattle.mailtables.specs.Rows.{Tables};
+ghost use Rattle.mailstore.specs.Account.{Account, Accounts, flags_in, messages_in};
+ghost use Rattle.mailstore.specs.Shows.{ShowsAccounts};
 ghost use Rattle.mailstore.specs.Whole.{whole, IsCopyOf};
 ghost use Rattle.mailengine.specs.OwnActs.{Act, Alone, IsAlone};
 ghost use Rattle.mailengine.specs.Spacing.{Entry, GoOn, IsMove, IsSpaced, IsSpacing};
@@ -40,12 +42,18 @@ pub fn spaced_across_a_move()
 {}
 
 /// A text of an account, imported under a name that nobody has, is just that account again, however it is read. Its password is one
-/// that accounts have.
+/// that accounts have, and its copies have no longer flags than deliveries give.
 pub fn copy_comes_back()
     ensures read { (text user : List ℕ) (a : Account) (head : Head) (parts : List Part) → IsCopyOf text user a → IsTextOf text head parts → (head.owner.name ≡ user) × (whole head parts empty ≡ a) }
     ensures imported { (text user : List ℕ) (a : Account) (head : Head) (parts : List Part) (accounts later : Accounts) (answer : Answer)
-        → IsCopyOf text user a → IsTextOf text head parts → is_user_name user ≡ true → may_guard a.password ≡ true → IsSound a → get accounts user ≡ None
+        → IsCopyOf text user a → IsTextOf text head parts → is_user_name user ≡ true → may_guard a.password ≡ true → have_short_flags parts ≡ true → IsSound a → get accounts user ≡ None
         → Importing accounts head parts answer later → (answer ≡ Imported) × (later ≡ insert accounts user a) }
+{}
+
+/// Each message of an account that tables show has its flags: each folder has as many of them as messages.
+pub fn flags_beside_messages()
+    ensures { (tables : Tables) (accounts : Accounts) (user : List ℕ) (a : Account) → ShowsAccounts tables accounts → get accounts user ≡ Some a
+        → (folder : List ℕ) → length (flags_in a.flags folder) ≡ length (messages_in a.folders folder) }
 {}
 
 /// Sound accounts stay sound, whatever happens to them and whatever is answered.

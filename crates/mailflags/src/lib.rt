@@ -4,8 +4,10 @@
 mod flags;
 pub mod laws;
 mod name;
+mod placement;
 mod system;
 
 pub use flags::Flags;
 pub use name::{MAX_FLAG_LEN, are_same, is_flag};
+pub use placement::Placement;
 pub use system::SystemFlag;

@@ -3,7 +3,7 @@ use Rattle.std.proofs.Common.{◌≡◌, ℕ, List, [], ◌∷◌, drop, Option,
 use Rattle.sqlite.specs.State.{State, HasCleanDisk}
 use Rattle.mailtables.proofs.WriteLemmas.{clean_before}
 use Rattle.mailstore.specs.Account.{Accounts, messages_in}
-use Rattle.mailstore.specs.CopyRows.{HasFirst}
+use Rattle.mailstore.specs.CopyRows.{HasFirst, IsFirstIn}
 use Rattle.mailstore.specs.Promises.{HasOurTables, Keeps, Reads, OfOpen}
 use Rattle.mailstore.specs.declared.refusal.Refusal.{Refusal}
 use Rattle.mailstore.specs.declared.taking.NumberedMessage.{NumberedMessage}
@@ -61,31 +61,33 @@ failed_is user folder why m a b is moves clean w shown =
 
 -- ---- one message
 module _ (user folder : List ℕ) (a b : State) (r : Result (Option NumberedMessage) Refusal) (first : Option NumberedMessage) (was : r ≡ Ok first)
-    (reads : Reads user (λ first account. HasFirst first (messages_in account.folders folder)) a b r) (message : NumberedMessage) (is : first ≡ Some message) where
+    (reads : Reads user (IsFirstIn folder) a b r) (message : NumberedMessage) (is : first ≡ Some message) where
   some_first : (messages : List (List ℕ)) → HasFirst (Some message) messages → messages ≡ message.message ∷ drop 1 messages
   some_first [] has = absurd (let no = has in cc)
   some_first (other ∷ more) has = let same : message.message ≡ other = cc in ap (λ m. m ∷ more) (sym same)
 
-  is_first : HasCleanDisk b → (accounts : Accounts) → HasAccounts a accounts → IsFirst accounts user folder message.message
+  is_first : HasCleanDisk b → (accounts : Accounts) → HasAccounts a accounts → IsFirst accounts user folder message.message message.flags
   is_first clean accounts shown =
-      let own = subst (λ q. IfOk q (λ x. OfOpen accounts user (λ account. HasFirst x (messages_in account.folders folder)))) was (reads.found clean accounts (read_shows a b r first was reads.keeps clean accounts shown).0) in
-      (own.0, drop 1 (messages_in own.0.folders folder), own.1, some_first (messages_in own.0.folders folder) (subst (λ f. HasFirst f (messages_in own.0.folders folder)) is own.2))
+      let own = subst (λ q. IfOk q (λ x. OfOpen accounts user (IsFirstIn folder x))) was (reads.found clean accounts (read_shows a b r first was reads.keeps clean accounts shown).0) in
+      let there = subst (λ f. IsFirstIn folder f own.0) is own.2 in
+      (own.0, drop 1 (messages_in own.0.folders folder), own.1, some_first (messages_in own.0.folders folder) there.message, sym there.flags)
 
-  pub took_first : (c : State) (q : Result (Unit {0}) Refusal) (kept : Kept) → WasClean b c → ActsMailTaking user folder a c q → kept.message ≡ message.message → kept.answer ≡ answer_by (λ done. MailTaken) q → MovesFirst user folder (Ok kept) a c
-  took_first c q kept clean_then acts same answer clean w shown =
+  pub took_first : (c : State) (q : Result (Unit {0}) Refusal) (kept : Kept) → WasClean b c → ActsMailTaking user folder a c q → kept.message ≡ message.message → kept.flags ≡ message.flags → kept.answer ≡ answer_by (λ done. MailTaken) q → MovesFirst user folder (Ok kept) a c
+  took_first c q kept clean_then acts same flagged answer clean w shown =
       let it = taking_endures user folder a c q acts clean w shown q refl in (
         it.0,
-        (subst (λ m. IsFirst w.accounts user folder m) (sym same) (is_first (clean_then clean) w.accounts shown), subst (λ o. TakesFirst w.accounts user folder o it.0) (sym answer) it.1),
+        (subst (λ m. IsFirst w.accounts user folder m kept.flags) (sym same) (subst (IsFirst w.accounts user folder message.message) (sym flagged) (is_first (clean_then clean) w.accounts shown)), subst (λ o. TakesFirst w.accounts user folder o it.0) (sym answer) it.1),
         subst (λ o. Endures a w.accounts c it.0 (ShowsTried (TakeMail user folder) o w)) (sym answer) it.2,
       )
 
 -- the same as what became of a message
-pub moved_is : (user folder : List ℕ) (kept : Kept) (mail : KeptMail) (m : Moving) (a b : State) → m ≡ moving.Kept mail kept.answer → mail.user ≡ user → mail.folder ≡ folder → mail.message ≡ kept.message → MovesFirst user folder (Ok kept) a b → MovesOn m a b
-moved_is user folder kept mail m a b is own_user own_folder own_message moves = subst (λ x. MovesOn x a b) (sym is) (λ clean w shown.
+pub moved_is : (user folder : List ℕ) (kept : Kept) (mail : KeptMail) (m : Moving) (a b : State) → m ≡ moving.Kept mail kept.answer → mail.user ≡ user → mail.folder ≡ folder → mail.message ≡ kept.message → mail.flags ≡ kept.flags → MovesFirst user folder (Ok kept) a b → MovesOn m a b
+moved_is user folder kept mail m a b is own_user own_folder own_message own_flags moves = subst (λ x. MovesOn x a b) (sym is) (λ clean w shown.
     let it = moves clean w shown in (
       it.0,
       (
-        subst (λ u. IsFirst w.accounts u mail.folder mail.message) (sym own_user) (subst (λ f. IsFirst w.accounts user f mail.message) (sym own_folder) (subst (λ t. IsFirst w.accounts user folder t) (sym own_message) it.1.0)),
+        subst (λ u. IsFirst w.accounts u mail.folder mail.message mail.flags) (sym own_user) (subst (λ f. IsFirst w.accounts user f mail.message mail.flags) (sym own_folder)
+            (subst (λ t. IsFirst w.accounts user folder t mail.flags) (sym own_message) (subst (IsFirst w.accounts user folder kept.message) (sym own_flags) it.1.0))),
         subst (λ u. TakesFirst w.accounts u mail.folder kept.answer it.0) (sym own_user) (subst (λ f. TakesFirst w.accounts user f kept.answer it.0) (sym own_folder) it.1.1),
       ),
       subst (λ u. Endures a w.accounts b it.0 (ShowsTried (TakeMail u mail.folder) kept.answer w)) (sym own_user)

@@ -1,8 +1,8 @@
 -- What becomes of a message that moves on.
-use Rattle.std.specs.Prelude.{◌≡◌, ℕ, Bool, List, [], ◌∷◌, ◌++◌, Some, Result, Ok, Err, IsTrue}
+use Rattle.std.specs.Prelude.{◌≡◌, ℕ, Bool, List, [], ◌∷◌, ◌++◌, Some, Result, Ok, Err, IsTrue, slice_get}
 use Rattle.sqlite_trees.specs.Tree.{Trees}
 use Rattle.sqlite.specs.State.{State, HasCleanDisk}
-use Rattle.mailstore.specs.Account.{Account, Accounts, open_of, messages_in}
+use Rattle.mailstore.specs.Account.{Account, Accounts, open_of, messages_in, flags_in}
 use Rattle.mailstore.specs.Refusals.{IsTransient}
 use Rattle.sessions.specs.Acts.{HasAccounts}
 use Rattle.mailsinks.specs.declared.kept.KeptMail.{KeptMail}
@@ -17,18 +17,19 @@ use Rattle.mailmoves.specs.declared.moving.Moving.{Moving}
 use Rattle.mailmoves.specs.declared.moving.Moving.TheVariants as moving
 use Rattle.mailmoves.specs.declared.moving.Why.{Why}
 
--- a message is the first of the folder of the user's open account
-abbrev pub IsFirst : Accounts → List ℕ → List ℕ → List ℕ → Type 0
-IsFirst accounts user folder message =
+-- a message is the first of the folder of the user's open account, and these are its flags there
+abbrev pub IsFirst : Accounts → List ℕ → List ℕ → List ℕ → List ℕ → Type 0
+IsFirst accounts user folder message flags =
     (account : Account) × (more : List (List ℕ)) × (open_of accounts user ≡ Some account) × (messages_in account.folders folder ≡ message ∷ more)
+    × (slice_get (flags_in account.flags folder) 0 ≡ Some flags)
 
 -- the event that takes the first message of the user's folder was answered so, and led there
 abbrev pub TakesFirst : Accounts → List ℕ → List ℕ → Answer → Accounts → Type 0
 TakesFirst accounts user folder answer later = TurnsBy (λ all. MailTaking all user folder) IsTransient answer accounts later
 
--- the message that is kept was the first of its folder, and then the event that takes it was answered so; or all stays
+-- the message that is kept was the first of its folder, with its flags there, and then the event that takes it was answered so; or all stays
 abbrev pub FirstMoves : List ℕ → List ℕ → Result Kept Why → Accounts → Accounts → Type 0
-FirstMoves user folder (Ok kept) accounts later = IsFirst accounts user folder kept.message × TakesFirst accounts user folder kept.answer later
+FirstMoves user folder (Ok kept) accounts later = IsFirst accounts user folder kept.message kept.flags × TakesFirst accounts user folder kept.answer later
 FirstMoves user folder (Err why) accounts later = later ≡ accounts
 
 -- the event that takes it out, where that was refused
@@ -45,7 +46,7 @@ MovesFirst user folder result old new =
 -- ---- whichever folder it is
 
 abbrev pub Moves : Moving → Accounts → Accounts → Type 0
-Moves (moving.Kept mail answer) accounts later = IsFirst accounts mail.user mail.folder mail.message × TakesFirst accounts mail.user mail.folder answer later
+Moves (moving.Kept mail answer) accounts later = IsFirst accounts mail.user mail.folder mail.message mail.flags × TakesFirst accounts mail.user mail.folder answer later
 Moves other accounts later = later ≡ accounts
 
 abbrev pub TriedMoving : Moving → World → Trees → Type 0

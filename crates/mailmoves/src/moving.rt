@@ -53,6 +53,8 @@ pub enum Why {
 pub struct Kept {
     pub number: u64,
     pub message: Octets,
+    /// The text that names its flags.
+    pub flags: Octets,
     pub answer: Answer,
 }
 
@@ -72,7 +74,7 @@ pub fn move_first<S: Alter, T: MailSink>(
 ) -> Result<Kept, Why>
     ensures moves { MovesFirst user.now folder.now result (state S.Store store.old) (state S.Store store.new) }
     ensures clean { WasClean (state S.Store store.old) (state S.Store store.new) }
-    ensures keeps { IfOk result (λ kept. IsTrue T.tells → T.kept sink.new ≡ T.kept sink.old ++ kept_mail user.now folder.now kept.number kept.message ∷ []) }
+    ensures keeps { IfOk result (λ kept. IsTrue T.tells → T.kept sink.new ≡ T.kept sink.old ++ kept_mail user.now folder.now kept.number kept.message kept.flags ∷ []) }
 {
     let first = match first_message(store, user, folder) {
         Ok(first) => first,
@@ -81,18 +83,21 @@ pub fn move_first<S: Alter, T: MailSink>(
     let Some(first) = first else {
         return Err(Why::Gone);
     };
-    if let Err(error) = sink.keep(user, folder, first.number, first.message.as_slice()) {
+    let (message, flags) = (first.message.as_slice(), first.flags.as_slice());
+    if let Err(error) = sink.keep(user, folder, first.number, message, flags) {
         return Err(Why::Sink(error));
     }
     match store.take_mail(user, folder) {
         Ok(()) => Ok(Kept {
             number: first.number,
             message: first.message,
+            flags: first.flags,
             answer: Answer::MailTaken,
         }),
         Err(refusal) => Ok(Kept {
             number: first.number,
             message: first.message,
+            flags: first.flags,
             answer: Answer::Refused(refusal),
         }),
     }

@@ -121,7 +121,7 @@ impl Route {
 
     /// What became of a message that is kept.
     fn went(&mut self, filed: Filed, kept: Kept, now: u64) -> Moving
-        ensures { result ≡ Moving.Kept (record { user = filed.user; folder = filed.folder; number = kept.number; message = kept.message }) kept.answer }
+        ensures { result ≡ Moving.Kept (record { user = filed.user; folder = filed.folder; number = kept.number; message = kept.message; flags = kept.flags }) kept.answer }
     {
         self.note(&filed, &kept.answer, now);
         let mail = KeptMail {
@@ -129,6 +129,7 @@ impl Route {
             folder: filed.folder,
             number: kept.number,
             message: kept.message,
+            flags: kept.flags,
         };
         Moving::Kept(mail, kept.answer)
     }

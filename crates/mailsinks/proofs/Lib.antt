@@ -1,1 +1,2 @@
 mod FileNameLemmas
+mod LetterLemmas

@@ -1,5 +1,5 @@
 -- The names of files that keep messages.
-use Rattle.std.specs.Prelude.{ℕ, List, length, ◌++◌, codes, decimal}
+use Rattle.std.specs.Prelude.{ℕ, List, [], ◌∷◌, length, ◌++◌, codes, decimal}
 use Rattle.std.specs.Int.{w64, to_be_bytes}
 use Rattle.sha2.specs.Sha256.{sha256}
 use Rattle.hex.specs.Hex.{encode_lower}
@@ -15,3 +15,8 @@ joined user folder message = counted user ++ counted folder ++ message
 -- the number in decimal, a dot, and the digest of user, folder and message in hexadecimal digits
 abbrev pub file_name : List ℕ → List ℕ → ℕ → List ℕ → List ℕ
 file_name user folder number message = decimal number ++ (codes "." ++ encode_lower (sha256 (joined user folder message)))
+
+-- where the file of that name stands in a Maildir: in `new`, and where its message has letters in `cur`, with them behind its name
+abbrev pub place_by : List ℕ → List ℕ → List ℕ
+place_by name [] = codes "new/" ++ name
+place_by name (letter ∷ more) = codes "cur/" ++ (name ++ (codes ":2," ++ letter ∷ more))

@@ -2,9 +2,9 @@
 use Rattle.std.specs.Prelude.{◌≡◌, ℕ, ◌⊎◌, List, [], ◌∷◌, ◌++◌}
 use Rattle.mailsinks.specs.declared.kept.KeptMail.{KeptMail}
 
--- the message that has this number in the user's folder
-abbrev pub kept_mail : List ℕ → List ℕ → ℕ → List ℕ → KeptMail
-kept_mail user folder number message = record { user = user; folder = folder; number = number; message = message }
+-- the message that has this number in the user's folder, with its flags there
+abbrev pub kept_mail : List ℕ → List ℕ → ℕ → List ℕ → List ℕ → KeptMail
+kept_mail user folder number message flags = record { user = user; folder = folder; number = number; message = message; flags = flags }
 
 -- after a try that was refused: the messages as they were, or with this one at their end
 abbrev pub MayKeep : List KeptMail → KeptMail → List KeptMail → Type 0

@@ -1,9 +1,12 @@
-//! The names of files that keep messages.
+//! The names of files that keep messages, and where they stand.
 ghost use Rattle.std.specs.Prelude.{◌≡◌, ◌++◌, IfOk};
+ghost use Rattle.std.specs.Str.{IsUtf8};
 ghost use Rattle.std.specs.String.{string_bytes};
 ghost use Rattle.sha2.specs.Sha256.{sha256};
-ghost use Rattle.mailsinks.specs.FileName.{counted, joined, file_name};
+ghost use Rattle.mailflags.specs.Flags.{named, letters};
+ghost use Rattle.mailsinks.specs.FileName.{counted, joined, file_name, place_by};
 
+use mailflags::Flags;
 use sha2::{Digest, Sha256};
 use std::alloc::{AllocError, Global};
 use std::format;
@@ -23,6 +26,19 @@ pub fn name_of(
 {
     let digest = hex::encode(alloc, digest_of(user, folder, message))?;
     format!(in alloc; "{number}.{digest}")
+}
+
+/// Where the file of that name stands in a Maildir, by the text that names its message's flags: in `new`; where some of them are system
+/// flags in `cur`, with their letters behind its name, as `cur/NAME:2,FS`. Other flags have no letters, and are told nowhere.
+pub fn place_of(alloc: Global, name: &str, flags: &[u8]) -> Result<String, AllocError>
+    ensures { IfOk result (λ place. string_bytes place ≡ place_by name.now (letters (named flags.now))) }
+{
+    let letters = Flags::read(alloc, flags)?.letters(alloc)?;
+    match str::from_utf8(letters.as_slice()) {
+        Ok("") => format!(in alloc; "new/{name}"),
+        Ok(letters) => format!(in alloc; "cur/{name}:2,{letters}"),
+        Err(_) => format!(in alloc; "new/{name}"),
+    }
 }
 
 /// The digest of a user, a folder and a message, each with its own place in what is hashed.

@@ -1,15 +1,15 @@
 //! A sink over a Maildir.
 ghost use Rattle.std.specs.Prelude.{◌≡◌, []};
 
-use crate::file_name::name_of;
+use crate::file_name::{name_of, place_of};
 use crate::sink::{MailSink, SinkError};
 use std::fs::File;
 use std::io::{ErrorKind, Write};
 use std::{format, fs, io};
 
-/// Keeps messages in a Maildir, each as a file of `new`: one for any program that reads Maildirs.
+/// Keeps messages in a Maildir, each as a file of `new`, or with system flags of `cur`: one for any program that reads Maildirs.
 ///
-/// A file is written under `tmp`, and stands in `new` only once all of it is on the disk. Memory is that of two paths.
+/// A file is written under `tmp`, and stands there only once all of it is on the disk. Memory is that of two paths.
 #[derive(Drop)]
 pub struct Maildir<'a> {
     rt: &'a HostRuntime,
@@ -78,13 +78,21 @@ impl MailSink for Maildir<'_> {
         folder: &[u8],
         number: u64,
         message: &[u8],
+        flags: &[u8],
     ) -> Result<(), SinkError> {
         self.cause = None;
         let Some(path) = &self.path else {
             return Err(SinkError::NoMaildir);
         };
         let name = name_of(self.rt.alloc(), user, folder, number, message)?;
-        match keep_in(self.rt, path.as_str(), name.as_str(), message) {
+        let place = place_of(self.rt.alloc(), name.as_str(), flags)?;
+        match keep_in(
+            self.rt,
+            path.as_str(),
+            name.as_str(),
+            place.as_str(),
+            message,
+        ) {
             Ok(()) => Ok(()),
             Err(error) => Err(self.refusal(error)),
         }
@@ -134,17 +142,37 @@ fn make_directory(rt: &HostRuntime, path: &str) -> io::Result<()> {
     }
 }
 
-/// Puts a message into a Maildir under a name. On Ok the file and its name are on the disk; a file that doesn't come into
-/// `new` isn't left under `tmp` either.
-fn keep_in(rt: &HostRuntime, path: &str, name: &str, message: &[u8]) -> io::Result<()> {
+/// Puts a message into a Maildir under a name, at a place in it. On Ok the file and its name are on the disk; a file that doesn't come to
+/// its place isn't left under `tmp` either.
+fn keep_in(
+    rt: &HostRuntime,
+    path: &str,
+    name: &str,
+    place: &str,
+    message: &[u8],
+) -> io::Result<()> {
     let first = format!(in rt.alloc(); "{path}/tmp/{name}")?;
-    let last = format!(in rt.alloc(); "{path}/new/{name}")?;
-    let new = format!(in rt.alloc(); "{path}/new")?;
+    let last = format!(in rt.alloc(); "{path}/{place}")?;
+    let directory = directory_of(rt, path, place)?;
     if let Err(error) = write_and_move(rt, first.as_str(), last.as_str(), message) {
         let _ = fs::remove_file(rt, first.as_str());
         return Err(error);
     }
-    File::open(rt, new.as_str())?.sync_all()
+    File::open(rt, directory.as_str())?.sync_all()
+}
+
+/// The directory of a Maildir in which a place is. `cur`, which a Maildir may lack that no program has read, is made where it isn't there,
+/// and its name is on the disk then.
+fn directory_of(rt: &HostRuntime, path: &str, place: &str) -> io::Result<String> {
+    if !place.starts_with("cur/") {
+        return Ok(format!(in rt.alloc(); "{path}/new")?);
+    }
+    let cur = format!(in rt.alloc(); "{path}/cur")?;
+    if !is_directory(rt, cur.as_str())? {
+        make_directory(rt, cur.as_str())?;
+        File::open(rt, path)?.sync_all()?;
+    }
+    Ok(cur)
 }
 
 /// Writes a file and gives it its last path once all of it is on the disk. A file that has that path is replaced.

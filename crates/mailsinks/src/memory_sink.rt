@@ -79,6 +79,7 @@ impl MailSink for MemorySink {
         folder: &[u8],
         number: u64,
         message: &[u8],
+        flags: &[u8],
     ) -> Result<(), SinkError> {
         let calls = self.fail_after;
         self.fail_after = calls.and_then(|calls| calls.checked_sub(1));
@@ -90,6 +91,7 @@ impl MailSink for MemorySink {
             folder: Octets::from_slice(self.alloc, folder)?,
             number,
             message: Octets::from_slice(self.alloc, message)?,
+            flags: Octets::from_slice(self.alloc, flags)?,
         };
         self.messages.push(mail)?;
         Ok(())

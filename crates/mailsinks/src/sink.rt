@@ -70,8 +70,9 @@ pub trait MailSink {
         ensures same { IsTrue tells → kept self.new ≡ kept self.old }
         ensures denied { IfErr result (refuses self.old) };
 
-    /// Keeps the message that has this number in the user's folder, so that a crash after Ok doesn't lose it. What a try
-    /// before kept of the same message under the same number isn't kept twice (a Maildir: while it is still in `new`).
+    /// Keeps the message that has this number in the user's folder, with the flags that the text names, so that a crash after Ok doesn't
+    /// lose it. What a try before kept of the same message under the same number isn't kept twice (a Maildir: while it is where that put
+    /// it).
     ///
     /// # Errors
     ///
@@ -82,10 +83,11 @@ pub trait MailSink {
         folder: &[u8],
         number: u64,
         message: &[u8],
+        flags: &[u8],
     ) -> Result<(), SinkError>
         ensures stays { (path : List ℕ) → is_at self.old path → is_at self.new path }
-        ensures kept { OnOk result (IsTrue tells → kept self.new ≡ kept self.old ++ kept_mail user.now folder.now number message.now ∷ []) }
-        ensures refused { OnErr result (IsTrue tells → MayKeep (kept self.old) (kept_mail user.now folder.now number message.now) (kept self.new)) }
+        ensures kept { OnOk result (IsTrue tells → kept self.new ≡ kept self.old ++ kept_mail user.now folder.now number message.now flags.now ∷ []) }
+        ensures refused { OnErr result (IsTrue tells → MayKeep (kept self.old) (kept_mail user.now folder.now number message.now flags.now) (kept self.new)) }
         ensures denied { IfErr result (refuses self.old) };
 
     /// What the system said of the last failure; none where it said nothing.

@@ -1,6 +1,6 @@
 -- Examples of what writes make of an account, and near misses.
-use Rattle.std.proofs.Common.{◌≡◌, ℕ, suc, cond, List, [], ◌∷◌, codes, drop, unwrap_or, Some, None, refl, ap, ◌∙◌}
-use Rattle.std.specs.FinMap.{get, get-remove}
+use Rattle.std.proofs.Common.{◌≡◌, ℕ, suc, cond, List, [], ◌∷◌, ◌++◌, codes, drop, unwrap_or, Some, None, refl, ap, ◌∙◌}
+use Rattle.std.specs.FinMap.{get, insert, get-remove}
 use Rattle.std.proofs.lemmas.Cmp.{nat_list_cmp_total}
 use Rattle.sqlite_typed.proofs.TestLemmas.{bytes_eq_refl}
 use Rattle.mailtables.specs.declared.queue.Kind.TheVariants.{Redirect, Reply}
@@ -31,6 +31,19 @@ first_leaves a has = ap (λ o. get (holding a.folders one (drop 1 (unwrap_or o [
 -- a folder goes with its last message
 folder_goes : (a : Account) → get a.folders one ≡ Some (codes "M1" ∷ []) → get (takes_mail one 1 a).folders one ≡ None
 folder_goes a has = ap (λ o. get (holding a.folders one (drop 1 (unwrap_or o []))) one) has ∙ held_get a.folders one [] one ∙ ap (λ b. cond b None (get a.folders one)) (bytes_eq_refl one)
+
+-- and its flags leave with it
+flags_leave : (a : Account) → get a.flags one ≡ Some (codes "\\Seen" ∷ [] ∷ []) → get (takes_mail one 1 a).flags one ≡ Some ([] ∷ [])
+flags_leave a has = ap (λ o. get (holding a.flags one (drop 1 (unwrap_or o []))) one) has ∙ held_get a.flags one ([] ∷ []) one ∙ ap (λ b. cond b (Some ([] ∷ [])) (get a.flags one)) (bytes_eq_refl one)
+
+-- a copy that is filed has its flags behind those of the others there
+flags_join : (a : Account) → get a.flags one ≡ Some (codes "\\Seen" ∷ [])
+    → (files_copies (record { mailbox = one; flags = codes "\\Flagged" } ∷ []) two a).flags ≡ insert a.flags one (codes "\\Seen" ∷ codes "\\Flagged" ∷ [])
+flags_join a has = ap (λ o. insert a.flags one (unwrap_or o [] ++ codes "\\Flagged" ∷ [])) has
+
+-- near miss: a copy without flags has an empty text in its place, so that the flags stand beside the messages
+no_flags_join : (a : Account) → get a.flags one ≡ Some (codes "\\Seen" ∷ []) → (files_copies (record { mailbox = one; flags = [] } ∷ []) two a).flags ≡ insert a.flags one (codes "\\Seen" ∷ [] ∷ [])
+no_flags_join a has = ap (λ o. insert a.flags one (unwrap_or o [] ++ [] ∷ [])) has
 
 -- near miss: no other folder loses a message
 other_folder_stays : (a : Account) (k : ℕ) → get (takes_mail one k a).folders two ≡ get a.folders two
@@ -70,5 +83,5 @@ one_reply : (a : Account) → a.queue ≡ [] → a.next_out ≡ 7 → (replies_i
 one_reply a none first = rw (none, first) refl
 
 -- near miss: nothing is remembered and no notice is left where the plan has none
-nothing_more : (plan : Plan) (a : Account) → plan.reply ≡ None → plan.report.notice ≡ None → plan.report.sent ≡ [] → delivers plan a ≡ files_copies plan.report.filed plan.message.now a
+nothing_more : (plan : Plan) (a : Account) → plan.reply ≡ None → plan.report.notice ≡ None → plan.report.sent ≡ [] → delivers plan a ≡ files_copies plan.filed plan.message.now a
 nothing_more plan a forgets quiet sends = rw (forgets, quiet, sends) refl

@@ -207,5 +207,6 @@ account_put user address salt rounds digest own s = record {
     stored = numbered_none (λ m. m.id) (message_row user) (own message_tree) s.messages;
     kept = record { present = tt; used = tt; first = tt };
     shown = refl;
+    shown_flags = refl;
   };
 }

@@ -6,6 +6,7 @@ use Rattle.std.proofs.lemmas.List.{map-append, take_more, length-take}
 use Rattle.sqlite_value.specs.declared.value.Value.TheVariants.{Int}
 use Rattle.sqlite_keyed.proofs.ListLemmas.{all-append, all_weaker}
 use Rattle.sqlite_keyed.specs.Lists.{update_where}
+use Rattle.mailflags.specs.declared.placement.Placement.{Placement}
 use Rattle.mailtables.specs.Rows.{Tables, HoldsTables, has_key, added}
 use Rattle.mailtables.proofs.ListLemmas.{owner_key, equal_itself}
 use Rattle.octets.specs.Ascii.{lowered}
@@ -36,7 +37,7 @@ use Rattle.sqlite_rules.proofs.ListLemmas.{has_left, has_last}
 use Rattle.std.specs.List.{AllByRecursion}
 use Rattle.mailstore.specs.MessageRows.{Message, message_row, once_for, GainsOnce}
 use Rattle.mailtables.specs.MessageTable.{message_cells, message_tree}
-use Rattle.mailstore.specs.CopyRows.{Copy, copy_row, message_of, HasCopy, AreKept, ShowsCopies}
+use Rattle.mailstore.specs.CopyRows.{Copy, copy_row, message_of, HasCopy, AreKept, ShowsCopies, filed_from}
 use Rattle.mailtables.specs.CopyTable.{copy_tree}
 use Rattle.mailstore.specs.Shows.{rows_of, IsShown, IsShownOrAbsent, ShowsAccounts}
 use Rattle.mailtables.specs.Schema.{mail_schema}
@@ -79,16 +80,19 @@ turn_more user f xs n i x a b c within was more =
           ∙ ap (λ l. in_turn f n l (made own a)) (sym (take_more xs i x within));
     }
 
-pub copies_more : (user : Bor (List ℕ)) (folders : List (List ℕ)) (n i : ℕ) (name : List ℕ) (a b c : List Change) (folder : Bor (List ℕ)) (k id : ℤ) → i < length folders → folder.now ≡ get_or folders i name → k ≡ pos (n + i) → id ≡ pos n
-    → c ≡ b ++ AddCopy user folder k id ∷ [] → Extends user.now (copies_added user.now n n (take i folders)) a b → Extends user.now (copies_added user.now n n (take (i + 1) folders)) a c
-copies_more user folders n i name a b c folder k id within is number same joined was =
-    let f = λ (j : ℕ) (x : List ℕ). copy_added user.now x (pos j) (pos n) in
-    let one : MakesOwn user.now (f (n + i) (get_or folders i name)) (AddCopy user folder k id) = record {
+pub copies_more : (user : Bor (List ℕ)) (copies : List Placement) (n i : ℕ) (copy : Placement) (a b c : List Change) (folder flags : Bor (List ℕ)) (k id : ℤ) → i < length copies → folder.now ≡ (get_or copies i copy).mailbox
+    → flags.now ≡ (get_or copies i copy).flags → k ≡ pos (n + i) → id ≡ pos n → c ≡ b ++ AddCopy user folder k id flags ∷ [] → Extends user.now (copies_added user.now n n (take i copies)) a b
+    → Extends user.now (copies_added user.now n n (take (i + 1) copies)) a c
+copies_more user copies n i copy a b c folder flags k id within is told number same joined was =
+    let f = λ (j : ℕ) (x : Placement). copy_added user.now x.mailbox (pos j) (pos n) x.flags in
+    let there = get_or copies i copy in
+    let one : MakesOwn user.now (f (n + i) there) (AddCopy user folder k id flags) = record {
       owned = refl;
       makes = λ own.
-          ap (λ x. copy_added user.now x k id own) is ∙ ap (λ j. copy_added user.now (get_or folders i name) j id own) number ∙ ap (λ j. copy_added user.now (get_or folders i name) (pos (n + i)) j own) same;
+          ap (λ x. copy_added user.now x k id flags.now own) is ∙ ap (λ x. copy_added user.now there.mailbox k id x own) told ∙ ap (λ j. copy_added user.now there.mailbox j id there.flags own) number
+          ∙ ap (λ j. copy_added user.now there.mailbox (pos (n + i)) j there.flags own) same;
     } in
-    turn_more user.now f folders n i name a b c within was (extends_one user.now (f (n + i) (get_or folders i name)) b c (AddCopy user folder k id) joined one)
+    turn_more user.now f copies n i copy a b c within was (extends_one user.now (f (n + i) there) b c (AddCopy user folder k id flags) joined one)
 
 pub redirects_more : (user sender message : List ℕ) (targets : List (List ℕ)) (n i : ℕ) (x target : List ℕ) (a b c : List Change) (d : Change) (k : ℤ) → i < length targets → target ≡ get_or targets i x → k ≡ pos (n + i) → c ≡ b ++ d ∷ []
     → MakesOwn user (redirect_added user sender message k target) d → Extends user (sent_on user sender message n (take i targets)) a b → Extends user (sent_on user sender message n (take (i + 1) targets)) a c
@@ -102,12 +106,12 @@ redirects_more user sender message targets n i x target a b c d k within is numb
 
 -- all of them, from no changes on
 pub are_delivery : (user sender : List ℕ) (c : Counters) (plan : Plan) (ds1 kept ds2 ds3 queued ds4 ds5 : List Change) → sender ≡ lowered plan.sender.now → Extends user (counters_raised user c plan) [] ds1
-    → Extends user (message_kept user plan.message.now c.copy plan.report.filed) ds1 kept → Extends user (copies_added user c.copy c.copy plan.report.filed) kept ds2
+    → Extends user (message_kept user plan.message.now c.copy plan.filed) ds1 kept → Extends user (copies_added user c.copy c.copy plan.filed) kept ds2
     → Extends user (sent_on user plan.sender.now plan.message.now c.out plan.report.sent) ds2 ds3 → Extends user (reply_queued user plan.sender.now (c.out + length plan.report.sent) plan.reply) ds3 queued
     → Extends user (reply_put user sender plan.reply) queued ds4 → Extends user (noticed user c.notice plan.moment plan.report.notice) ds4 ds5 → AreDelivery user c plan ds5
 are_delivery user sender c plan ds1 kept ds2 ds3 queued ds4 ds5 is one message copies three reply four five =
-    let two = extends_then user (message_kept user plan.message.now c.copy plan.report.filed) (copies_added user c.copy c.copy plan.report.filed) ds1 kept ds2 message copies in
-    let first = extends_then user (counters_raised user c plan) (copied user plan.message.now c.copy plan.report.filed) [] ds1 ds2 one two in
+    let two = extends_then user (message_kept user plan.message.now c.copy plan.filed) (copies_added user c.copy c.copy plan.filed) ds1 kept ds2 message copies in
+    let first = extends_then user (counters_raised user c plan) (copied user plan.message.now c.copy plan.filed) [] ds1 ds2 one two in
     let second = extends_then user _ (sent_on user plan.sender.now plan.message.now c.out plan.report.sent) [] ds2 ds3 first three in
     let answered = extends_then user _ (reply_queued user plan.sender.now (c.out + length plan.report.sent) plan.reply) [] ds3 queued second reply in
     let put = subst (λ s. Extends user (reply_put user s plan.reply) queued ds4) is four in
@@ -124,7 +128,7 @@ record IsShownBelow (user : List ℕ) (last : Counters) (copy notice : ℕ) (a :
   queue : ShowsQueue user (own outgoing_tree) a.queue a.next_out
   replies : ShowsReplies user (own reply_tree) a.replies
   notices : ShowsNotices user (own notice_tree) a.notices notice
-  copies : ShowsCopies user (own copy_tree) (own message_tree) a.folders copy
+  copies : ShowsCopies user (own copy_tree) (own message_tree) a.folders a.flags copy
 
 -- ---- messages and copies
 
@@ -163,7 +167,7 @@ module _ (user : List ℕ) (last : Counters) where
           queue = s.queue;
           replies = s.replies;
           notices = subst (ShowsNotices user (own notice_tree) a.notices) notice s.notices;
-          copies = subst (ShowsCopies user (own copy_tree) (own message_tree) a.folders) copy s.copies;
+          copies = subst (ShowsCopies user (own copy_tree) (own message_tree) a.folders a.flags) copy s.copies;
         },
         out,
       )
@@ -177,16 +181,24 @@ module _ (user : List ℕ) (last : Counters) where
     queue = s.queue;
     replies = s.replies;
     notices = subst (ShowsNotices user (own notice_tree) a.notices) n s.notices;
-    copies = subst (ShowsCopies user (own copy_tree) (own message_tree) a.folders) c s.copies;
+    copies = subst (ShowsCopies user (own copy_tree) (own message_tree) a.folders a.flags) c s.copies;
   }
 
-  folded : (cs : List Copy) (from : Folders) (c : Copy) → fold (λ folders copy. filed folders copy.folder copy.message) from (cs ++ c ∷ []) ≡ filed (fold (λ folders copy. filed folders copy.folder copy.message) from cs) c.folder c.message
-  folded [] from c = refl
-  folded (d ∷ cs) from c = folded cs (filed from d.folder d.message) c
+  folded : (what : Copy → List ℕ) (cs : List Copy) (from : Folders) (c : Copy) → fold (λ there copy. filed there copy.folder (what copy)) from (cs ++ c ∷ []) ≡ filed (fold (λ there copy. filed there copy.folder (what copy)) from cs) c.folder (what c)
+  folded what [] from c = refl
+  folded what (d ∷ cs) from c = folded what cs (filed from d.folder (what d)) c
+
+  -- what the copies have in each folder, and one more
+  shown_push : (what : Copy → List ℕ) (cs : List Copy) (m : Folders) (c : Copy) → m ≡ filed_from what cs → filed m c.folder (what c) ≡ filed_from what (cs ++ c ∷ [])
+  shown_push what cs m c is = ap (λ there. filed there c.folder (what c)) is ∙ sym (folded what cs empty c)
+
+  -- the account with one copy more
+  abbrev joined_to : Account → Copy → Account
+  joined_to a c = record a { folders = filed a.folders c.folder c.message; flags = filed a.flags c.folder c.flags }
 
   -- a copy of a message that is kept joins a folder
   copy_joined : (c : Copy) (notice : ℕ) (own : Tables) (a : Account) (s : IsShownBelow user last c.n notice a own) → Has s.copies.messages (message_of c) → c.id ≤ c.n
-      → (t : IsShownBelow user last (suc c.n) notice (record a { folders = filed a.folders c.folder c.message }) (added copy_tree (copy_row user c) own)) × (t.copies.messages ≡ s.copies.messages)
+      → (t : IsShownBelow user last (suc c.n) notice (joined_to a c) (added copy_tree (copy_row user c) own)) × (t.copies.messages ≡ s.copies.messages)
   copy_joined c notice own a s there first = (
     record {
       account_is = s.account_is;
@@ -200,7 +212,8 @@ module _ (user : List ℕ) (last : Counters) where
         numbered = numbered_next (λ d. d.n) (copy_row user) (own copy_tree) s.copies.entries c.n c refl s.copies.numbered;
         stored = numbered_up (λ m. m.id) (message_row user) (own message_tree) s.copies.messages c.n (suc c.n) (omega arith) s.copies.stored;
         kept = kept_push s.copies.entries s.copies.messages c there first s.copies.kept;
-        shown = ap (λ m. filed m c.folder c.message) s.copies.shown ∙ sym (folded s.copies.entries empty c);
+        shown = shown_push (λ d. d.message) s.copies.entries a.folders c s.copies.shown;
+        shown_flags = shown_push (λ d. d.flags) s.copies.entries a.flags c s.copies.shown_flags;
       };
     },
     refl,
@@ -208,7 +221,7 @@ module _ (user : List ℕ) (last : Counters) where
 
   -- a message is kept, and its first copy joins a folder
   first_joined : (c : Copy) (notice : ℕ) (own : Tables) (a : Account) → c.id ≡ c.n → IsShownBelow user last c.n notice a own
-      → (t : IsShownBelow user last (suc c.n) notice (record a { folders = filed a.folders c.folder c.message }) (added copy_tree (copy_row user c) (added message_tree (message_row user (message_of c)) own)))
+      → (t : IsShownBelow user last (suc c.n) notice (joined_to a c) (added copy_tree (copy_row user c) (added message_tree (message_row user (message_of c)) own)))
       × Has t.copies.messages (message_of c)
   first_joined c notice own a same s = (
     record {
@@ -223,30 +236,31 @@ module _ (user : List ℕ) (last : Counters) where
         numbered = numbered_next (λ d. d.n) (copy_row user) (own copy_tree) s.copies.entries c.n c refl s.copies.numbered;
         stored = numbered_next (λ m. m.id) (message_row user) (own message_tree) s.copies.messages c.n (message_of c) same s.copies.stored;
         kept = kept_first s.copies.entries s.copies.messages c same s.copies.kept;
-        shown = ap (λ m. filed m c.folder c.message) s.copies.shown ∙ sym (folded s.copies.entries empty c);
+        shown = shown_push (λ d. d.message) s.copies.entries a.folders c s.copies.shown;
+        shown_flags = shown_push (λ d. d.flags) s.copies.entries a.flags c s.copies.shown_flags;
       };
     },
     has_last (s.copies.messages ++ message_of c ∷ []) s.copies.messages (message_of c) refl,
   )
 
-  more_joined : (message : List ℕ) (id : ℕ) (names : List (List ℕ)) (copy notice : ℕ) (own : Tables) (a : Account) (s : IsShownBelow user last copy notice a own) → Has s.copies.messages (record { id = id; bytes = message }) → id ≤ copy
-      → IsShownBelow user last (copy + length names) notice (files_copies names message a) (copies_added user id copy names own)
+  more_joined : (message : List ℕ) (id : ℕ) (places : List Placement) (copy notice : ℕ) (own : Tables) (a : Account) (s : IsShownBelow user last copy notice a own) → Has s.copies.messages (record { id = id; bytes = message }) → id ≤ copy
+      → IsShownBelow user last (copy + length places) notice (files_copies places message a) (copies_added user id copy places own)
   more_joined message id [] copy notice own a s there first = let same : copy ≡ copy + 0 = omega arith in subst (λ n. IsShownBelow user last n notice a own) same s
-  more_joined message id (name ∷ names) copy notice own a s there first =
-      let same : suc copy + length names ≡ copy + suc (length names) = omega arith in
-      let c : Copy = record { folder = name; n = copy; id = id; message = message } in
+  more_joined message id (p ∷ places) copy notice own a s there first =
+      let same : suc copy + length places ≡ copy + suc (length places) = omega arith in
+      let c : Copy = record { folder = p.mailbox; n = copy; id = id; message = message; flags = p.flags } in
       let one = copy_joined c notice own a s there first in
-      subst (λ n. IsShownBelow user last n notice (files_copies (name ∷ names) message a) (copies_added user id copy (name ∷ names) own)) same
-      (more_joined message id names (suc copy) notice _ _ one.0 (subst (λ l. Has l (message_of c)) (sym one.1) there) (omega arith))
+      subst (λ n. IsShownBelow user last n notice (files_copies (p ∷ places) message a) (copies_added user id copy (p ∷ places) own)) same
+      (more_joined message id places (suc copy) notice _ _ one.0 (subst (λ l. Has l (message_of c)) (sym one.1) there) (omega arith))
 
-  copies_joined : (message : List ℕ) (names : List (List ℕ)) (copy notice : ℕ) (own : Tables) (a : Account) → IsShownBelow user last copy notice a own
-      → IsShownBelow user last (copy + length names) notice (files_copies names message a) (copied user message copy names own)
+  copies_joined : (message : List ℕ) (places : List Placement) (copy notice : ℕ) (own : Tables) (a : Account) → IsShownBelow user last copy notice a own
+      → IsShownBelow user last (copy + length places) notice (files_copies places message a) (copied user message copy places own)
   copies_joined message [] copy notice own a s = let same : copy ≡ copy + 0 = omega arith in subst (λ n. IsShownBelow user last n notice a own) same s
-  copies_joined message (name ∷ names) copy notice own a s =
-      let same : suc copy + length names ≡ copy + suc (length names) = omega arith in
-      let one = first_joined (record { folder = name; n = copy; id = copy; message = message }) notice own a refl s in
-      subst (λ n. IsShownBelow user last n notice (files_copies (name ∷ names) message a) (copied user message copy (name ∷ names) own)) same
-      (more_joined message copy names (suc copy) notice _ _ one.0 one.1 (omega arith))
+  copies_joined message (p ∷ places) copy notice own a s =
+      let same : suc copy + length places ≡ copy + suc (length places) = omega arith in
+      let one = first_joined (record { folder = p.mailbox; n = copy; id = copy; message = message; flags = p.flags }) notice own a refl s in
+      subst (λ n. IsShownBelow user last n notice (files_copies (p ∷ places) message a) (copied user message copy (p ∷ places) own)) same
+      (more_joined message copy places (suc copy) notice _ _ one.0 one.1 (omega arith))
 
   -- a message joins the queue
   queued : (out : Outgoing) (copy notice : ℕ) (own : Tables) (a : Account) → out.id ≡ a.next_out → IsShownBelow user last copy notice a own
@@ -318,18 +332,18 @@ noted_out moment (Some text) a = refl
 -- the rows of a user whose counters were these, once the changes of a delivery are made
 own_delivered : (user : List ℕ) (c : Counters) (plan : Plan) (own : Tables) (a : Account) → IsShown user own a → Counts (own account_tree) c → IsShown user (delivered user c plan own) (delivers plan a)
 own_delivered user c plan own a s counts =
-    let last : Counters = record { copy = c.copy + length plan.report.filed; out = c.out + (length plan.report.sent + count_of plan.reply); notice = c.notice + count_of plan.report.notice } in
+    let last : Counters = record { copy = c.copy + length plan.filed; out = c.out + (length plan.report.sent + count_of plan.reply); notice = c.notice + count_of plan.report.notice } in
     let up = raised user last c own a s counts in
-    let filed = files_copies plan.report.filed plan.message.now a in
+    let filed = files_copies plan.filed plan.message.now a in
     let sent = sends_on plan.sender.now plan.message.now plan.report.sent filed in
     let kept = replies_if_any plan.sender.now plan.reply sent in
-    let copies = copies_joined user last plan.message.now plan.report.filed c.copy c.notice _ a up.0 in
+    let copies = copies_joined user last plan.message.now plan.filed c.copy c.notice _ a up.0 in
     let redirects = redirects_joined user last plan.sender.now plan.message.now plan.report.sent last.copy c.notice _ filed copies in
     let reply = reply_joined user last plan.sender.now plan.reply last.copy c.notice _ sent redirects in
     let sent_is = sent_out plan.sender.now plan.message.now plan.report.sent filed in
     let next : sent.next_out ≡ c.out + length plan.report.sent = sent_is ∙ ap (λ n. n + length plan.report.sent) up.1 in
     let rows = λ (first after : ℕ). reply_put user (lowered plan.sender.now) plan.reply (reply_queued user plan.sender.now after plan.reply
-    (sent_on user plan.sender.now plan.message.now first plan.report.sent (copied user plan.message.now c.copy plan.report.filed (counters_raised user c plan own)))) in
+    (sent_on user plan.sender.now plan.message.now first plan.report.sent (copied user plan.message.now c.copy plan.filed (counters_raised user c plan own)))) in
     let numbered = subst (λ n. IsShownBelow user last last.copy c.notice kept (rows c.out n)) next (subst (λ n. IsShownBelow user last last.copy c.notice kept (rows n sent.next_out)) up.1 reply) in
     let all = notice_joined user last plan.moment plan.report.notice last.copy c.notice _ kept numbered in
     let replied = replied_out plan.sender.now plan.reply sent in
@@ -365,22 +379,22 @@ notice_beside : (user : List ℕ) (n moment : ℕ) (text : Option (List ℕ)) (o
 notice_beside user n moment None own = refl
 notice_beside user n moment (Some text) own = refl
 
-message_gained : (user message : List ℕ) (names : List (List ℕ)) (n : ℕ) (own : Tables) → message_kept user message n names own message_tree ≡ own message_tree ++ once_for names (message_cells user (pos n) message)
+message_gained : (user message : List ℕ) (places : List Placement) (n : ℕ) (own : Tables) → message_kept user message n places own message_tree ≡ own message_tree ++ once_for places (message_cells user (pos n) message)
 message_gained user message [] n own = sym (append-nil (own message_tree))
-message_gained user message (name ∷ names) n own = refl
+message_gained user message (p ∷ places) n own = refl
 
-delivered_once : (user : List ℕ) (c : Counters) (plan : Plan) (own : Tables) → delivered user c plan own message_tree ≡ own message_tree ++ once_for plan.report.filed (message_cells user (pos c.copy) plan.message.now)
+delivered_once : (user : List ℕ) (c : Counters) (plan : Plan) (own : Tables) → delivered user c plan own message_tree ≡ own message_tree ++ once_for plan.filed (message_cells user (pos c.copy) plan.message.now)
 delivered_once user c plan own =
     let up = counters_raised user c plan own in
-    let kept = message_kept user plan.message.now c.copy plan.report.filed up in
-    let filed = copies_added user c.copy c.copy plan.report.filed kept in
+    let kept = message_kept user plan.message.now c.copy plan.filed up in
+    let filed = copies_added user c.copy c.copy plan.filed kept in
     let sent = sent_on user plan.sender.now plan.message.now c.out plan.report.sent filed in
     let after = c.out + length plan.report.sent in
     let queued = reply_queued user plan.sender.now after plan.reply sent in
     let replied = reply_put user (lowered plan.sender.now) plan.reply queued in
     notice_beside user c.notice plan.moment plan.report.notice replied ∙ reply_beside user (lowered plan.sender.now) plan.reply queued ∙ queued_beside user plan.sender.now after plan.reply sent
     ∙ turn_beside (λ n target. redirect_added user plan.sender.now plan.message.now (pos n) target) (λ n target own. refl) plan.report.sent c.out filed
-    ∙ turn_beside (λ n folder. copy_added user folder (pos n) (pos c.copy)) (λ n folder own. refl) plan.report.filed c.copy kept ∙ message_gained user plan.message.now plan.report.filed c.copy up
+    ∙ turn_beside (λ n copy. copy_added user copy.mailbox (pos n) (pos c.copy) copy.flags) (λ n copy own. refl) plan.filed c.copy kept ∙ message_gained user plan.message.now plan.filed c.copy up
 
 -- after a read that kept the tables, the changes of a delivery store its message once
 pub stores_once : {X E Y : Type 0} (a b d : State) (r : Result X E) (x : X) → r ≡ Ok x → Keeps a b r → (user : List ℕ) (c : Counters) (plan : Plan) (ds : List Change) → AreDelivery user c plan ds → Survives b d (CrashLeavesTables ds b)
@@ -393,6 +407,6 @@ stores_once {Y = Y} a b d r x ok kept user c plan ds delivery survives q wrote c
     mid : HoldsTables mail_schema b.now tables
     mid = subst (λ n. HoldsTables mail_schema n tables) (sym ((kept.same early (tables, h)).now_is (on_ok r x ok (IsTrue b.is_open) (kept.live early)))) h
 
-    go : (o : Result Y Refusal) → MakesAll ds b d o → OnOk o ((after : Tables) × HoldsTables mail_schema d.now after × GainsOnce user plan.message.now plan.report.filed (tables message_tree) (after message_tree))
+    go : (o : Result Y Refusal) → MakesAll ds b d o → OnOk o ((after : Tables) × HoldsTables mail_schema d.now after × GainsOnce user plan.message.now plan.filed (tables message_tree) (after message_tree))
     go (Err e) made_all = tt
     go (Ok y) made_all = (made tables ds, made_all clean tables mid, (pos c.copy, ap (λ (t : Tables). t message_tree) (delivery.makes tables) ∙ delivered_once user c plan tables))

@@ -30,12 +30,12 @@ use Rattle.mailtables.proofs.SchemaFacts.{copy_listed}
 use Rattle.mailtables.proofs.TextFacts.{by_one, filings_shown}
 use Rattle.mailstore.specs.declared.filing.Filing.{Filing}
 use Rattle.mailstore.specs.CopyRows.{Copy, copy_row, filing_of, filing_cells}
-use Rattle.mailstore.specs.FirstCells.{first_three}
+use Rattle.mailstore.specs.FirstCells.{first_four}
 use Rattle.mailstore.specs.Listing.{select_filings, AreFilingRows, AreFilingsOf}
 use Rattle.mailstore.specs.Shows.{rows_of}
 use Rattle.mailstore.proofs.OneLemmas.{map_one}
 
-select_filings_is : command_of (understood mail_schema select_filings) ≡ Select (over copy_tree by_one filings_shown ((col 1 3, ascending Binary) ∷ [])) (codes "folder" ∷ codes "n" ∷ codes "id" ∷ [])
+select_filings_is : command_of (understood mail_schema select_filings) ≡ Select (over copy_tree by_one filings_shown ((col 1 3, ascending Binary) ∷ [])) (codes "folder" ∷ codes "n" ∷ codes "id" ∷ codes "flags" ∷ [])
 unfolding understood everything
 select_filings_is = refl
 
@@ -59,7 +59,7 @@ module _ (old new : State) (rows : List Row) (tables : Tables) (h : HoldsTables 
   filings_read shown a s =
       let copies = s.copies.entries in
       let p = has_key (owner_key owner) in
-      let show = λ (cells : Row). let o : Output = (column cells 2 ∷ [], column cells 1 ∷ column cells 2 ∷ column cells 3 ∷ []) in o in
+      let show = λ (cells : Row). let o : Output = (column cells 2 ∷ [], column cells 1 ∷ column cells 2 ∷ column cells 3 ∷ column cells 4 ∷ []) in o in
       let found = cells_in_order old.now.trees copy_tree by_one filings_shown ((col 1 3, ascending Binary) ∷ []) (owner_key owner) (tables copy_tree) (h.each copy copy_listed) p (λ n cells. refl) show (λ n cells. refl) rows
       (answered mail_schema select_filings (owner_key owner) old new h.is select_filings_plain.0 copy_tree by_one filings_shown _ _ select_filings_is select_filings_plain.1 rows shown) in
       let outs : IsPermutation (map filing_output copies) (map show (filter p (tables copy_tree))) =
@@ -73,9 +73,10 @@ filing_one x y e =
     let folder : x.folder ≡ y.folder = cc in
     let n : x.n ≡ y.n = cc in
     let id : x.id ≡ y.id = cc in
-    λ i. record { folder = folder i; n = n i; id = id i }
+    let flags : x.flags ≡ y.flags = cc in
+    λ i. record { folder = folder i; n = n i; id = id i; flags = flags i }
 
-pub filings_are : {E : Type 0} (user : List ℕ) (r : Result (List Filing) E) (rows : List Row) (own : Tables) → AreFilingRows user rows own → IfOk r (λ all. map filing_cells all ≡ map first_three rows) → IfOk r (λ all. AreFilingsOf user all own)
+pub filings_are : {E : Type 0} (user : List ℕ) (r : Result (List Filing) E) (rows : List Row) (own : Tables) → AreFilingRows user rows own → IfOk r (λ all. map filing_cells all ≡ map first_four rows) → IfOk r (λ all. AreFilingsOf user all own)
 filings_are user (Err e) rows own are h = tt
 filings_are user (Ok all) rows own are h = λ a s.
-    map_one filing_cells filing_one all (map filing_of s.copies.entries) (h ∙ ap (map first_three) (are a s) ∙ map-map first_three filing_cells (map filing_of s.copies.entries))
+    map_one filing_cells filing_one all (map filing_of s.copies.entries) (h ∙ ap (map first_four) (are a s) ∙ map-map first_four filing_cells (map filing_of s.copies.entries))

@@ -16,10 +16,10 @@ use Rattle.mailtables.proofs.ListLemmas.{owner_key}
 use Rattle.mailstore.specs.declared.filing.Filing.{Filing}
 use Rattle.mailstore.specs.declared.taking.NumberedMessage.{NumberedMessage}
 use Rattle.mailtables.specs.Schema.{mail_schema}
-use Rattle.mailstore.specs.Account.{Account, messages_in}
+use Rattle.mailstore.specs.Account.{Account, messages_in, flags_in}
 use Rattle.mailtables.specs.MessageTable.{message, message_key, message_tree, bytes_column, select_message}
 use Rattle.mailstore.specs.MessageRows.{message_row}
-use Rattle.mailstore.specs.CopyRows.{Copy, message_of, is_in, filing_of, numbered_of, HasFirst, IsNthMessage}
+use Rattle.mailstore.specs.CopyRows.{Copy, message_of, is_in, filing_of, numbered_of, IsFirstIn, IsNthMessage}
 use Rattle.mailstore.specs.Shows.{rows_of, IsShown, IsNthFiling, AreOctetRows, HasOctets, IsFirstOf, IsNthOf}
 use Rattle.mailtables.proofs.SchemaFacts.{message_listed}
 use Rattle.mailtables.proofs.TextFacts.{by_two, select_message_is, select_message_plain}
@@ -27,7 +27,7 @@ use Rattle.mailtables.proofs.StatementLemmas.{message_index, message_agrees}
 use Rattle.mailstore.proofs.AccountLemmas.{message_is}
 use Rattle.mailstore.proofs.KeyLemmas.{key_owned}
 use Rattle.mailstore.proofs.NumberLemmas.{alone_at}
-use Rattle.mailstore.proofs.OrderLemmas.{messages_are}
+use Rattle.mailstore.proofs.OrderLemmas.{messages_are, flags_are}
 
 -- ---- the octets of one message
 
@@ -70,10 +70,10 @@ module _ (user folder : List ℕ) (count : ℤ) (filing : Option Filing) (own : 
       go None e = refl
       go (Some c) e = absurd (let no = e in cc)
 
-  pub nth_some : (f : Filing) (octets : List ℕ) → filing ≡ Some f → HasOctets user f.id octets own → IsNthOf user folder count (Some (record { number = f.n; message = octets })) own
+  pub nth_some : (f : Filing) (octets : List ℕ) → filing ≡ Some f → HasOctets user f.id octets own → IsNthOf user folder count (Some (record { number = f.n; message = octets; flags = f.flags })) own
   nth_some f octets some has a s n given = go (slice_get (filter (is_in folder) s.copies.entries) n) refl (sym some ∙ is_nth a s n given)
     where
-      go : (o : Option Copy) → slice_get (filter (is_in folder) s.copies.entries) n ≡ o → Some f ≡ option_map filing_of o → Some (record { number = f.n; message = octets }) ≡ option_map numbered_of o
+      go : (o : Option Copy) → slice_get (filter (is_in folder) s.copies.entries) n ≡ o → Some f ≡ option_map filing_of o → Some (record { number = f.n; message = octets; flags = f.flags }) ≡ option_map numbered_of o
       go None is e = absurd (let no = e in cc)
       go (Some c) is e =
           let same : f ≡ filing_of c = cc in
@@ -82,7 +82,7 @@ module _ (user folder : List ℕ) (count : ℤ) (filing : Option Filing) (own : 
           let row = ap (λ l. slice_get (map (λ (r : Row). column r bytes_column) l) 0) (own_message user own a s c there) in
           let both : Some (Blob c.message) ≡ Some (Blob octets) = sym row ∙ told in
           let text : octets ≡ c.message = cc in
-          λ i. Some (record { number = (same i).n; message = text i })
+          λ i. Some (record { number = (same i).n; message = text i; flags = (same i).flags })
 
 -- the one after none is the first
 pub nth_first : (user folder : List ℕ) (message : Option NumberedMessage) (own : Tables) → IsNthOf user folder (pos 0) message own → IsFirstOf user folder message own
@@ -92,11 +92,20 @@ mapped_twice : (o : Option Copy) → option_map (λ m. m.message) (option_map nu
 mapped_twice None = refl
 mapped_twice (Some c) = refl
 
--- and it is the first of the account's messages there
-pub first_shows : (user folder : List ℕ) (first : Option NumberedMessage) (own : Tables) (a : Account) → IsShown user own a → IsFirstOf user folder first own → HasFirst first (messages_in a.folders folder)
-first_shows user folder first own a s is =
-    ap (option_map (λ m. m.message)) (is a s) ∙ mapped_twice (find (is_in folder) s.copies.entries) ∙ sym (first_shown (λ c. c.message) (is_in folder) s.copies.entries)
-    ∙ sym (ap (λ l. slice_get l 0) (ap (λ m. messages_in m folder) s.copies.shown ∙ messages_are s.copies.entries folder))
+flags_twice : (o : Option Copy) → option_map (λ m. m.flags) (option_map numbered_of o) ≡ option_map (λ c. c.flags) o
+flags_twice None = refl
+flags_twice (Some c) = refl
+
+-- and it is the first of the account's messages there, with its flags
+pub first_shows : (user folder : List ℕ) (first : Option NumberedMessage) (own : Tables) (a : Account) → IsShown user own a → IsFirstOf user folder first own → IsFirstIn folder first a
+first_shows user folder first own a s is = record {
+  message =
+      ap (option_map (λ m. m.message)) (is a s) ∙ mapped_twice (find (is_in folder) s.copies.entries) ∙ sym (first_shown (λ c. c.message) (is_in folder) s.copies.entries)
+      ∙ sym (ap (λ l. slice_get l 0) (ap (λ m. messages_in m folder) s.copies.shown ∙ messages_are s.copies.entries folder));
+  flags =
+      ap (option_map (λ m. m.flags)) (is a s) ∙ flags_twice (find (is_in folder) s.copies.entries) ∙ sym (first_shown (λ c. c.flags) (is_in folder) s.copies.entries)
+      ∙ sym (ap (λ l. slice_get l 0) (ap (λ m. flags_in m folder) s.copies.shown_flags ∙ flags_are s.copies.entries folder));
+}
 
 -- ---- the one after that many
 

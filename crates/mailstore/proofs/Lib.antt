@@ -48,5 +48,7 @@ mod StandingExamples
 pub mod PermutedLemmas
 pub mod VersionLemmas
 pub mod OldLemmas
+pub mod SecondLemmas
 mod OldExamples
+mod SecondExamples
 pub mod RefusalExamples

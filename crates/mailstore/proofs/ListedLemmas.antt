@@ -56,7 +56,7 @@ module _ (old new : State) (rows : List Row) (tables : Tables) (h : HoldsTables 
       let found = cells_in_order old.now.trees copy_tree by_two (col 1 3 ∷ []) ((col 1 3, ascending Binary) ∷ []) key (tables copy_tree) (h.each copy copy_listed) p (λ n cells. refl) show (λ n cells. refl) rows
       (answered mail_schema select_numbers key old new h.is select_numbers_plain.0 copy_tree by_two (col 1 3 ∷ []) _ _ select_numbers_is select_numbers_plain.1 rows shown) in
       let mine : filter p (map (copy_row owner) copies) ≡ map (copy_row owner) few =
-      filter-map p (copy_row owner) copies ∙ ap (map (copy_row owner)) (filter_same _ (is_in folder) (λ c. pair_is owner folder c.folder (Int (pos c.n) ∷ Int (pos c.id) ∷ [])) copies) in
+      filter-map p (copy_row owner) copies ∙ ap (map (copy_row owner)) (filter_same _ (is_in folder) (λ c. pair_is owner folder c.folder (Int (pos c.n) ∷ Int (pos c.id) ∷ Blob c.flags ∷ [])) copies) in
       let cells : IsPermutation (map (copy_row owner) few) (filter p (tables copy_tree)) =
       subst (λ l. IsPermutation l (filter p (tables copy_tree))) mine (subst (IsPermutation _) (sym (of_owner owner folder tables copy_tree)) (IsPermutation-filter p _ _ s.copies.numbered.rows_are)) in
       let outs : IsPermutation (map listed_output few) (map show (filter p (tables copy_tree))) =
@@ -85,7 +85,7 @@ as_many user folder numbers own a s are =
 
 -- of two copies in one folder and one in another: the two numbers, in the order of the copies
 abbrev three : List Copy
-three = record { folder = 97 ∷ []; n = 1; id = 1; message = [] } ∷ record { folder = 98 ∷ []; n = 2; id = 1; message = [] } ∷ record { folder = 97 ∷ []; n = 5; id = 5; message = [] } ∷ []
+three = record { folder = 97 ∷ []; n = 1; id = 1; message = []; flags = [] } ∷ record { folder = 98 ∷ []; n = 2; id = 1; message = []; flags = [] } ∷ record { folder = 97 ∷ []; n = 5; id = 5; message = []; flags = [] } ∷ []
 
 two-numbers : numbers_in (97 ∷ []) three ≡ 1 ∷ 5 ∷ []
 two-numbers = refl

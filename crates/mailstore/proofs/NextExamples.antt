@@ -25,7 +25,7 @@ queue-first = refl
 
 -- one message in one folder, which is a copy with the number 3 of the message with the number 2
 abbrev one : Tables
-one tree = copy_cells (codes "alice") (codes "INBOX") (pos 3) (pos 2) ∷ []
+one tree = copy_cells (codes "alice") (codes "INBOX") (pos 3) (pos 2) [] ∷ []
 
 is-there : IsFiled one (at (codes "alice") (codes "INBOX") 3)
 is-there = inl refl

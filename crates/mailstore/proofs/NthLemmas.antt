@@ -26,7 +26,7 @@ use Rattle.mailtables.specs.CopyTable.{copy, copy_tree, select_nth}
 use Rattle.mailtables.proofs.SchemaFacts.{copy_listed}
 use Rattle.mailtables.proofs.TextFacts.{by_two, filings_shown, select_nth_is, select_nth_plain}
 use Rattle.mailstore.specs.declared.filing.Filing.{Filing}
-use Rattle.mailstore.specs.FirstCells.{first_three}
+use Rattle.mailstore.specs.FirstCells.{first_four}
 use Rattle.mailstore.specs.CopyRows.{Copy, copy_row, filing_of, filing_cells, is_in}
 use Rattle.mailstore.specs.Shows.{rows_of, IsShown, AreNthRows, IsNthFiling}
 use Rattle.mailstore.proofs.AccountLemmas.{pair_is}
@@ -54,11 +54,11 @@ module _ (old new : State) (rows : List Row) (tables : Tables) (h : HoldsTables 
       let key = pair_key owner folder in
       let p = has_key key in
       let few = filter (is_in folder) copies in
-      let show = λ (cells : Row). let o : Output = (column cells 2 ∷ [], column cells 1 ∷ column cells 2 ∷ column cells 3 ∷ []) in o in
+      let show = λ (cells : Row). let o : Output = (column cells 2 ∷ [], column cells 1 ∷ column cells 2 ∷ column cells 3 ∷ column cells 4 ∷ []) in o in
       let found = nth_in_order old.now.trees copy_tree by_two filings_shown ((col 1 3, ascending Binary) ∷ []) (nth_params owner folder count) (tables copy_tree) (h.each copy copy_listed) p (λ n cells. refl) (col 0 2) show (λ n cells. refl) rows
       (answered_nth mail_schema select_nth (nth_params owner folder count) old new h.is select_nth_plain.0 (col 0 2) copy_tree by_two filings_shown _ _ select_nth_is select_nth_plain.1 rows shown) in
       let mine : filter p (map (copy_row owner) copies) ≡ map (copy_row owner) few =
-      filter-map p (copy_row owner) copies ∙ ap (map (copy_row owner)) (filter_same _ (is_in folder) (λ c. pair_is owner folder c.folder (Int (pos c.n) ∷ Int (pos c.id) ∷ [])) copies) in
+      filter-map p (copy_row owner) copies ∙ ap (map (copy_row owner)) (filter_same _ (is_in folder) (λ c. pair_is owner folder c.folder (Int (pos c.n) ∷ Int (pos c.id) ∷ Blob c.flags ∷ [])) copies) in
       let cells : IsPermutation (map (copy_row owner) few) (filter p (tables copy_tree)) =
       subst (λ l. IsPermutation l (filter p (tables copy_tree))) mine (subst (IsPermutation _) (sym (of_owner owner folder tables copy_tree)) (IsPermutation-filter p _ _ s.copies.numbered.rows_are)) in
       let outs : IsPermutation (map filing_output few) (map show (filter p (tables copy_tree))) =
@@ -83,7 +83,7 @@ twice : (o : Option Copy) → option_map filing_cells (option_map filing_of o) �
 twice None = refl
 twice (Some c) = refl
 
-cells_read : (o : Option Copy) → option_map first_three (option_map (λ c. filing_cells (filing_of c)) o) ≡ option_map (λ c. filing_cells (filing_of c)) o
+cells_read : (o : Option Copy) → option_map first_four (option_map (λ c. filing_cells (filing_of c)) o) ≡ option_map (λ c. filing_cells (filing_of c)) o
 cells_read None = refl
 cells_read (Some c) = refl
 
@@ -95,14 +95,15 @@ one_filing (Some x) (Some y) e =
     let folder : x.folder ≡ y.folder = cc in
     let n : x.n ≡ y.n = cc in
     let id : x.id ≡ y.id = cc in
-    λ i. Some (record { folder = folder i; n = n i; id = id i })
+    let flags : x.flags ≡ y.flags = cc in
+    λ i. Some (record { folder = folder i; n = n i; id = id i; flags = flags i })
 
 pub nth_filing_is : {E : Type 0} (user folder : List ℕ) (count : ℤ) (r : Result (Option Filing) E) (rows : List Row) (own : Tables) → AreNthRows user folder count rows own
-    → IfOk r (λ filing. option_map filing_cells filing ≡ option_map first_three (slice_get rows 0)) → IfOk r (λ filing. IsNthFiling user folder count filing own)
+    → IfOk r (λ filing. option_map filing_cells filing ≡ option_map first_four (slice_get rows 0)) → IfOk r (λ filing. IsNthFiling user folder count filing own)
 nth_filing_is user folder count (Err e) rows own are h = tt
 nth_filing_is user folder count (Ok filing) rows own are h = λ a s n given.
     let few = filter (is_in folder) s.copies.entries in
     let shown = map filing_cells (map filing_of few) in
     let row : slice_get rows 0 ≡ option_map (λ c. filing_cells (filing_of c)) (slice_get few n) =
     ap (λ l. slice_get l 0) (are a s n given) ∙ nth_taken n shown ∙ ap (λ l. slice_get l n) (map-map filing_cells filing_of few) ∙ slice_get-map (λ c. filing_cells (filing_of c)) few n in
-    one_filing filing (option_map filing_of (slice_get few n)) (h ∙ ap (option_map first_three) row ∙ cells_read (slice_get few n) ∙ sym (twice (slice_get few n)))
+    one_filing filing (option_map filing_of (slice_get few n)) (h ∙ ap (option_map first_four) row ∙ cells_read (slice_get few n) ∙ sym (twice (slice_get few n)))

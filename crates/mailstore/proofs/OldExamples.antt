@@ -1,5 +1,5 @@
 -- Examples of what tables of version 1 show, and near misses.
-use Rattle.std.proofs.Common.{◌≡◌, ◌==◌, ℕ, pos, ◌<◌, ◌≤◌, cond, codes, List, [], ◌∷◌, filter, map, length, None, inl, inr, refl, sym, ap, ◌∙◌, arith}
+use Rattle.std.proofs.Common.{◌≡◌, ◌==◌, ℕ, pos, ◌<◌, ◌≤◌, cond, codes, List, [], ◌∷◌, filter, map, length, None, inl, inr, refl, sym, ap, ◌∙◌, subst, arith}
 use Rattle.std.specs.FinMap.{empty}
 use Rattle.std.specs.List.{AllByRecursion}
 use Rattle.std.proofs.lemmas.List.Elements.{recursion_from_All, All-from_recursion}
@@ -7,33 +7,34 @@ use Rattle.std.proofs.lemmas.List.Sorted.{IsPermutation-append_comm, IsPermutati
 use Rattle.sqlite_value.specs.declared.value.Value.TheVariants.{Int}
 use Rattle.sqlite_value.specs.Order.{Row, column}
 use Rattle.sqlite_trees.specs.Tree.{IsAscending}
+use Rattle.sqlite_keyed.proofs.ListLemmas.{all-filter}
 use Rattle.mailtables.specs.Rows.{Tables, has_key}
 use Rattle.mailtables.specs.MetaTable.{meta_tree, version_key, version_row}
 use Rattle.mailtables.specs.AccountTable.{account_tree}
 use Rattle.mailtables.specs.MessageTable.{message_cells}
 use Rattle.mailtables.specs.CopyTable.{copy_cells, n_column}
 use Rattle.oldtables.specs.OldSchema.{old_copy_tree, message_from, copy_from}
-use Rattle.mailstore.specs.Account.{Account, Accounts, messages_in}
+use Rattle.mailstore.specs.Account.{Account, Accounts, Folders, messages_in, flags_in}
 use Rattle.mailstore.specs.AccountRows.{account_row}
 use Rattle.mailstore.specs.QueueRows.{queue_row}
 use Rattle.mailstore.specs.NoticeRows.{notice_row}
-use Rattle.mailstore.specs.CopyRows.{Copy, folders_from}
+use Rattle.mailstore.specs.CopyRows.{Copy, folders_from, flags_from, is_in, IsBare}
 use Rattle.mailstore.specs.OldShows.{old_copy_row, old_version_row, ShowsOldCopies, IsShownOld, ShowsOldAccounts}
 use Rattle.mailstore.proofs.NumberLemmas.{numbered_none}
 use Rattle.mailstore.proofs.VersionLemmas.{version_itself}
-use Rattle.mailstore.proofs.OrderLemmas.{messages_are}
+use Rattle.mailstore.proofs.OrderLemmas.{all_mapped, messages_are, flags_are}
 
 abbrev alice : List ℕ
 alice = codes "alice"
 
 abbrev first : Copy
-first = record { folder = codes "INBOX"; n = 1; id = 1; message = codes "M1" }
+first = record { folder = codes "INBOX"; n = 1; id = 1; message = codes "M1"; flags = [] }
 
 abbrev second : Copy
-second = record { folder = codes "lists"; n = 2; id = 2; message = codes "M1" }
+second = record { folder = codes "lists"; n = 2; id = 2; message = codes "M1"; flags = [] }
 
 abbrev third : Copy
-third = record { folder = codes "INBOX"; n = 3; id = 3; message = codes "M2" }
+third = record { folder = codes "INBOX"; n = 3; id = 3; message = codes "M2"; flags = [] }
 
 abbrev hers : Account
 hers = record {
@@ -42,6 +43,7 @@ hers = record {
   scripts = empty;
   active = None;
   folders = folders_from (first ∷ second ∷ third ∷ []);
+  flags = flags_from (first ∷ second ∷ third ∷ []);
   queue = [];
   replies = empty;
   notices = [];
@@ -71,7 +73,9 @@ rows_show_account = record {
       counter = omega arith;
     };
     own = (refl, (refl, (refl, tt)));
+    bare = (refl, (refl, (refl, tt)));
     shown = refl;
+    shown_flags = refl;
   };
 }
 
@@ -82,18 +86,27 @@ messages_of_inbox = messages_are (first ∷ second ∷ third ∷ []) (codes "INB
 messages_of_lists : messages_in hers.folders (codes "lists") ≡ codes "M1" ∷ []
 messages_of_lists = messages_are (first ∷ second ∷ third ∷ []) (codes "lists")
 
+-- near miss: a folder whose message has a flag
+not_flagged : (rows : List Row) (folders flags : Folders) (next : ℕ) (folder : List ℕ) → ShowsOldCopies alice rows folders flags next → flags_in flags folder ≡ codes "\\Seen" ∷ [] → ⊥
+not_flagged rows folders flags next folder s has =
+    let bare = all_mapped (λ (f : List ℕ). f ≡ []) (λ (c : Copy). c.flags) (filter (is_in folder) s.entries) (all-filter IsBare (is_in folder) s.entries s.bare) in
+    let told : codes "\\Seen" ∷ [] ≡ map (λ (c : Copy). c.flags) (filter (is_in folder) s.entries) = sym has ∙ ap (λ m. flags_in m folder) s.shown_flags ∙ flags_are s.entries folder in
+    let one = subst (AllByRecursion (λ (f : List ℕ). f ≡ [])) (sym told) bare in
+    let none = one.0 in
+    cc
+
 -- what they become: a message a copy, with the copy's number, though two have the same octets
 three_messages : map message_from (map (old_copy_row alice) (first ∷ second ∷ third ∷ []))
     ≡ message_cells alice (pos 1) (codes "M1") ∷ message_cells alice (pos 2) (codes "M1") ∷ message_cells alice (pos 3) (codes "M2") ∷ []
 three_messages = refl
 
 three_copies : map copy_from (map (old_copy_row alice) (first ∷ second ∷ third ∷ []))
-    ≡ copy_cells alice (codes "INBOX") (pos 1) (pos 1) ∷ copy_cells alice (codes "lists") (pos 2) (pos 2) ∷ copy_cells alice (codes "INBOX") (pos 3) (pos 3) ∷ []
+    ≡ copy_cells alice (codes "INBOX") (pos 1) (pos 1) [] ∷ copy_cells alice (codes "lists") (pos 2) (pos 2) [] ∷ copy_cells alice (codes "INBOX") (pos 3) (pos 3) [] ∷ []
 three_copies = refl
 
--- near miss: the row of version 2
-not_version_2 : (tables : Tables) (accounts : Accounts) → tables meta_tree ≡ version_row ∷ [] → ShowsOldAccounts tables accounts → ⊥
-not_version_2 tables accounts is s = let e = sym says ∙ sym (ap (filter (has_key version_key)) is) ∙ s.version in cc
+-- near miss: the row of version 3
+not_version_3 : (tables : Tables) (accounts : Accounts) → tables meta_tree ≡ version_row ∷ [] → ShowsOldAccounts tables accounts → ⊥
+not_version_3 tables accounts is s = let e = sym says ∙ sym (ap (filter (has_key version_key)) is) ∙ s.version in cc
   where
     says : filter (has_key version_key) (version_row ∷ []) ≡ version_row ∷ []
     says = rw version_itself refl
@@ -103,9 +116,9 @@ IsOne row = column row n_column ≡ Int (pos 1)
 
 -- near miss: two copies with one number, though in different folders
 abbrev twice : List Row
-twice = old_copy_row alice first ∷ old_copy_row alice (record { folder = codes "work"; n = 1; id = 1; message = codes "M1" }) ∷ []
+twice = old_copy_row alice first ∷ old_copy_row alice (record { folder = codes "work"; n = 1; id = 1; message = codes "M1"; flags = [] }) ∷ []
 
-not_twice : (a : Account) (next : ℕ) → ShowsOldCopies alice twice a.folders next → ⊥
+not_twice : (a : Account) (next : ℕ) → ShowsOldCopies alice twice a.folders a.flags next → ⊥
 not_twice a next c = at c.entries (length_permutation _ _ c.numbered.rows_are) ones c.numbered.rise
   where
     ones : AllByRecursion IsOne (map (old_copy_row alice) c.entries)

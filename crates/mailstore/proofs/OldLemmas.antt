@@ -23,7 +23,7 @@ use Rattle.oldtables.specs.Migration.{IsMigrated, IsMoved, TurnsNew, TurnsNewest
 use Rattle.sqlite.specs.Effect.{Database}
 use Rattle.mailstore.specs.Account.{Account, Accounts, Folders}
 use Rattle.mailstore.specs.Numbers.{AreNumbered}
-use Rattle.mailstore.specs.CopyRows.{Copy, copy_row, message_of, folders_from, ShowsCopies, AreKept, HasCopy}
+use Rattle.mailstore.specs.CopyRows.{Copy, copy_row, message_of, folders_from, ShowsCopies, AreKept, HasCopy, IsBare}
 use Rattle.mailstore.specs.MessageRows.{Message, message_row}
 use Rattle.sqlite_trees.specs.Tree.{IsAscending}
 use Rattle.mailstore.specs.ScriptRows.{ShowsScripts}
@@ -49,7 +49,7 @@ filter_append p [] ys = refl
 filter_append p (x ∷ xs) ys = elim (p x) as (λ b. cond b (x ∷ filter p (xs ++ ys)) (filter p (xs ++ ys)) ≡ cond b (x ∷ filter p xs) (filter p xs) ++ filter p ys) [ true ↦ ap (λ l. x ∷ l) (filter_append p xs ys) | false ↦ filter_append p xs ys ]
 
 -- the version
-renewed_version : (before after : List Row) → after ≡ delete_where (has_key version_key) before ++ version_row ∷ [] → filter (has_key version_key) after ≡ version_row ∷ []
+pub renewed_version : (before after : List Row) → after ≡ delete_where (has_key version_key) before ++ version_row ∷ [] → filter (has_key version_key) after ≡ version_row ∷ []
 renewed_version before after is =
     ap (filter (has_key version_key)) is ∙ filter_append (has_key version_key) (delete_where (has_key version_key) before) (version_row ∷ [])
     ∙ ap (λ l. l ++ filter (has_key version_key) (version_row ∷ [])) (none_left (has_key version_key) before) ∙ ap (λ b. cond (b && true) (version_row ∷ []) []) version_itself
@@ -96,9 +96,9 @@ own_kept entries own = record {
 }
 
 module _ (user : List ℕ) where
-  same_copies : (entries : List Copy) → AllByRecursion (λ c. c.id ≡ c.n) entries → map copy_from (map old_cells (map (old_copy_row user) entries)) ≡ map (copy_row user) entries
-  same_copies [] own = refl
-  same_copies (c ∷ entries) own = rw (own.0, same_copies entries own.1) refl
+  same_copies : (entries : List Copy) → AllByRecursion (λ c. c.id ≡ c.n) entries → AllByRecursion IsBare entries → map copy_from (map old_cells (map (old_copy_row user) entries)) ≡ map (copy_row user) entries
+  same_copies [] own bare = refl
+  same_copies (c ∷ entries) own bare = rw (own.0, bare.0, same_copies entries own.1 bare.1) refl
 
   same_messages : (entries : List Copy) → AllByRecursion (λ c. c.id ≡ c.n) entries → map message_from (map old_cells (map (old_copy_row user) entries)) ≡ map (message_row user) (map message_of entries)
   same_messages [] own = refl
@@ -112,15 +112,15 @@ module _ (user : List ℕ) where
       above [] same less = tt
       above (d ∷ rest) same less = (let one = own.0 in let other = same.0 in let low = less.0 in omega (arith, one, other, low), above rest same.1 less.1)
 
-  -- the folders of version 1 are those of version 2
-  pub copies_shown : (before copies after messages : List Row) (folders : Folders) (next : ℕ) → ShowsOldCopies user (filter (is_theirs user) before) folders next → IsPermutation (map old_cells before) copies → after ≡ map copy_from copies
-      → messages ≡ map message_from copies → ShowsCopies user (filter (is_theirs user) after) (filter (is_theirs user) messages) folders next
-  copies_shown before copies after messages folders next s same after_is messages_are = record {
+  -- the folders of version 1 are those of version 3, and no copy has flags
+  pub copies_shown : (before copies after messages : List Row) (folders flags : Folders) (next : ℕ) → ShowsOldCopies user (filter (is_theirs user) before) folders flags next → IsPermutation (map old_cells before) copies → after ≡ map copy_from copies
+      → messages ≡ map message_from copies → ShowsCopies user (filter (is_theirs user) after) (filter (is_theirs user) messages) folders flags next
+  copies_shown before copies after messages folders flags next s same after_is messages_are = record {
     entries = s.entries;
     messages = map message_of s.entries;
     numbered = record {
       rows_are = subst (λ l. IsPermutation (map (copy_row user) s.entries) (filter (is_theirs user) l)) (sym after_is)
-          (IsPermutation-trans _ _ _ (subst (λ l. IsPermutation l (map copy_from (map old_cells (filter (is_theirs user) before)))) (same_copies s.entries s.own) (IsPermutation-map copy_from _ _ (IsPermutation-map old_cells _ _ s.numbered.rows_are)))
+          (IsPermutation-trans _ _ _ (subst (λ l. IsPermutation l (map copy_from (map old_cells (filter (is_theirs user) before)))) (same_copies s.entries s.own s.bare) (IsPermutation-map copy_from _ _ (IsPermutation-map old_cells _ _ s.numbered.rows_are)))
           (theirs user copy_from (λ cells. refl) before copies same));
       rise = s.numbered.rise;
       from_one = s.numbered.from_one;
@@ -138,6 +138,7 @@ module _ (user : List ℕ) where
     };
     kept = own_kept s.entries s.own;
     shown = s.shown;
+    shown_flags = s.shown_flags;
   }
     where
       from_one : (entries : List Copy) → AllByRecursion (λ c. c.id ≡ c.n) entries → AllByRecursion (λ c. 1 ≤ c.n) entries → AllByRecursion (λ c. 1 ≤ c.id) entries
@@ -160,7 +161,7 @@ module _ (before after : Tables) (m : IsMigrated before after) where
     queue = subst (λ rows. ShowsQueue user (filter (is_theirs user) rows) a.queue a.next_out) (sym m.queue) s.queue;
     replies = subst (λ rows. ShowsReplies user (filter (is_theirs user) rows) a.replies) (sym m.replies) s.replies;
     notices = subst (λ rows. ShowsNotices user (filter (is_theirs user) rows) a.notices s.next_notice) (sym m.notices) s.notices;
-    copies = copies_shown user (before old_copy_tree) m.copies (after copy_tree) (after message_tree) a.folders s.next_copy s.copies m.same m.filed m.messages;
+    copies = copies_shown user (before old_copy_tree) m.copies (after copy_tree) (after message_tree) a.folders a.flags s.next_copy s.copies m.same m.filed m.messages;
   }
 
   user_absent : (user : List ℕ) → IsAbsentOld (rows_of user before) → IsAbsent (rows_of user after)
@@ -229,7 +230,7 @@ module _ (there tables moved : Tables) (one : IsMoved there tables) (other : IsM
     queue = numbered_moved (λ q. q.id) (queue_row user) _ _ a.queue a.next_out (queue_same user) s.queue;
     replies = replies_moved user _ _ a.replies (replies_same user) s.replies;
     notices = record { entries = s.notices.entries; numbered = numbered_moved (λ e. e.0) (notice_row user) _ _ s.notices.entries s.next_notice (notices_same user) s.notices.numbered; shown = s.notices.shown };
-    copies = subst (λ rows. ShowsOldCopies user (filter (is_theirs user) rows) a.folders s.next_copy) (sym copies_same) s.copies;
+    copies = subst (λ rows. ShowsOldCopies user (filter (is_theirs user) rows) a.folders a.flags s.next_copy) (sym copies_same) s.copies;
   }
 
   absent_moved : (user : List ℕ) → IsAbsentOld (rows_of user tables) → IsAbsentOld (rows_of user moved)

@@ -31,8 +31,8 @@ use Rattle.std.specs.List.{AllByRecursion}
 use Rattle.mailstore.specs.Numbers.{AreNumbered}
 use Rattle.mailtables.specs.MessageTable.{message, message_tree, message_id_column, bytes_column}
 use Rattle.mailstore.specs.MessageRows.{Message, message_row}
-use Rattle.mailtables.specs.CopyTable.{copy, copy_cells, copy_tree, folder_column, id_column, n_column}
-use Rattle.mailstore.specs.CopyRows.{Copy, copy_row, folders_from, message_of}
+use Rattle.mailtables.specs.CopyTable.{copy, copy_cells, copy_tree, folder_column, id_column, flags_column, n_column}
+use Rattle.mailstore.specs.CopyRows.{Copy, copy_row, folders_from, flags_from, message_of}
 use Rattle.mailstore.specs.Shows.{rows_of, IsShown, IsShownOrAbsent, Presents}
 use Rattle.mailstore.proofs.AccountLemmas.{bytes_antisymmetric}
 use Rattle.mailtables.proofs.SchemaFacts.{account_listed, copy_listed, message_listed, notice_listed, outgoing_listed, reply_listed, script_listed}
@@ -131,19 +131,19 @@ message_back : (user : List ℕ) (m : Message) → message_in (message_row user 
 unfolding message_in
 message_back user m = refl
 
--- what the row of a copy tells: the folder, its number, and its message's
+-- what the row of a copy tells: the folder, its number, its message's, and its flags
 abbrev Filing : Type 0
-Filing = List ℕ × ℕ × ℕ
+Filing = List ℕ × ℕ × ℕ × List ℕ
 
 abbrev filing_of : Copy → Filing
-filing_of c = (c.folder, c.n, c.id)
+filing_of c = (c.folder, c.n, c.id, c.flags)
 
 abbrev filing_row : List ℕ → Filing → Row
-filing_row user f = copy_cells user f.0 (pos f.1) (pos f.2)
+filing_row user f = copy_cells user f.0 (pos f.1) (pos f.2) f.3
 
 filing_in : Row → Filing
 unfolding number_in
-filing_in row = (bytes (column row folder_column), number_in row n_column, number_in row id_column)
+filing_in row = (bytes (column row folder_column), number_in row n_column, number_in row id_column, bytes (column row flags_column))
 
 filing_back : (user : List ℕ) (f : Filing) → filing_in (filing_row user f) ≡ f
 unfolding filing_in
@@ -175,8 +175,9 @@ copies_one messages rise (x ∷ xs) (y ∷ ys) e h k =
     let folder : x.folder ≡ y.folder = ap (λ f. f.0) head in
     let n : x.n ≡ y.n = ap (λ f. f.1) head in
     let id : x.id ≡ y.id = ap (λ f. f.2) head in
+    let flags : x.flags ≡ y.flags = ap (λ f. f.3) head in
     let text = ap (λ (m : Message). m.bytes) (message_one messages rise (message_of x) (message_of y) h.0 k.0 id) in
-    let same : x ≡ y = λ i. record { folder = folder i; n = n i; id = id i; message = text i } in
+    let same : x ≡ y = λ i. record { folder = folder i; n = n i; id = id i; message = text i; flags = flags i } in
     let rest : map filing_of xs ≡ map filing_of ys = cc in
     ap₂ ◌∷◌ same (copies_one messages rise xs ys rest h.1 k.1)
 
@@ -232,6 +233,7 @@ module _ (user : List ℕ) (own other : Tables) (alike : AreAlike own other) whe
       (filings_numbered user _ t.copies.entries _ t.copies.numbered) in
       let copies = copies_one s.copies.messages s.copies.stored.rise s.copies.entries t.copies.entries filings s.copies.kept.present (subst (λ l. AllByRecursion (λ c. Has l (message_of c)) t.copies.entries) (sym messages) t.copies.kept.present) in
       let folders : a.folders ≡ b.folders = s.copies.shown ∙ ap folders_from copies ∙ sym t.copies.shown in
+      let flags : a.flags ≡ b.flags = s.copies.shown_flags ∙ ap flags_from copies ∙ sym t.copies.shown_flags in
       let queue : a.queue ≡ b.queue = numbered_one (λ q. q.id) (queue_row user) queued_in (queued_back user) _ _ alike.queue a.queue b.queue _ _ s.queue t.queue in
       let replies : a.replies ≡ b.replies =
       s.replies.shown ∙ ap from_entries (map_one (reply_row user) (reply_one user) s.replies.entries t.replies.entries (sym s.replies.rows_are ∙ alike.replies ∙ t.replies.rows_are)) ∙ sym t.replies.shown in
@@ -243,6 +245,7 @@ module _ (user : List ℕ) (own other : Tables) (alike : AreAlike own other) whe
         scripts = scripts i;
         active = active i;
         folders = folders i;
+        flags = flags i;
         queue = queue i;
         replies = replies i;
         notices = notices i;

@@ -37,7 +37,7 @@ use Rattle.mailstore.specs.ScriptRows.{script_row, AreApart}
 use Rattle.mailtables.specs.MessageTable.{message, message_key, message_tree, bytes_column}
 use Rattle.mailstore.specs.MessageRows.{Message, message_row}
 use Rattle.mailtables.specs.CopyTable.{copy, select_folder, copy_tree, id_column, n_column}
-use Rattle.mailstore.specs.CopyRows.{Copy, copy_row, folders_from, message_of, is_in}
+use Rattle.mailstore.specs.CopyRows.{Copy, copy_row, filed_from, folders_from, flags_from, message_of, is_in}
 use Rattle.mailstore.specs.Shows.{rows_of}
 use Rattle.mailtables.proofs.TextFacts.{by_one, of_message, select_names_is, select_names_plain, select_folder_is, select_folder_plain, notices_shown, queue_shown, select_notices_is, select_notices_plain, select_queue_is, select_queue_plain}
 use Rattle.mailstore.proofs.AccountLemmas.{pair_is, message_is, bytes_antisymmetric}
@@ -136,7 +136,7 @@ module _ (old new : State) (rows : List Row) (tables : Tables) (h : HoldsTables 
       (λ row there passes. rows_paired tables owner messages kept up copies are present row there (pair_owned owner folder row passes)) rows
       (answered_from mail_schema select_folder key old new h.is select_folder_plain.0 (inner copy_tree (inner message_tree end)) of_message (col 2 3 ∷ []) _ _ select_folder_is select_folder_plain.1 rows shown) in
       let mine : filter p (map (copy_row owner) copies) ≡ map (copy_row owner) few =
-      filter-map p (copy_row owner) copies ∙ ap (map (copy_row owner)) (filter_same _ (is_in folder) (λ c. pair_is owner folder c.folder (Int (pos c.n) ∷ Int (pos c.id) ∷ [])) copies) in
+      filter-map p (copy_row owner) copies ∙ ap (map (copy_row owner)) (filter_same _ (is_in folder) (λ c. pair_is owner folder c.folder (Int (pos c.n) ∷ Int (pos c.id) ∷ Blob c.flags ∷ [])) copies) in
       let cells : IsPermutation (map (copy_row owner) few) (filter p (tables copy_tree)) =
       subst (λ l. IsPermutation l (filter p (tables copy_tree))) mine (subst (IsPermutation _) (sym (of_owner owner folder tables copy_tree)) (IsPermutation-filter p _ _ are)) in
       let outs : IsPermutation (map number_output few) (map show (filter p (tables copy_tree))) =
@@ -196,27 +196,33 @@ module _ (old new : State) (rows : List Row) (tables : Tables) (h : HoldsTables 
       let is = sorted_unique (output_cmp by_notice) (output_cmp_total by_notice) (map noticed_output entries) found.0 rising (IsPermutation-trans _ _ _ outs found.1) found.2 in
       found.3 ∙ ap (map (λ (o : Output). o.1)) is ∙ map-map (λ (o : Output). o.1) noticed_output entries ∙ sym (map-map notice_cells (λ (e : ℕ × Notice). e.1) entries)
 
--- the messages of a folder are those of its copies, in turn
-folder_joined : (q : List ℕ) (m : Folders) (c : Copy) → messages_in (filed m c.folder c.message) q ≡ messages_in m q ++ cond (is_in q c) (c.message ∷ []) []
-folder_joined q m c = ap (λ o. unwrap_or o []) (get-insert nat_list_cmp_total m c.folder (messages_in m c.folder ++ c.message ∷ []) q) ∙ go (is_eq (bytes_cmp q c.folder)) (is_in q c) refl refl
+-- what a folder has is what its copies have, in turn
+folder_joined : (what : Copy → List ℕ) (q : List ℕ) (m : Folders) (c : Copy) → messages_in (filed m c.folder (what c)) q ≡ messages_in m q ++ cond (is_in q c) (what c ∷ []) []
+folder_joined what q m c = ap (λ o. unwrap_or o []) (get-insert nat_list_cmp_total m c.folder (messages_in m c.folder ++ what c ∷ []) q) ∙ go (is_eq (bytes_cmp q c.folder)) (is_in q c) refl refl
   where
-    go : (a b : Bool) → is_eq (bytes_cmp q c.folder) ≡ a → is_in q c ≡ b → unwrap_or (cond a (Some (messages_in m c.folder ++ c.message ∷ [])) (get m q)) [] ≡ messages_in m q ++ cond b (c.message ∷ []) []
-    go true true s t = ap (λ k. messages_in m k ++ c.message ∷ []) (sym (same_bytes q c.folder s))
+    go : (a b : Bool) → is_eq (bytes_cmp q c.folder) ≡ a → is_in q c ≡ b → unwrap_or (cond a (Some (messages_in m c.folder ++ what c ∷ [])) (get m q)) [] ≡ messages_in m q ++ cond b (what c ∷ []) []
+    go true true s t = ap (λ k. messages_in m k ++ what c ∷ []) (sym (same_bytes q c.folder s))
     go true false s t = absurd (true≢false (sym (ap (λ k. is_eq (bytes_cmp c.folder k)) (same_bytes q c.folder s) ∙ bytes_eq_refl c.folder) ∙ t))
     go false true s t = absurd (true≢false (sym (ap (λ k. is_eq (bytes_cmp q k)) (same_bytes c.folder q t) ∙ bytes_eq_refl q) ∙ s))
     go false false s t = sym (append-nil (messages_in m q))
 
-folders_joined : (q : List ℕ) (copies : List Copy) (m : Folders) → messages_in (fold (λ folders c. filed folders c.folder c.message) m copies) q ≡ messages_in m q ++ map (λ c. c.message) (filter (is_in q) copies)
-folders_joined q [] m = sym (append-nil (messages_in m q))
-folders_joined q (c ∷ copies) m =
-    folders_joined q copies (filed m c.folder c.message) ∙ ap (λ l. l ++ map (λ x. x.message) (filter (is_in q) copies)) (folder_joined q m c)
-    ∙ elim (is_in q c) as (λ b. (messages_in m q ++ cond b (c.message ∷ []) []) ++ map (λ x. x.message) (filter (is_in q) copies) ≡ messages_in m q ++ map (λ x. x.message) (cond b (c ∷ filter (is_in q) copies) (filter (is_in q) copies))) [
-      | true ↦ append_assoc (messages_in m q) (c.message ∷ []) (map (λ x. x.message) (filter (is_in q) copies))
-      | false ↦ ap (λ l. l ++ map (λ x. x.message) (filter (is_in q) copies)) (append-nil (messages_in m q))
+folders_joined : (what : Copy → List ℕ) (q : List ℕ) (copies : List Copy) (m : Folders) → messages_in (fold (λ there c. filed there c.folder (what c)) m copies) q ≡ messages_in m q ++ map what (filter (is_in q) copies)
+folders_joined what q [] m = sym (append-nil (messages_in m q))
+folders_joined what q (c ∷ copies) m =
+    folders_joined what q copies (filed m c.folder (what c)) ∙ ap (λ l. l ++ map what (filter (is_in q) copies)) (folder_joined what q m c)
+    ∙ elim (is_in q c) as (λ b. (messages_in m q ++ cond b (what c ∷ []) []) ++ map what (filter (is_in q) copies) ≡ messages_in m q ++ map what (cond b (c ∷ filter (is_in q) copies) (filter (is_in q) copies))) [
+      | true ↦ append_assoc (messages_in m q) (what c ∷ []) (map what (filter (is_in q) copies))
+      | false ↦ ap (λ l. l ++ map what (filter (is_in q) copies)) (append-nil (messages_in m q))
     ]
 
+pub filed_are : (what : Copy → List ℕ) (copies : List Copy) (folder : List ℕ) → messages_in (filed_from what copies) folder ≡ map what (filter (is_in folder) copies)
+filed_are what copies folder = folders_joined what folder copies empty ∙ ap (λ o. unwrap_or o [] ++ map what (filter (is_in folder) copies)) (get-empty bytes_cmp folder)
+
 pub messages_are : (copies : List Copy) (folder : List ℕ) → messages_in (folders_from copies) folder ≡ map (λ c. c.message) (filter (is_in folder) copies)
-messages_are copies folder = folders_joined folder copies empty ∙ ap (λ o. unwrap_or o [] ++ map (λ c. c.message) (filter (is_in folder) copies)) (get-empty bytes_cmp folder)
+messages_are = filed_are (λ c. c.message)
+
+pub flags_are : (copies : List Copy) (folder : List ℕ) → messages_in (flags_from copies) folder ≡ map (λ c. c.flags) (filter (is_in folder) copies)
+flags_are = filed_are (λ c. c.flags)
 
 -- ---- names in order
 

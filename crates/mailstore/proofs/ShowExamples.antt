@@ -13,7 +13,7 @@ use Rattle.sqlite_schema.specs.Rules.{equal}
 use Rattle.sqlite_value.specs.Order.{Row, column}
 use Rattle.sqlite_trees.specs.Tree.{IsAscending}
 use Rattle.mailtables.specs.Rows.{Tables, has_key}
-use Rattle.mailstore.specs.Account.{Account, Accounts, messages_in}
+use Rattle.mailstore.specs.Account.{Account, Accounts, messages_in, flags_in}
 use Rattle.mailtables.specs.MetaTable.{meta_tree, version_key, version_row}
 use Rattle.mailtables.specs.AccountTable.{account_tree}
 use Rattle.mailstore.specs.AccountRows.{account_row}
@@ -27,24 +27,24 @@ use Rattle.mailstore.specs.Taking.{copy_taken}
 use Rattle.mailstore.specs.MessageRows.{Message, message_row}
 use Rattle.mailtables.specs.MessageTable.{message_cells, message_tree}
 use Rattle.mailtables.specs.CopyTable.{copy_tree, n_column, copy_cells}
-use Rattle.mailstore.specs.CopyRows.{Copy, copy_row, folders_from, message_of, HasCopy, AreKept, ShowsCopies, is_in, leaving_of, numbered_of}
+use Rattle.mailstore.specs.CopyRows.{Copy, copy_row, folders_from, flags_from, message_of, HasCopy, AreKept, ShowsCopies, is_in, leaving_of, numbered_of}
 use Rattle.mailstore.specs.Shows.{IsShown, IsAbsent, IsFirstOf, ShowsAccounts}
 use Rattle.mailstore.specs.declared.taking.NumberedMessage.{NumberedMessage}
 use Rattle.mailstore.proofs.NumberLemmas.{numbered_none}
 use Rattle.mailstore.proofs.VersionLemmas.{version_itself}
-use Rattle.mailstore.proofs.OrderLemmas.{messages_are}
+use Rattle.mailstore.proofs.OrderLemmas.{messages_are, flags_are}
 
 abbrev alice : List ℕ
 alice = codes "alice"
 
 abbrev first : Copy
-first = record { folder = codes "lists"; n = 1; id = 1; message = codes "one" }
+first = record { folder = codes "lists"; n = 1; id = 1; message = codes "one"; flags = [] }
 
 abbrev second : Copy
-second = record { folder = codes "INBOX"; n = 2; id = 1; message = codes "one" }
+second = record { folder = codes "INBOX"; n = 2; id = 1; message = codes "one"; flags = codes "\\Seen" }
 
 abbrev third : Copy
-third = record { folder = codes "INBOX"; n = 3; id = 3; message = codes "two" }
+third = record { folder = codes "INBOX"; n = 3; id = 3; message = codes "two"; flags = [] }
 
 -- an account with two messages in INBOX, of which one is in another folder too, and one script
 abbrev hers : Account
@@ -54,6 +54,7 @@ hers = record {
   scripts = insert empty (codes "main") (codes "keep;");
   active = None;
   folders = folders_from (first ∷ second ∷ third ∷ []);
+  flags = flags_from (first ∷ second ∷ third ∷ []);
   queue = [];
   replies = empty;
   notices = [];
@@ -96,13 +97,14 @@ rows_show_account = record {
       first = (omega arith, (omega arith, (omega arith, tt)));
     };
     shown = refl;
+    shown_flags = refl;
   };
 }
 
--- ---- the first message of a folder, with the number of its copy
+-- ---- the first message of a folder, with the number of its copy and its flags
 
 abbrev numbered : ℕ → List ℕ → Option NumberedMessage
-numbered n message = Some (record { number = n; message = message })
+numbered n message = Some (record { number = n; message = message; flags = codes "\\Seen" })
 
 first_of_inbox : option_map numbered_of (find (is_in (codes "INBOX")) (first ∷ second ∷ third ∷ [])) ≡ numbered 2 (codes "one")
 first_of_inbox = refl
@@ -133,14 +135,20 @@ not_the_next is = above_two 3 (codes "two") (omega arith) (is hers rows_show_acc
 messages_by_number : messages_in hers.folders (codes "INBOX") ≡ codes "one" ∷ codes "two" ∷ []
 messages_by_number = messages_are (first ∷ second ∷ third ∷ []) (codes "INBOX")
 
+-- and so are their flags
+flags_by_number : flags_in hers.flags (codes "INBOX") ≡ codes "\\Seen" ∷ [] ∷ []
+flags_by_number = flags_are (first ∷ second ∷ third ∷ []) (codes "INBOX")
+
 -- a message in three folders has one row, with the number of its first copy
 abbrev filed_thrice : Tables
-filed_thrice = copied alice (codes "M1") 1 (codes "a" ∷ codes "b" ∷ codes "INBOX" ∷ []) (λ tree. [])
+filed_thrice =
+    copied alice (codes "M1") 1 (record { mailbox = codes "a"; flags = [] } ∷ record { mailbox = codes "b"; flags = codes "\\Seen" } ∷ record { mailbox = codes "INBOX"; flags = [] } ∷ []) (λ tree. [])
 
 one_message_row : filed_thrice message_tree ≡ message_cells alice (pos 1) (codes "M1") ∷ []
 one_message_row = refl
 
-a_row_a_folder : filed_thrice copy_tree ≡ copy_cells alice (codes "a") (pos 1) (pos 1) ∷ copy_cells alice (codes "b") (pos 2) (pos 1) ∷ copy_cells alice (codes "INBOX") (pos 3) (pos 1) ∷ []
+a_row_a_folder : filed_thrice copy_tree
+    ≡ copy_cells alice (codes "a") (pos 1) (pos 1) [] ∷ copy_cells alice (codes "b") (pos 2) (pos 1) (codes "\\Seen") ∷ copy_cells alice (codes "INBOX") (pos 3) (pos 1) [] ∷ []
 a_row_a_folder = refl
 
 -- and one that is filed nowhere has none
@@ -178,7 +186,7 @@ not_at_counter a s = go s.copies
     next_is : s.next_copy ≡ 1
     next_is = let e = s.account_is in cc
 
-    go : ShowsCopies alice (copy_row alice first ∷ []) her_messages a.folders s.next_copy → ⊥
+    go : ShowsCopies alice (copy_row alice first ∷ []) her_messages a.folders a.flags s.next_copy → ⊥
     go c = at c.entries (length_permutation _ _ c.numbered.rows_are) c.numbered.from_one c.numbered.below
       where
         at : (es : List Copy) → length (copy_row alice first ∷ []) ≡ length (map (copy_row alice) es) → AllByRecursion (λ e. 1 ≤ e.n) es → AllByRecursion (λ e. e.n < s.next_copy) es → ⊥
@@ -186,7 +194,7 @@ not_at_counter a s = go s.copies
         at (e ∷ es) same one below = let low = below.0 in let least = one.0 in omega (arith, low, least, next_is)
 
 -- near miss: a copy whose message has no row
-not_without_message : (a : Account) (next : ℕ) → ShowsCopies alice (copy_row alice first ∷ []) [] a.folders next → ⊥
+not_without_message : (a : Account) (next : ℕ) → ShowsCopies alice (copy_row alice first ∷ []) [] a.folders a.flags next → ⊥
 not_without_message a next c = at c.entries c.messages (length_permutation _ _ c.numbered.rows_are) (length_permutation _ _ c.stored.rows_are) c.kept.present
   where
     at : (es : List Copy) (ms : List Message) → 1 ≡ length (map (copy_row alice) es) → 0 ≡ length (map (message_row alice) ms) → AllByRecursion (λ e. Has ms (message_of e)) es → ⊥
@@ -195,7 +203,7 @@ not_without_message a next c = at c.entries c.messages (length_permutation _ _ c
     at (e ∷ es) (m ∷ ms) same none present = omega (arith, none)
 
 -- near miss: a message that no folder has
-not_without_copy : (a : Account) (next : ℕ) → ShowsCopies alice [] (message_row alice (message_of first) ∷ []) a.folders next → ⊥
+not_without_copy : (a : Account) (next : ℕ) → ShowsCopies alice [] (message_row alice (message_of first) ∷ []) a.folders a.flags next → ⊥
 not_without_copy a next c = at c.entries c.messages (length_permutation _ _ c.numbered.rows_are) (length_permutation _ _ c.stored.rows_are) c.kept.used
   where
     at : (es : List Copy) (ms : List Message) → 0 ≡ length (map (copy_row alice) es) → 1 ≡ length (map (message_row alice) ms) → AllByRecursion (HasCopy es) ms → ⊥
@@ -208,9 +216,9 @@ IsOne row = column row n_column ≡ Int (pos 1)
 
 -- near miss: two copies with one number, though in different folders
 abbrev twice : List Row
-twice = copy_row alice first ∷ copy_row alice (record { folder = codes "work"; n = 1; id = 1; message = codes "one" }) ∷ []
+twice = copy_row alice first ∷ copy_row alice (record { folder = codes "work"; n = 1; id = 1; message = codes "one"; flags = [] }) ∷ []
 
-not_twice : (a : Account) (messages : List Row) (next : ℕ) → ShowsCopies alice twice messages a.folders next → ⊥
+not_twice : (a : Account) (messages : List Row) (next : ℕ) → ShowsCopies alice twice messages a.folders a.flags next → ⊥
 not_twice a messages next c = at c.entries (length_permutation _ _ c.numbered.rows_are) ones c.numbered.rise
   where
     ones : AllByRecursion IsOne (map (copy_row alice) c.entries)
@@ -233,7 +241,10 @@ not_orphaned s = let e = s.scripts in cc
 says : (value : Value) → filter (has_key version_key) ((Text (codes "version") ∷ value ∷ []) ∷ []) ≡ (Text (codes "version") ∷ value ∷ []) ∷ []
 says value = rw version_itself refl
 
--- near miss: another version
+-- near misses: other versions
+not_version_2 : (tables : Tables) (accounts : Accounts) → tables meta_tree ≡ (Text (codes "version") ∷ Int (pos 2) ∷ []) ∷ [] → ShowsAccounts tables accounts → ⊥
+not_version_2 tables accounts is s = let e = sym (says (Int (pos 2))) ∙ sym (ap (filter (has_key version_key)) is) ∙ s.version in cc
+
 not_version_1 : (tables : Tables) (accounts : Accounts) → tables meta_tree ≡ (Text (codes "version") ∷ Int (pos 1) ∷ []) ∷ [] → ShowsAccounts tables accounts → ⊥
 not_version_1 tables accounts is s = let e = sym (says (Int (pos 1))) ∙ sym (ap (filter (has_key version_key)) is) ∙ s.version in cc
 

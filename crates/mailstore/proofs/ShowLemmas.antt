@@ -88,7 +88,7 @@ others_one (RemoveMessage owner id) user tables differ =
     same_trees user tables message_tree _ (filter_kept (has_key (owner_key user)) (has_key (message_key owner.now id)) (key_apart user owner.now (Int id ∷ []) differ) (tables message_tree))
 others_one (RemoveCopy owner folder n) user tables differ =
     same_trees user tables copy_tree _ (filter_kept (has_key (owner_key user)) (has_key (copy_key owner.now folder.now n)) (key_apart user owner.now (Blob folder.now ∷ Int n ∷ []) differ) (tables copy_tree))
-others_one (AddCopy owner folder n id) user tables differ = same_trees user tables copy_tree _ (filter_beside (has_key (owner_key user)) (tables copy_tree) _ (begins_apart user owner.now differ (drop 1 (copy_cells owner.now folder.now n id))))
+others_one (AddCopy owner folder n id flags) user tables differ = same_trees user tables copy_tree _ (filter_beside (has_key (owner_key user)) (tables copy_tree) _ (begins_apart user owner.now differ (drop 1 (copy_cells owner.now folder.now n id flags.now))))
 others_one (AddOutgoing owner id kind sender target message) user tables differ =
     same_trees user tables outgoing_tree _ (filter_beside (has_key (owner_key user)) (tables outgoing_tree) _ (begins_apart user owner.now differ (drop 1 (queue_cells owner.now id kind sender.now target.now message.now))))
 others_one (RemoveOutgoing owner id) user tables differ =
@@ -132,7 +132,7 @@ own_one (RemoveMessage owner id) tables =
     own_trees owner.now tables message_tree _ _ (filter_swapped (has_key (owner_key owner.now)) (has_key (message_key owner.now id)) (tables message_tree))
 own_one (RemoveCopy owner folder n) tables =
     own_trees owner.now tables copy_tree _ _ (filter_swapped (has_key (owner_key owner.now)) (has_key (copy_key owner.now folder.now n)) (tables copy_tree))
-own_one (AddCopy owner folder n id) tables = own_trees owner.now tables copy_tree _ _ (filter_pushed (has_key (owner_key owner.now)) (tables copy_tree) _ (owned_by owner.now (drop 1 (copy_cells owner.now folder.now n id))))
+own_one (AddCopy owner folder n id flags) tables = own_trees owner.now tables copy_tree _ _ (filter_pushed (has_key (owner_key owner.now)) (tables copy_tree) _ (owned_by owner.now (drop 1 (copy_cells owner.now folder.now n id flags.now))))
 own_one (AddOutgoing owner id kind sender target message) tables =
     own_trees owner.now tables outgoing_tree _ _ (filter_pushed (has_key (owner_key owner.now)) (tables outgoing_tree) _ (owned_by owner.now (drop 1 (queue_cells owner.now id kind sender.now target.now message.now))))
 own_one (RemoveOutgoing owner id) tables = own_trees owner.now tables outgoing_tree _ _ (filter_swapped (has_key (owner_key owner.now)) (has_key (queue_key owner.now id)) (tables outgoing_tree))
@@ -161,7 +161,7 @@ version_one (AddScript owner name text) tables = refl
 version_one (RemoveScript owner name) tables = refl
 version_one (AddMessage owner id bytes) tables = refl
 version_one (RemoveMessage owner id) tables = refl
-version_one (AddCopy owner folder n id) tables = refl
+version_one (AddCopy owner folder n id flags) tables = refl
 version_one (RemoveCopy owner folder n) tables = refl
 version_one (AddOutgoing owner id kind sender target message) tables = refl
 version_one (RemoveOutgoing owner id) tables = refl

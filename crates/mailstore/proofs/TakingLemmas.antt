@@ -15,10 +15,10 @@ use Rattle.mailtables.specs.Rows.{Tables, has_key}
 use Rattle.mailtables.proofs.ListLemmas.{equal_itself, filter_kept}
 use Rattle.mailtables.specs.declared.change.Change.{Change}
 use Rattle.mailstore.specs.declared.taking.Leaving.{Leaving}
-use Rattle.mailstore.specs.Account.{bytes_cmp, Account, Accounts, Folders, with_user, in_place, messages_in, filed, holding, takes_mail}
+use Rattle.mailstore.specs.Account.{bytes_cmp, Account, Accounts, Folders, with_user, in_place, messages_in, filed, holding, left_in, takes_mail}
 use Rattle.mailtables.specs.Changes.{made, copy_removed, message_removed}
 use Rattle.mailstore.specs.Taking.{message_left, copy_taken, AreTaking}
-use Rattle.mailstore.specs.CopyRows.{Copy, copy_row, message_of, HasCopy, AreKept, folders_from, filing_of, is_in, is_other_copy, leaving_of}
+use Rattle.mailstore.specs.CopyRows.{Copy, copy_row, message_of, HasCopy, AreKept, filed_from, filing_of, is_in, is_other_copy, leaving_of}
 use Rattle.mailtables.specs.CopyTable.{copy_key, copy_tree}
 use Rattle.mailstore.specs.MessageRows.{Message, message_row}
 use Rattle.mailtables.specs.MessageTable.{message_key, message_tree}
@@ -26,7 +26,7 @@ use Rattle.mailstore.specs.Shows.{rows_of, IsShown, IsShownOrAbsent, ShowsAccoun
 use Rattle.mailstore.specs.Promises.{HasUser}
 use Rattle.mailstore.proofs.AccountLemmas.{bytes_antisymmetric, message_is, same_numbers}
 use Rattle.mailstore.proofs.NumberLemmas.{alone_at, numbered_without}
-use Rattle.mailstore.proofs.OrderLemmas.{messages_are}
+use Rattle.mailstore.proofs.OrderLemmas.{filed_are}
 use Rattle.mailstore.proofs.ShowLemmas.{filter_swapped, shows_after}
 
 -- ---- the folders that copies make
@@ -55,25 +55,25 @@ filed_full m name message full q =
     go true = some_pushed (messages_in m name) message
     go false = full q
 
-folded_full : (copies : List Copy) (m : Folders) → HasNoEmpty m → HasNoEmpty (fold (λ folders c. filed folders c.folder c.message) m copies)
-folded_full [] m full = full
-folded_full (c ∷ copies) m full = folded_full copies (filed m c.folder c.message) (filed_full m c.folder c.message full)
+folded_full : (what : Copy → List ℕ) (copies : List Copy) (m : Folders) → HasNoEmpty m → HasNoEmpty (fold (λ there c. filed there c.folder (what c)) m copies)
+folded_full what [] m full = full
+folded_full what (c ∷ copies) m full = folded_full what copies (filed m c.folder (what c)) (filed_full m c.folder (what c) full)
 
-folders_full : (copies : List Copy) → HasNoEmpty (folders_from copies)
-folders_full copies = folded_full copies empty empty_full
+folders_full : (what : Copy → List ℕ) (copies : List Copy) → HasNoEmpty (filed_from what copies)
+folders_full what copies = folded_full what copies empty empty_full
 
 pub held_get : (m : Folders) (name : List ℕ) (left : List (List ℕ)) (q : List ℕ) → get (holding m name left) q ≡ cond (is_eq (bytes_cmp q name)) (unless_none left) (get m q)
 held_get m name [] q = get-remove nat_list_cmp_total m name q
 held_get m name (x ∷ xs) q = get-insert nat_list_cmp_total m name (x ∷ xs) q
 
--- of copies, where those of one folder have these messages and those of the others are as they were
-held_folders : (copies later : List Copy) (folder : List ℕ) (left : List (List ℕ)) → map (λ c. c.message) (filter (is_in folder) later) ≡ left
-    → ((q : List ℕ) → is_eq (bytes_cmp q folder) ≡ false → filter (is_in q) later ≡ filter (is_in q) copies) → holding (folders_from copies) folder left ≡ folders_from later
-held_folders copies later folder left here others = same_map nat_list_cmp_total bytes_antisymmetric _ _ (λ q. held_get (folders_from copies) folder left q ∙ at q (is_eq (bytes_cmp q folder)) refl)
+-- of copies, where those of one folder have these and those of the others are as they were
+held_folders : (what : Copy → List ℕ) (copies later : List Copy) (folder : List ℕ) (left : List (List ℕ)) → map what (filter (is_in folder) later) ≡ left
+    → ((q : List ℕ) → is_eq (bytes_cmp q folder) ≡ false → filter (is_in q) later ≡ filter (is_in q) copies) → holding (filed_from what copies) folder left ≡ filed_from what later
+held_folders what copies later folder left here others = same_map nat_list_cmp_total bytes_antisymmetric _ _ (λ q. held_get (filed_from what copies) folder left q ∙ at q (is_eq (bytes_cmp q folder)) refl)
   where
-    at : (q : List ℕ) (b : Bool) → is_eq (bytes_cmp q folder) ≡ b → cond b (unless_none left) (get (folders_from copies) q) ≡ get (folders_from later) q
-    at q true same = ap unless_none (sym here ∙ sym (messages_are later folder)) ∙ sym (folders_full later folder) ∙ ap (get (folders_from later)) (sym (same_bytes q folder same))
-    at q false apart = folders_full copies q ∙ ap unless_none (messages_are copies q ∙ ap (map (λ c. c.message)) (sym (others q apart)) ∙ sym (messages_are later q)) ∙ sym (folders_full later q)
+    at : (q : List ℕ) (b : Bool) → is_eq (bytes_cmp q folder) ≡ b → cond b (unless_none left) (get (filed_from what copies) q) ≡ get (filed_from what later) q
+    at q true same = ap unless_none (sym here ∙ sym (filed_are what later folder)) ∙ sym (folders_full what later folder) ∙ ap (get (filed_from what later)) (sym (same_bytes q folder same))
+    at q false apart = folders_full what copies q ∙ ap unless_none (filed_are what copies q ∙ ap (map what) (sym (others q apart)) ∙ sym (filed_are what later q)) ∙ sym (folders_full what later q)
 
 -- ---- the copy that goes
 
@@ -195,11 +195,11 @@ module _ (user folder : List ℕ) (own : Tables) (a : Account) (s : IsShown user
   abbrev copies_are : List Copy
   copies_are = s.copies.entries
 
-  folders_left : (later rest : List Copy) (taken : List Copy) → filter (is_in folder) copies_are ≡ taken → drop 1 (map (λ c. c.message) taken) ≡ map (λ c. c.message) rest → filter (is_in folder) later ≡ rest
-      → ((q : List ℕ) → is_eq (bytes_cmp q folder) ≡ false → filter (is_in q) later ≡ filter (is_in q) copies_are) → (takes_mail folder 1 a).folders ≡ folders_from later
-  folders_left later rest taken split less here others =
-      ap (λ m. holding m folder (drop 1 (messages_in m folder))) s.copies.shown ∙ ap (λ l. holding (folders_from copies_are) folder (drop 1 l)) (messages_are copies_are folder ∙ ap (map (λ c. c.message)) split)
-      ∙ ap (holding (folders_from copies_are) folder) less ∙ held_folders copies_are later folder (map (λ c. c.message) rest) (ap (map (λ c. c.message)) here) others
+  folders_left : (what : Copy → List ℕ) (m : Folders) (later rest : List Copy) (taken : List Copy) → m ≡ filed_from what copies_are → filter (is_in folder) copies_are ≡ taken → drop 1 (map what taken) ≡ map what rest → filter (is_in folder) later ≡ rest
+      → ((q : List ℕ) → is_eq (bytes_cmp q folder) ≡ false → filter (is_in q) later ≡ filter (is_in q) copies_are) → left_in m folder 1 ≡ filed_from what later
+  folders_left what m later rest taken shown split less here others =
+      ap (λ there. left_in there folder 1) shown ∙ ap (λ l. holding (filed_from what copies_are) folder (drop 1 l)) (filed_are what copies_are folder ∙ ap (map what) split)
+      ∙ ap (holding (filed_from what copies_are) folder) less ∙ held_folders what copies_are later folder (map what rest) (ap (map what) here) others
 
   -- the folder has no message
   none_taken : find (is_in folder) copies_are ≡ None → IsShown user own (takes_mail folder 1 a)
@@ -219,7 +219,8 @@ module _ (user folder : List ℕ) (own : Tables) (a : Account) (s : IsShown user
           numbered = s.copies.numbered;
           stored = s.copies.stored;
           kept = s.copies.kept;
-          shown = folders_left copies_are [] [] none refl none (λ q apart. refl);
+          shown = folders_left (λ c. c.message) a.folders copies_are [] [] s.copies.shown none refl none (λ q apart. refl);
+          shown_flags = folders_left (λ c. c.flags) a.flags copies_are [] [] s.copies.shown_flags none refl none (λ q apart. refl);
         };
       }
 
@@ -230,10 +231,10 @@ module _ (user folder : List ℕ) (own : Tables) (a : Account) (s : IsShown user
     abbrev still : List Copy
     still = delete_where (is_gone folder c.n) copies_are
 
-    shown_still : (takes_mail folder 1 a).folders ≡ folders_from still
-    shown_still =
+    shown_still : (what : Copy → List ℕ) (m : Folders) → m ≡ filed_from what copies_are → left_in m folder 1 ≡ filed_from what still
+    shown_still what m shown =
         let split = first_split (is_in folder) copies_are c is in
-        folders_left still split.0 (c ∷ split.0) split.1 refl (rest_left folder copies_are s.copies.numbered.rise c there.0 there.1 split.0 split.1) (others_left folder copies_are s.copies.numbered.rise c there.0 there.1)
+        folders_left what m still split.0 (c ∷ split.0) shown split.1 refl (rest_left folder copies_are s.copies.numbered.rise c there.0 there.1 split.0 split.1) (others_left folder copies_are s.copies.numbered.rise c there.0 there.1)
 
     -- its message has another copy
     copy_gone : list_any (is_other_copy (filing_of c)) copies_are ≡ true → IsShown user (copy_removed user folder (pos c.n) own) (takes_mail folder 1 a)
@@ -253,7 +254,8 @@ module _ (user folder : List ℕ) (own : Tables) (a : Account) (s : IsShown user
             numbered = numbered_without (λ d. d.n) (copy_row user) (has_key (copy_key user folder (pos c.n))) (is_gone folder c.n) (copy_is user folder c.n) (own copy_tree) copies_are s.next_copy s.copies.numbered;
             stored = s.copies.stored;
             kept = still_kept folder copies_are s.copies.numbered.rise c there.0 there.1 s.copies.messages s.copies.kept other.0 other.1 other.2 other.3;
-            shown = shown_still;
+            shown = shown_still (λ d. d.message) a.folders s.copies.shown;
+            shown_flags = shown_still (λ d. d.flags) a.flags s.copies.shown_flags;
           };
         }
 
@@ -273,7 +275,8 @@ module _ (user folder : List ℕ) (own : Tables) (a : Account) (s : IsShown user
         numbered = numbered_without (λ d. d.n) (copy_row user) (has_key (copy_key user folder (pos c.n))) (is_gone folder c.n) (copy_is user folder c.n) (own copy_tree) copies_are s.next_copy s.copies.numbered;
         stored = numbered_without (λ m. m.id) (message_row user) (has_key (message_key user (pos c.id))) (λ m. m.id == c.id) (message_is user c.id) (own message_tree) s.copies.messages s.next_copy s.copies.stored;
         kept = less_kept folder copies_are s.copies.numbered.rise c there.0 there.1 s.copies.messages s.copies.kept (other_none c copies_are none);
-        shown = shown_still;
+        shown = shown_still (λ d. d.message) a.folders s.copies.shown;
+        shown_flags = shown_still (λ d. d.flags) a.flags s.copies.shown_flags;
       };
     }
 

@@ -161,7 +161,7 @@ module _ (user : List ℕ) (own : Tables) (a : Account) (s : IsShown user own a)
     copies = s.copies;
   }
 
-  folders_gone : IsShown user (owned_removed message_tree user (owned_removed copy_tree user own)) (record a { folders = empty })
+  folders_gone : IsShown user (owned_removed message_tree user (owned_removed copy_tree user own)) (record a { folders = empty; flags = empty })
   folders_gone = record {
     next_copy = s.next_copy;
     next_notice = s.next_notice;
@@ -177,6 +177,7 @@ module _ (user : List ℕ) (own : Tables) (a : Account) (s : IsShown user own a)
       stored = numbered_gone (λ (m : Message). m.id) (message_row user) user (λ m. owned_by user (drop 1 (message_row user m))) (own message_tree) s.copies.messages s.next_copy s.copies.stored;
       kept = record { present = tt; used = tt; first = tt };
       shown = refl;
+      shown_flags = refl;
     };
   }
 

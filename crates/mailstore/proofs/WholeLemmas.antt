@@ -193,8 +193,8 @@ record IsNext {X : Type 0} (number : X → ℕ) (entries : List X) (n next : ℕ
 -- what a part asks of those before it: a moment, that what was kept under its handle for its sender is kept still
 abbrev IsReady : Replies → Numbers → List ℕ → List Outgoing → Replies → List (ℕ × KeptNotice) → List KeptCopy → List Message → Part → Type 0
 IsReady base numbers last queue replies notices copies messages (Reply handle sender moment) = get replies (handle, sender) ≡ get base (handle, sender)
-IsReady base numbers last queue replies notices copies messages (Mail number folder message) = IsNext (λ c. c.n) copies number numbers.next_copy × AllByRecursion (λ m. m.id < number) messages
-IsReady base numbers last queue replies notices copies messages (Copy number folder first) = IsNext (λ c. c.n) copies number numbers.next_copy × (Has messages (record { id = first; bytes = last }) × (first ≤ number))
+IsReady base numbers last queue replies notices copies messages (Mail number folder message flags) = IsNext (λ c. c.n) copies number numbers.next_copy × AllByRecursion (λ m. m.id < number) messages
+IsReady base numbers last queue replies notices copies messages (Copy number folder first flags) = IsNext (λ c. c.n) copies number numbers.next_copy × (Has messages (record { id = first; bytes = last }) × (first ≤ number))
 IsReady base numbers last queue replies notices copies messages (Letter id way sender target message) = IsNext (λ q. q.id) queue id numbers.next_out
 IsReady base numbers last queue replies notices copies messages (Notice number moment text) = IsNext (λ e. e.0) notices number numbers.next_notice
 IsReady base numbers last queue replies notices copies messages part = Unit {0}
@@ -242,9 +242,9 @@ module _ (base : Replies) (user : List ℕ) (row : Row) (numbers : Numbers) (scr
         messages_are = still.messages_are;
         kept = still.kept;
       }
-  at_on (Mail number folder message) ready =
+  at_on (Mail number folder message flags) ready =
       let still = at_still own at in
-      let c : KeptCopy = record { folder = folder; n = number; id = number; message = message } in
+      let c : KeptCopy = record { folder = folder; n = number; id = number; message = message; flags = flags } in
       record {
         account_is = still.account_is;
         scripts_are = still.scripts_are;
@@ -255,9 +255,9 @@ module _ (base : Replies) (user : List ℕ) (row : Row) (numbers : Numbers) (scr
         messages_are = numbered_push (λ (m : Message). m.id) (message_row user) (own message_tree) messages numbers.next_copy (message_of c) ready.1 ready.0.one ready.0.low at.messages_are;
         kept = kept_first copies messages c refl at.kept;
       }
-  at_on (Copy number folder first) ready =
+  at_on (Copy number folder first flags) ready =
       let still = at_still own at in
-      let c : KeptCopy = record { folder = folder; n = number; id = first; message = last } in
+      let c : KeptCopy = record { folder = folder; n = number; id = first; message = last; flags = flags } in
       record {
         account_is = still.account_is;
         scripts_are = still.scripts_are;
@@ -309,8 +309,8 @@ less_of n m is = go (nat_cmp n m) refl is
     go Greater at h = absurd (let never = h in cc)
 
 abbrev CopyLess : ℕ → Part → Type 0
-CopyLess n (Mail m folder message) = m < n
-CopyLess n (Copy m folder first) = m < n
+CopyLess n (Mail m folder message flags) = m < n
+CopyLess n (Copy m folder first flags) = m < n
 CopyLess n part = Unit {0}
 
 abbrev LetterLess : ℕ → Part → Type 0
@@ -321,35 +321,35 @@ abbrev NoticeLess : ℕ → Part → Type 0
 NoticeLess n (Notice m moment text) = m < n
 NoticeLess n part = Unit {0}
 
-before_mail : (n : ℕ) (folder message : List ℕ) (q : Part) → Before q (Mail n folder message) → CopyLess n q
-before_mail n folder message (Script a b) h = tt
-before_mail n folder message (Reply a b c) h = tt
-before_mail n folder message (Mail m a b) h = less_of m n h
-before_mail n folder message (Copy m a b) h = less_of m n h
-before_mail n folder message (Letter a b c d e) h = tt
-before_mail n folder message (Notice a b c) h = tt
+before_mail : (n : ℕ) (folder message flags : List ℕ) (q : Part) → Before q (Mail n folder message flags) → CopyLess n q
+before_mail n folder message flags (Script a b) h = tt
+before_mail n folder message flags (Reply a b c) h = tt
+before_mail n folder message flags (Mail m a b e) h = less_of m n h
+before_mail n folder message flags (Copy m a b e) h = less_of m n h
+before_mail n folder message flags (Letter a b c d e) h = tt
+before_mail n folder message flags (Notice a b c) h = tt
 
-before_copy : (n : ℕ) (folder : List ℕ) (first : ℕ) (q : Part) → Before q (Copy n folder first) → CopyLess n q
-before_copy n folder first (Script a b) h = tt
-before_copy n folder first (Reply a b c) h = tt
-before_copy n folder first (Mail m a b) h = less_of m n h
-before_copy n folder first (Copy m a b) h = less_of m n h
-before_copy n folder first (Letter a b c d e) h = tt
-before_copy n folder first (Notice a b c) h = tt
+before_copy : (n : ℕ) (folder : List ℕ) (first : ℕ) (flags : List ℕ) (q : Part) → Before q (Copy n folder first flags) → CopyLess n q
+before_copy n folder first flags (Script a b) h = tt
+before_copy n folder first flags (Reply a b c) h = tt
+before_copy n folder first flags (Mail m a b e) h = less_of m n h
+before_copy n folder first flags (Copy m a b e) h = less_of m n h
+before_copy n folder first flags (Letter a b c d e) h = tt
+before_copy n folder first flags (Notice a b c) h = tt
 
 before_letter : (n : ℕ) (way : LetterKind) (sender target message : List ℕ) (q : Part) → Before q (Letter n way sender target message) → LetterLess n q
 before_letter n way sender target message (Script a b) h = tt
 before_letter n way sender target message (Reply a b c) h = tt
-before_letter n way sender target message (Mail a b c) h = tt
-before_letter n way sender target message (Copy a b c) h = tt
+before_letter n way sender target message (Mail a b c e) h = tt
+before_letter n way sender target message (Copy a b c e) h = tt
 before_letter n way sender target message (Letter m b c d e) h = less_of m n h
 before_letter n way sender target message (Notice a b c) h = tt
 
 before_notice : (n moment : ℕ) (text : List ℕ) (q : Part) → Before q (Notice n moment text) → NoticeLess n q
 before_notice n moment text (Script a b) h = tt
 before_notice n moment text (Reply a b c) h = tt
-before_notice n moment text (Mail a b c) h = tt
-before_notice n moment text (Copy a b c) h = tt
+before_notice n moment text (Mail a b c e) h = tt
+before_notice n moment text (Copy a b c e) h = tt
 before_notice n moment text (Letter a b c d e) h = tt
 before_notice n moment text (Notice m b c) h = less_of m n h
 
@@ -370,8 +370,8 @@ before_reply handle sender moment (Reply a b c) h = go (is_eq (reply_cmp (handle
         let same = tied reply_cmp reply_total reply_antisymmetric (handle, sender) (a, b) is in
         let less : is_lt (reply_cmp (a, b) (a, b)) ≡ true = subst (λ k. is_lt (reply_cmp (a, b) k) ≡ true) same h in
         absurd (let never : false ≡ true = sym (ap is_lt (tied_is (reply_cmp (a, b) (a, b)) (itself reply_cmp reply_total reply_antisymmetric (a, b)))) ∙ less in cc)
-before_reply handle sender moment (Mail a b c) h = tt
-before_reply handle sender moment (Copy a b c) h = tt
+before_reply handle sender moment (Mail a b c e) h = tt
+before_reply handle sender moment (Copy a b c e) h = tt
 before_reply handle sender moment (Letter a b c d e) h = tt
 before_reply handle sender moment (Notice a b c) h = tt
 
@@ -382,8 +382,8 @@ kept_so_far key (Script a b ∷ done) replies all = kept_so_far key done replies
 kept_so_far key (Reply a b c ∷ done) replies all =
     let moment = latest (get replies (a, b)) c in
     kept_so_far key done (insert replies (a, b) moment) all.1 ∙ (get-insert reply_total replies (a, b) moment key ∙ ap (λ t. cond t (Some moment) (get replies key)) all.0)
-kept_so_far key (Mail a b c ∷ done) replies all = kept_so_far key done replies all.1
-kept_so_far key (Copy a b c ∷ done) replies all = kept_so_far key done replies all.1
+kept_so_far key (Mail a b c e ∷ done) replies all = kept_so_far key done replies all.1
+kept_so_far key (Copy a b c e ∷ done) replies all = kept_so_far key done replies all.1
 kept_so_far key (Letter a b c d e ∷ done) replies all = kept_so_far key done replies all.1
 kept_so_far key (Notice a b c ∷ done) replies all = kept_so_far key done replies all.1
 
@@ -391,8 +391,8 @@ kept_so_far key (Notice a b c ∷ done) replies all = kept_so_far key done repli
 over_none : (part : Part) → over_kept empty part ≡ part
 over_none (Script a b) = refl
 over_none (Reply a b c) = ap (λ o. Reply a b (latest o c)) (get-empty reply_cmp (a, b))
-over_none (Mail a b c) = refl
-over_none (Copy a b c) = refl
+over_none (Mail a b c e) = refl
+over_none (Copy a b c e) = refl
 over_none (Letter a b c d e) = refl
 over_none (Notice a b c) = refl
 
@@ -404,8 +404,8 @@ copies_less : (n : ℕ) (last : List ℕ) (parts : List Part) → AllByRecursion
 copies_less n last [] all = tt
 copies_less n last (Script a b ∷ parts) all = copies_less n last parts all.1
 copies_less n last (Reply a b c ∷ parts) all = copies_less n last parts all.1
-copies_less n last (Mail a b c ∷ parts) all = (all.0, copies_less n c parts all.1)
-copies_less n last (Copy a b c ∷ parts) all = (all.0, copies_less n last parts all.1)
+copies_less n last (Mail a b c e ∷ parts) all = (all.0, copies_less n c parts all.1)
+copies_less n last (Copy a b c e ∷ parts) all = (all.0, copies_less n last parts all.1)
 copies_less n last (Letter a b c d e ∷ parts) all = copies_less n last parts all.1
 copies_less n last (Notice a b c ∷ parts) all = copies_less n last parts all.1
 
@@ -413,8 +413,8 @@ messages_less : (n : ℕ) (parts : List Part) → AllByRecursion (CopyLess n) pa
 messages_less n [] all = tt
 messages_less n (Script a b ∷ parts) all = messages_less n parts all.1
 messages_less n (Reply a b c ∷ parts) all = messages_less n parts all.1
-messages_less n (Mail a b c ∷ parts) all = (all.0, messages_less n parts all.1)
-messages_less n (Copy a b c ∷ parts) all = messages_less n parts all.1
+messages_less n (Mail a b c e ∷ parts) all = (all.0, messages_less n parts all.1)
+messages_less n (Copy a b c e ∷ parts) all = messages_less n parts all.1
 messages_less n (Letter a b c d e ∷ parts) all = messages_less n parts all.1
 messages_less n (Notice a b c ∷ parts) all = messages_less n parts all.1
 
@@ -422,8 +422,8 @@ letters_less : (n : ℕ) (parts : List Part) → AllByRecursion (LetterLess n) p
 letters_less n [] all = tt
 letters_less n (Script a b ∷ parts) all = letters_less n parts all.1
 letters_less n (Reply a b c ∷ parts) all = letters_less n parts all.1
-letters_less n (Mail a b c ∷ parts) all = letters_less n parts all.1
-letters_less n (Copy a b c ∷ parts) all = letters_less n parts all.1
+letters_less n (Mail a b c e ∷ parts) all = letters_less n parts all.1
+letters_less n (Copy a b c e ∷ parts) all = letters_less n parts all.1
 letters_less n (Letter a b c d e ∷ parts) all = (all.0, letters_less n parts all.1)
 letters_less n (Notice a b c ∷ parts) all = letters_less n parts all.1
 
@@ -431,8 +431,8 @@ notices_less : (n : ℕ) (parts : List Part) → AllByRecursion (NoticeLess n) p
 notices_less n [] all = tt
 notices_less n (Script a b ∷ parts) all = notices_less n parts all.1
 notices_less n (Reply a b c ∷ parts) all = notices_less n parts all.1
-notices_less n (Mail a b c ∷ parts) all = notices_less n parts all.1
-notices_less n (Copy a b c ∷ parts) all = notices_less n parts all.1
+notices_less n (Mail a b c e ∷ parts) all = notices_less n parts all.1
+notices_less n (Copy a b c e ∷ parts) all = notices_less n parts all.1
 notices_less n (Letter a b c d e ∷ parts) all = notices_less n parts all.1
 notices_less n (Notice a b c ∷ parts) all = (all.0, notices_less n parts all.1)
 
@@ -468,8 +468,8 @@ at_pushed user row numbers replies done p own at = record {
 
 -- the last part's message is kept
 abbrev IsHere : Option Part → List ℕ → List Message → Type 0
-IsHere (Some (Mail number folder message)) last messages = Has messages (record { id = number; bytes = last })
-IsHere (Some (Copy number folder first)) last messages = Has messages (record { id = first; bytes = last }) × (first ≤ number)
+IsHere (Some (Mail number folder message flags)) last messages = Has messages (record { id = number; bytes = last })
+IsHere (Some (Copy number folder first flags)) last messages = Has messages (record { id = first; bytes = last }) × (first ≤ number)
 IsHere part last messages = Unit {0}
 
 last_push : (last : Option Part) (done : List Part) (p : Part) → last_of last (done ++ p ∷ []) ≡ Some p
@@ -480,8 +480,8 @@ here_after : (base : Replies) (numbers : Numbers) (last : List ℕ) (queue : Lis
     → IsHere (Some p) (octets_after last p) (messages ++ messages_in_part p)
 here_after base numbers last queue replies notices copies messages (Script a b) ready = tt
 here_after base numbers last queue replies notices copies messages (Reply a b c) ready = tt
-here_after base numbers last queue replies notices copies messages (Mail number folder message) ready = has_last (messages ++ record { id = number; bytes = message } ∷ []) messages (record { id = number; bytes = message }) refl
-here_after base numbers last queue replies notices copies messages (Copy number folder first) ready = (has_left messages [] (record { id = first; bytes = last }) ready.1.0, ready.1.1)
+here_after base numbers last queue replies notices copies messages (Mail number folder message flags) ready = has_last (messages ++ record { id = number; bytes = message } ∷ []) messages (record { id = number; bytes = message }) refl
+here_after base numbers last queue replies notices copies messages (Copy number folder first flags) ready = (has_left messages [] (record { id = first; bytes = last }) ready.1.0, ready.1.1)
 here_after base numbers last queue replies notices copies messages (Letter a b c d e) ready = tt
 here_after base numbers last queue replies notices copies messages (Notice a b c) ready = tt
 
@@ -493,22 +493,22 @@ here_push done p here =
     (subst (IsHere (Some p) (octets_after (fold octets_after [] done) p)) (flat_push messages_in_part done p) here))
 
 -- what a copy is of, by the part before it
-come_from : (first n : ℕ) (folder : List ℕ) (last : Option Part) (octets : List ℕ) (messages : List Message) → IsHere last octets messages → comes_after last (Copy n folder first) ≡ true → has_come first last ≡ true
+come_from : (first n : ℕ) (folder flags : List ℕ) (last : Option Part) (octets : List ℕ) (messages : List Message) → IsHere last octets messages → comes_after last (Copy n folder first flags) ≡ true → has_come first last ≡ true
     → Has messages (record { id = first; bytes = octets }) × (first ≤ n)
-come_from first n folder (Some (Mail m a b)) octets messages here after come =
+come_from first n folder flags (Some (Mail m a b e)) octets messages here after come =
     let same : m ≡ first = eqb-true m first come in
     let less = less_of m n after in
     (subst (λ i. Has messages (record { id = i; bytes = octets })) same here, omega (arith, same, less))
-come_from first n folder (Some (Copy m a f)) octets messages here after come =
+come_from first n folder flags (Some (Copy m a f e)) octets messages here after come =
     let same : f ≡ first = eqb-true f first come in
     let less = less_of m n after in
     let low = here.1 in
     (subst (λ i. Has messages (record { id = i; bytes = octets })) same here.0, omega (arith, same, less, low))
-come_from first n folder (Some (Script a b)) octets messages here after come = absurd (let never = come in cc)
-come_from first n folder (Some (Reply a b c)) octets messages here after come = absurd (let never = come in cc)
-come_from first n folder (Some (Letter a b c d e)) octets messages here after come = absurd (let never = come in cc)
-come_from first n folder (Some (Notice a b c)) octets messages here after come = absurd (let never = come in cc)
-come_from first n folder None octets messages here after come = absurd (let never = come in cc)
+come_from first n folder flags (Some (Script a b)) octets messages here after come = absurd (let never = come in cc)
+come_from first n folder flags (Some (Reply a b c)) octets messages here after come = absurd (let never = come in cc)
+come_from first n folder flags (Some (Letter a b c d e)) octets messages here after come = absurd (let never = come in cc)
+come_from first n folder flags (Some (Notice a b c)) octets messages here after come = absurd (let never = come in cc)
+come_from first n folder flags None octets messages here after come = absurd (let never = come in cc)
 
 given_is : (next n : ℕ) → is_given next n ≡ true → (1 ≤ n) × (n < next)
 given_is next n is = let parts = and_parts _ _ is in (leb-true 1 n parts.0, ltb-true n next parts.1)
@@ -519,16 +519,16 @@ ready_next : (base : Replies) (numbers : Numbers) (done : List Part) (p : Part) 
     → IsReady base numbers (fold octets_after [] done) (flat_map letters_in done) (fold replies_with base done) (flat_map notices_in done) (copies_of [] done) (flat_map messages_in_part done) p
 ready_next base numbers done (Script a b) before fit follow here = tt
 ready_next base numbers done (Reply a b c) before fit follow here = kept_so_far (a, b) done base (all_weaker (λ q. Before q (Reply a b c)) (IsOther (a, b)) (before_reply a b c) done before)
-ready_next base numbers done (Mail n folder message) before fit follow here =
+ready_next base numbers done (Mail n folder message flags) before fit follow here =
     let given = given_is numbers.next_copy n fit in
-    let less = all_weaker (λ q. Before q (Mail n folder message)) (CopyLess n) (before_mail n folder message) done before in
+    let less = all_weaker (λ q. Before q (Mail n folder message flags)) (CopyLess n) (before_mail n folder message flags) done before in
     (record { above = copies_less n [] done less; one = given.0; low = given.1 }, messages_less n done less)
-ready_next base numbers done (Copy n folder first) before fit follow here =
+ready_next base numbers done (Copy n folder first flags) before fit follow here =
     let fits_both = and_parts (is_given numbers.next_copy n) (is_given numbers.next_copy first) fit in
     let given = given_is numbers.next_copy n fits_both.0 in
-    let less = all_weaker (λ q. Before q (Copy n folder first)) (CopyLess n) (before_copy n folder first) done before in
-    let both = and_parts (comes_after (last_of None done) (Copy n folder first)) (joins (last_of None done) (Copy n folder first)) follow in
-    (record { above = copies_less n [] done less; one = given.0; low = given.1 }, come_from first n folder (last_of None done) (fold octets_after [] done) (flat_map messages_in_part done) here both.0 both.1)
+    let less = all_weaker (λ q. Before q (Copy n folder first flags)) (CopyLess n) (before_copy n folder first flags) done before in
+    let both = and_parts (comes_after (last_of None done) (Copy n folder first flags)) (joins (last_of None done) (Copy n folder first flags)) follow in
+    (record { above = copies_less n [] done less; one = given.0; low = given.1 }, come_from first n folder flags (last_of None done) (fold octets_after [] done) (flat_map messages_in_part done) here both.0 both.1)
 ready_next base numbers done (Letter id way sender target message) before fit follow here =
     let given = given_is numbers.next_out id fit in
     let less = all_weaker (λ q. Before q (Letter id way sender target message)) (LetterLess id) (before_letter id way sender target message) done before in
@@ -563,7 +563,7 @@ whole_at head parts replies own at = record {
   queue = at.queue_is;
   replies = at.replies_are;
   notices = record { entries = flat_map notices_in parts; numbered = at.notices_are; shown = refl };
-  copies = record { entries = copies_of [] parts; messages = flat_map messages_in_part parts; numbered = at.copies_are; stored = at.messages_are; kept = at.kept; shown = refl };
+  copies = record { entries = copies_of [] parts; messages = flat_map messages_in_part parts; numbered = at.copies_are; stored = at.messages_are; kept = at.kept; shown = refl; shown_flags = refl };
 }
 
 bare_whole : (head : Head) (parts : List Part) (b : Account) (copy notice : ℕ) (replies : Replies) (own : Tables) → IsAccount head parts → IsBare head.owner.name (account_row head.owner.name b copy notice) replies own

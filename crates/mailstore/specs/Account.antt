@@ -6,6 +6,7 @@ use Rattle.std.specs.List.{find}
 use Rattle.std.specs.Ordering.{nat_cmp, on, then_cmp, is_eq}
 use Rattle.octets.specs.Ascii.{lowered}
 use Rattle.std.specs.Cmp.Lexicographic.{slice_cmp}
+use Rattle.mailflags.specs.declared.placement.Placement.{Placement}
 use Rattle.mailtables.specs.declared.queue.Kind.{Kind}
 use Rattle.mailtables.specs.declared.queue.Kind.TheVariants as kind
 use Rattle.mailstore.specs.declared.queue.Outgoing.{Outgoing}
@@ -45,6 +46,8 @@ pub record Account : Type 0 where
   pub scripts : Scripts
   pub active : Option (List ℕ)
   pub folders : Folders
+  -- to each folder's name the flags of its messages, as the text that names them, in the same order
+  pub flags : Folders
   pub queue : List Outgoing
   pub replies : Replies
   pub notices : List Notice
@@ -95,6 +98,7 @@ new_account address password = record {
   scripts = empty;
   active = None;
   folders = empty;
+  flags = empty;
   queue = [];
   replies = empty;
   notices = [];
@@ -125,16 +129,21 @@ renamed name other scripts = moved scripts name other (get scripts name)
 abbrev pub messages_in : Folders → List ℕ → List (List ℕ)
 messages_in folders name = unwrap_or (get folders name) []
 
--- a message joins the end of its folder
+-- the flags of a folder's messages, none where it is absent
+abbrev pub flags_in : Folders → List ℕ → List (List ℕ)
+flags_in = messages_in
+
+-- a message joins the end of its folder; its flags join those of the folder in the same way
 abbrev pub filed : Folders → List ℕ → List ℕ → Folders
 filed folders name message = insert folders name (messages_in folders name ++ message ∷ [])
 
--- the message joins each of the folders in turn
-abbrev pub filed_in : List ℕ → Folders → List (List ℕ) → Folders
-filed_in message = fold (λ folders name. filed folders name message)
+-- of each copy this joins its folder in turn
+abbrev pub filed_in : (Placement → List ℕ) → Folders → List Placement → Folders
+filed_in what = fold (λ folders copy. filed folders copy.mailbox (what copy))
 
-abbrev pub files_copies : List (List ℕ) → List ℕ → Account → Account
-files_copies names message a = record a { folders = filed_in message a.folders names }
+-- the message joins each of the mailboxes in turn, with the flags of the copy there
+abbrev pub files_copies : List Placement → List ℕ → Account → Account
+files_copies copies message a = record a { folders = filed_in (λ copy. message) a.folders copies; flags = filed_in (λ copy. copy.flags) a.flags copies }
 
 -- the script has another name, which was free; it stays active where it was
 abbrev pub renames_script : List ℕ → List ℕ → Account → Account
@@ -159,14 +168,18 @@ row_with id rows = find (λ row. row.id == id) rows
 abbrev pub takes_out : ℕ → Account → Account
 takes_out id a = record a { queue = filter (λ out. not (out.id == id)) a.queue }
 
--- these are the folder's messages; a folder without messages doesn't exist
+-- these are the folder's messages, or their flags; a folder without messages doesn't exist
 abbrev pub holding : Folders → List ℕ → List (List ℕ) → Folders
 holding folders name [] = remove folders name
 holding folders name (message ∷ more) = insert folders name (message ∷ more)
 
--- the first k messages leave the folder, which goes with its last one; their numbers are not used again
+-- the first k leave the folder
+abbrev pub left_in : Folders → List ℕ → ℕ → Folders
+left_in folders folder k = holding folders folder (drop k (messages_in folders folder))
+
+-- the first k messages leave the folder with their flags, and it goes with its last one; their numbers are not used again
 abbrev pub takes_mail : List ℕ → ℕ → Account → Account
-takes_mail folder k a = record a { folders = holding a.folders folder (drop k (messages_in a.folders folder)) }
+takes_mail folder k a = record a { folders = left_in a.folders folder k; flags = left_in a.flags folder k }
 
 -- of the moment that is kept, if one is, and another one the later is kept, so that none is forgotten
 abbrev pub latest : Option ℕ → ℕ → ℕ
@@ -211,7 +224,7 @@ takes_notices until a = record a { notices = filter (λ n. nat_lt until n.moment
 
 -- scripts, messages, queue and notices go; what stays is the address, the password, the moments of replies and the numbers
 abbrev pub empties : Account → Account
-empties a = record a { scripts = empty; active = None; folders = empty; queue = []; notices = [] }
+empties a = record a { scripts = empty; active = None; folders = empty; flags = empty; queue = []; notices = [] }
 
 -- the same, and it is closed under this salt and this digest
 abbrev pub empties_under : List ℕ → List ℕ → Account → Account
@@ -240,12 +253,12 @@ abbrev pub notes_if_any : ℕ → Option (List ℕ) → Account → Account
 notes_if_any moment None a = a
 notes_if_any moment (Some text) a = notes moment text a
 
--- the message joins the end of each folder and goes on to each address, the reply is sent and remembered, and the notice joins the others
+-- the message joins the end of each mailbox with its flags there and goes on to each address, the reply is sent and remembered, and the notice joins the others
 abbrev pub delivers : Plan → Account → Account
 delivers plan a =
     notes_if_any plan.moment plan.report.notice
     (replies_if_any plan.sender.now plan.reply
-    (sends_on plan.sender.now plan.message.now plan.report.sent (files_copies plan.report.filed plan.message.now a)))
+    (sends_on plan.sender.now plan.message.now plan.report.sent (files_copies plan.filed plan.message.now a)))
 
 -- ---- accounts by name
 

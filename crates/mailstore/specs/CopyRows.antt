@@ -7,7 +7,7 @@ use Rattle.sqlite_value.specs.declared.value.Value.TheVariants.{Int, Blob}
 use Rattle.sqlite_value.specs.Order.{Row}
 use Rattle.sqlite_rules.specs.Lists.{Has}
 use Rattle.mailtables.specs.CopyTable.{copy_cells}
-use Rattle.mailstore.specs.Account.{bytes_cmp, Account, Folders, messages_in, filed}
+use Rattle.mailstore.specs.Account.{bytes_cmp, Account, Folders, messages_in, flags_in, filed}
 use Rattle.mailstore.specs.declared.filing.Filing.{Filing}
 use Rattle.mailstore.specs.declared.taking.Leaving.{Leaving}
 use Rattle.mailstore.specs.declared.taking.NumberedMessage.{NumberedMessage}
@@ -16,22 +16,35 @@ use Rattle.mailstore.specs.MessageRows.{Message, message_row}
 
 -- ---- what rows show
 
--- a copy in a folder, with its number, and the message that it is a copy of
+-- a copy in a folder, with its number, the message that it is a copy of, and its own flags
 pub record Copy : Type 0 where
   pub folder : List ℕ
   pub n : ℕ
   pub id : ℕ
   pub message : List ℕ
+  -- the text that names its flags
+  pub flags : List ℕ
 
 abbrev pub copy_row : List ℕ → Copy → Row
-copy_row user copy = copy_cells user copy.folder (pos copy.n) (pos copy.id)
+copy_row user copy = copy_cells user copy.folder (pos copy.n) (pos copy.id) copy.flags
+
+-- a copy without flags
+abbrev pub IsBare : Copy → Type 0
+IsBare copy = copy.flags ≡ []
 
 abbrev pub message_of : Copy → Message
 message_of copy = record { id = copy.id; bytes = copy.message }
 
--- the folders that the copies make, in the order of their numbers
+-- to each folder what the copies have in it, in the order of their numbers
+abbrev pub filed_from : (Copy → List ℕ) → List Copy → Folders
+filed_from what = fold (λ folders copy. filed folders copy.folder (what copy)) empty
+
+-- the folders that the copies make, and the flags of the messages there
 abbrev pub folders_from : List Copy → Folders
-folders_from = fold (λ folders copy. filed folders copy.folder copy.message) empty
+folders_from = filed_from (λ copy. copy.message)
+
+abbrev pub flags_from : List Copy → Folders
+flags_from = filed_from (λ copy. copy.flags)
 
 -- the message has a copy
 abbrev pub HasCopy : List Copy → Message → Type 0
@@ -44,13 +57,14 @@ pub record AreKept (copies : List Copy) (messages : List Message) : Type 0 where
   pub first : AllByRecursion (λ c. c.id ≤ c.n) copies
 
 -- the rows are those of the user's copies and of their messages: a folder is the list of its copies in the order of their numbers, and one without copies isn't there
-pub record ShowsCopies (user : List ℕ) (rows message_rows : List Row) (folders : Folders) (next : ℕ) : Type 0 where
+pub record ShowsCopies (user : List ℕ) (rows message_rows : List Row) (folders flags : Folders) (next : ℕ) : Type 0 where
   pub entries : List Copy
   pub messages : List Message
   pub numbered : AreNumbered (λ c. c.n) (copy_row user) rows entries next
   pub stored : AreNumbered (λ m. m.id) (message_row user) message_rows messages next
   pub kept : AreKept entries messages
   pub shown : folders ≡ folders_from entries
+  pub shown_flags : flags ≡ flags_from entries
 
 -- the copy is in the folder
 abbrev pub is_in : List ℕ → Copy → Bool
@@ -62,13 +76,13 @@ copies_in folder copies = filter (is_in folder) copies
 
 -- ---- what is read of them
 
--- where a copy is, its number and its message's
+-- where a copy is, its number, its message's and its flags
 abbrev pub filing_of : Copy → Filing
-filing_of c = record { folder = c.folder; n = c.n; id = c.id }
+filing_of c = record { folder = c.folder; n = c.n; id = c.id; flags = c.flags }
 
 -- what the query for the copies shows of one
 abbrev pub filing_cells : Filing → Row
-filing_cells f = Blob f.folder ∷ Int (pos f.n) ∷ Int (pos f.id) ∷ []
+filing_cells f = Blob f.folder ∷ Int (pos f.n) ∷ Int (pos f.id) ∷ Blob f.flags ∷ []
 
 -- it is another copy of the same message
 abbrev pub is_other_copy : Filing → Copy → Bool
@@ -78,17 +92,22 @@ is_other_copy f c = c.id == f.id && not (c.n == f.n)
 abbrev pub leaving_of : List Copy → Copy → Leaving
 leaving_of copies c = record { copy = filing_of c; is_shared = list_any (is_other_copy (filing_of c)) copies }
 
--- a copy's message, with the copy's number
+-- a copy's message, with the copy's number and flags
 abbrev pub numbered_of : Copy → NumberedMessage
-numbered_of c = record { number = c.n; message = c.message }
+numbered_of c = record { number = c.n; message = c.message; flags = c.flags }
 
 -- it is the first of the messages, and none where there is none
 abbrev pub HasFirst : Option NumberedMessage → List (List ℕ) → Type 0
 HasFirst first messages = option_map (λ m. m.message) first ≡ slice_get messages 0
 
--- it is the first message of the account's folder, and none where the folder is absent
-abbrev pub IsFirstIn : List ℕ → Option NumberedMessage → Account → Type 0
-IsFirstIn folder first a = HasFirst first (messages_in a.folders folder)
+-- its flags are the first of these, and there are none where it is none
+abbrev pub HasFirstFlags : Option NumberedMessage → List (List ℕ) → Type 0
+HasFirstFlags first flags = option_map (λ m. m.flags) first ≡ slice_get flags 0
+
+-- it is the first message of the account's folder, with its flags there, and none where the folder is absent
+pub record IsFirstIn (folder : List ℕ) (first : Option NumberedMessage) (a : Account) : Type 0 where
+  pub message : HasFirst first (messages_in a.folders folder)
+  pub flags : HasFirstFlags first (flags_in a.flags folder)
 
 -- these are the messages of the folder, in the order in which they came
 abbrev pub AreMessagesOf : List ℕ → List (List ℕ) → Account → Type 0

@@ -1,5 +1,6 @@
 -- What the row changes of a delivery make of the tables.
 use Rattle.std.specs.Prelude.{◌≡◌, ◌+◌, ℕ, suc, ℤ, pos, Option, Some, None, List, [], ◌∷◌, length, Result, OnOk}
+use Rattle.mailflags.specs.declared.placement.Placement.{Placement}
 use Rattle.mailtables.specs.Rows.{Tables}
 use Rattle.mailtables.specs.declared.change.Change.{Change}
 use Rattle.octets.specs.Ascii.{lowered}
@@ -20,17 +21,17 @@ in_turn change n [] own = own
 in_turn change n (x ∷ xs) own = in_turn change (suc n) xs (change n x own)
 
 -- the message is kept once, with the number of its first copy; where no folder has it, it is not kept
-abbrev pub message_kept : List ℕ → List ℕ → ℕ → List (List ℕ) → Tables → Tables
+abbrev pub message_kept : List ℕ → List ℕ → ℕ → List Placement → Tables → Tables
 message_kept user message n [] own = own
-message_kept user message n (name ∷ names) own = message_added user (pos n) message own
+message_kept user message n (copy ∷ copies) own = message_added user (pos n) message own
 
--- a copy of the message with the number id joins each of the folders, numbered from n on
-abbrev pub copies_added : List ℕ → ℕ → ℕ → List (List ℕ) → Tables → Tables
-copies_added user id = in_turn (λ n folder. copy_added user folder (pos n) (pos id))
+-- a copy of the message with the number id joins each of the mailboxes with its flags there, numbered from n on
+abbrev pub copies_added : List ℕ → ℕ → ℕ → List Placement → Tables → Tables
+copies_added user id = in_turn (λ n copy. copy_added user copy.mailbox (pos n) (pos id) copy.flags)
 
--- the message is kept and joins each of the folders, numbered from n on
-abbrev pub copied : List ℕ → List ℕ → ℕ → List (List ℕ) → Tables → Tables
-copied user message n names own = copies_added user n n names (message_kept user message n names own)
+-- the message is kept and joins each of the mailboxes, numbered from n on
+abbrev pub copied : List ℕ → List ℕ → ℕ → List Placement → Tables → Tables
+copied user message n copies own = copies_added user n n copies (message_kept user message n copies own)
 
 -- a redirect's row has the message that was received, and its sender
 abbrev pub redirect_added : List ℕ → List ℕ → List ℕ → ℤ → List ℕ → Tables → Tables
@@ -62,7 +63,7 @@ count_of (Some x) = 1
 -- the counters go up past all that joins
 abbrev pub counters_raised : List ℕ → Counters → Plan → Tables → Tables
 counters_raised user c plan =
-    counters_set user (pos (c.copy + length plan.report.filed)) (pos (c.out + (length plan.report.sent + count_of plan.reply)))
+    counters_set user (pos (c.copy + length plan.filed)) (pos (c.out + (length plan.report.sent + count_of plan.reply)))
     (pos (c.notice + count_of plan.report.notice))
 
 -- what a delivery makes of the user's rows, whose counters were these
@@ -72,7 +73,7 @@ delivered user c plan own =
     (reply_put user (lowered plan.sender.now) plan.reply
     (reply_queued user plan.sender.now (c.out + length plan.report.sent) plan.reply
     (sent_on user plan.sender.now plan.message.now c.out plan.report.sent
-    (copied user plan.message.now c.copy plan.report.filed
+    (copied user plan.message.now c.copy plan.filed
     (counters_raised user c plan own)))))
 
 -- the changes of a delivery to a user whose counters were these

@@ -17,5 +17,8 @@ first_two row = column row 0 ∷ column row 1 ∷ []
 abbrev pub first_three : Row → Row
 first_three row = column row 0 ∷ column row 1 ∷ column row 2 ∷ []
 
+abbrev pub first_four : Row → Row
+first_four row = column row 0 ∷ column row 1 ∷ column row 2 ∷ column row 3 ∷ []
+
 abbrev pub first_five : Row → Row
 first_five row = column row 0 ∷ column row 1 ∷ column row 2 ∷ column row 3 ∷ column row 4 ∷ []

@@ -27,6 +27,7 @@ pub use Rattle.mailtables.specs.Connection
 pub use Rattle.mailtables.specs.Ours
 pub use Rattle.mailtables.specs.Schema
 pub mod OldShows
+pub mod SecondShows
 pub mod OwnRows
 pub use Rattle.oldtables.specs.OldSchema
 pub use Rattle.oldtables.specs.Migration

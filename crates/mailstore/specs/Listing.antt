@@ -59,7 +59,7 @@ HasNoticeRow user id rows own = OfNotices user own (λ entries. (n : ℕ) → id
 -- ---- the queries
 
 abbrev pub select_filings : List ℕ
-select_filings = codes "SELECT folder, n, id FROM copy WHERE owner = ?1 ORDER BY n"
+select_filings = codes "SELECT folder, n, id, flags FROM copy WHERE owner = ?1 ORDER BY n"
 
 abbrev pub select_reply_keys : List ℕ
 select_reply_keys = codes "SELECT handle, sender FROM reply WHERE owner = ?1 ORDER BY handle, sender"

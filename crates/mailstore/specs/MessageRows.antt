@@ -1,6 +1,7 @@
 -- A user's messages as their rows have them: each is kept once.
 use Rattle.std.specs.Prelude.{◌≡◌, ◌++◌, ℕ, ℤ, pos, List, [], ◌∷◌}
 use Rattle.sqlite_value.specs.Order.{Row}
+use Rattle.mailflags.specs.declared.placement.Placement.{Placement}
 use Rattle.mailtables.specs.MessageTable.{message_cells}
 
 -- a message with its number
@@ -12,10 +13,10 @@ abbrev pub message_row : List ℕ → Message → Row
 message_row user m = message_cells user (pos m.id) m.bytes
 
 -- the row, where there is a folder for it
-abbrev pub once_for : List (List ℕ) → Row → List Row
+abbrev pub once_for : List Placement → Row → List Row
 once_for [] row = []
-once_for (name ∷ names) row = row ∷ []
+once_for (copy ∷ copies) row = row ∷ []
 
 -- the user's message has one row more, however many folders there are, and none where there is no folder
-abbrev pub GainsOnce : List ℕ → List ℕ → List (List ℕ) → List Row → List Row → Type 0
-GainsOnce user bytes names rows after = (id : ℤ) × (after ≡ rows ++ once_for names (message_cells user id bytes))
+abbrev pub GainsOnce : List ℕ → List ℕ → List Placement → List Row → List Row → Type 0
+GainsOnce user bytes copies rows after = (id : ℤ) × (after ≡ rows ++ once_for copies (message_cells user id bytes))

@@ -1,4 +1,4 @@
--- Which accounts the tables of version 1 show, row by row: all is as in version 2, but that each copy has its own message.
+-- Which accounts the tables of version 1 show, row by row: all is as in version 3, but that each copy has its own message and no flags.
 use Rattle.std.specs.Prelude.{◌≡◌, ◌⊎◌, ℕ, pos, List, [], ◌∷◌, codes, filter, Option, Some, None}
 use Rattle.std.specs.List.{AllByRecursion}
 use Rattle.std.specs.FinMap.{get}
@@ -21,19 +21,22 @@ use Rattle.mailstore.specs.QueueRows.{ShowsQueue}
 use Rattle.mailstore.specs.ReplyRows.{ShowsReplies}
 use Rattle.mailstore.specs.NoticeRows.{ShowsNotices}
 use Rattle.mailstore.specs.Numbers.{AreNumbered}
-use Rattle.mailstore.specs.CopyRows.{Copy, folders_from}
+use Rattle.mailstore.specs.CopyRows.{Copy, IsBare, folders_from, flags_from}
 use Rattle.mailstore.specs.OwnRows.{rows_of}
 
 -- the row of a copy: its folder, its number and its message
 abbrev pub old_copy_row : List ℕ → Copy → Row
 old_copy_row user copy = value.Blob user ∷ value.Blob copy.folder ∷ value.Int (pos copy.n) ∷ value.Blob copy.message ∷ []
 
--- the rows are those of the user's copies: a folder is the list of its copies in the order of their numbers, and each is a copy of a message of its own
-pub record ShowsOldCopies (user : List ℕ) (rows : List Row) (folders : Folders) (next : ℕ) : Type 0 where
+-- the rows are those of the user's copies: a folder is the list of its copies in the order of their numbers, and each is a copy of a message of its own, without
+-- flags
+pub record ShowsOldCopies (user : List ℕ) (rows : List Row) (folders flags : Folders) (next : ℕ) : Type 0 where
   pub entries : List Copy
   pub numbered : AreNumbered (λ c. c.n) (old_copy_row user) rows entries next
   pub own : AllByRecursion (λ c. c.id ≡ c.n) entries
+  pub bare : AllByRecursion IsBare entries
   pub shown : folders ≡ folders_from entries
+  pub shown_flags : flags ≡ flags_from entries
 
 -- the rows of one user are those of the account
 pub record IsShownOld (user : List ℕ) (own : Tables) (a : Account) : Type 0 where
@@ -44,7 +47,7 @@ pub record IsShownOld (user : List ℕ) (own : Tables) (a : Account) : Type 0 wh
   pub queue : ShowsQueue user (own outgoing_tree) a.queue a.next_out
   pub replies : ShowsReplies user (own reply_tree) a.replies
   pub notices : ShowsNotices user (own notice_tree) a.notices next_notice
-  pub copies : ShowsOldCopies user (own old_copy_tree) a.folders next_copy
+  pub copies : ShowsOldCopies user (own old_copy_tree) a.folders a.flags next_copy
 
 -- a name without an account has no row in any table
 pub record IsAbsentOld (own : Tables) : Type 0 where

@@ -132,7 +132,7 @@ pub record ReadsProfile (user : List ℕ) (old new : State) (result : Result (Op
 -- the database of our tables has the plan's message once more than these rows
 abbrev pub HasStoredOnce : List ℕ → Plan → List Row → Database → Type 0
 HasStoredOnce user plan rows db =
-    (after : Tables) × HoldsTables mail_schema db after × GainsOnce user plan.message.now plan.report.filed rows (after message_tree)
+    (after : Tables) × HoldsTables mail_schema db after × GainsOnce user plan.message.now plan.filed rows (after message_tree)
 
 -- after Ok the table of messages has the plan's message once more
 abbrev pub StoresOnce : {X E : Type 0} → List ℕ → Plan → State → State → Result X E → Type 0

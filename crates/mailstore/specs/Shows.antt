@@ -8,13 +8,16 @@ use Rattle.sqlite_trees.specs.Tree.{Trees}
 use Rattle.sqlite.specs.Effect.{Database}
 use Rattle.sqlite.specs.State.{State, HasCleanDisk}
 use Rattle.mailtables.specs.Rows.{Tables, HoldsTables, has_key}
-use Rattle.mailtables.specs.Schema.{mail_schema, unindexed_schema, IsOurSchema}
+use Rattle.mailtables.specs.Schema.{mail_schema, IsOurSchema}
 use Rattle.mailtables.specs.Ours.{IsOpenedAs}
-use Rattle.oldtables.specs.OldSchema.{old_schema, oldest_schema, IsOldSchema}
+use Rattle.oldtables.specs.OldSchema.{old_schema, oldest_schema}
+use Rattle.oldtables.specs.SecondSchema.{IsSecondSchema}
 use Rattle.oldtables.specs.Migration.{TurnsNew, TurnsNewest}
+use Rattle.oldtables.specs.Third.{TurnsThird}
 use Rattle.oldtables.specs.Opening.{IsBehind}
 pub use Rattle.mailstore.specs.OwnRows.{rows_of}
 use Rattle.mailstore.specs.OldShows.{OffersOld}
+use Rattle.mailstore.specs.SecondShows.{OffersSecond}
 use Rattle.mailstore.specs.Account.{Account, Accounts}
 use Rattle.mailtables.specs.MetaTable.{meta_tree, version_key, version_row}
 use Rattle.mailtables.specs.AccountTable.{account_tree}
@@ -43,7 +46,7 @@ pub record IsShown (user : List ℕ) (own : Tables) (a : Account) : Type 0 where
   pub queue : ShowsQueue user (own outgoing_tree) a.queue a.next_out
   pub replies : ShowsReplies user (own reply_tree) a.replies
   pub notices : ShowsNotices user (own notice_tree) a.notices next_notice
-  pub copies : ShowsCopies user (own copy_tree) (own message_tree) a.folders next_copy
+  pub copies : ShowsCopies user (own copy_tree) (own message_tree) a.folders a.flags next_copy
 
 -- a name without an account has no row in any table
 pub record IsAbsent (own : Tables) : Type 0 where
@@ -68,17 +71,9 @@ pub record ShowsAccounts (tables : Tables) (accounts : Accounts) : Type 0 where
 abbrev pub Presents : Database → Accounts → Type 0
 Presents db accounts = (tables : Tables) × HoldsTables mail_schema db tables × ShowsAccounts tables accounts
 
--- a database of our tables has these rows: with the index of the copies by their messages or, made before there was one, without it
-abbrev pub HoldsOurs : Database → Tables → Type 0
-HoldsOurs db tables = HoldsTables mail_schema db tables ⊎ HoldsTables unindexed_schema db tables
-
--- a database of version 2 whose tables show the accounts
-abbrev pub OffersNew : Database → Accounts → Type 0
-OffersNew db accounts = (tables : Tables) × HoldsOurs db tables × ShowsAccounts tables accounts
-
--- a database that `open` takes, of either version, whose tables show the accounts
+-- a database that `open` takes, of any version, whose tables show the accounts
 abbrev pub Offers : Database → Accounts → Type 0
-Offers db accounts = OffersNew db accounts ⊎ OffersOld db accounts
+Offers db accounts = Presents db accounts ⊎ (OffersSecond db accounts ⊎ OffersOld db accounts)
 
 -- a database that offers no accounts, not even none at all
 abbrev pub OffersNothing : Database → Type 0
@@ -88,12 +83,12 @@ OffersNothing db = (accounts : Accounts) → ¬ Offers db accounts
 abbrev pub ShowsIn : Trees → Accounts → Type 0
 ShowsIn trees accounts = (db : Database) × Presents db accounts × (trees ≡ db.trees)
 
--- what is seen has the trees of a database that offers the accounts; of one of version 1 the schema too, since the orders of its tables share their trees
+-- what is seen has the trees of a database that offers the accounts; of one of an earlier version the schema too, since its schemas share their trees
 pub record OffersIn (seen : Database) (accounts : Accounts) : Type 0 where
   pub db : Database
   pub offers : Offers db accounts
   pub trees : seen.trees ≡ db.trees
-  pub schema : IsOldSchema db.schema → seen.schema ≡ db.schema
+  pub schema : IsBehind db.schema → seen.schema ≡ db.schema
 
 -- whatever a crash leaves, this holds of it
 abbrev pub OnlyLeaves : (Trees → Type 0) → State → Type 0
@@ -106,14 +101,15 @@ StillShows old new = HasCleanDisk new → (accounts : Accounts) → OffersIn old
 -- ---- a database that is opened: `Becomes` (oldtables) tells what becomes of its tables, `OpensAs` of the accounts too; of what a crash leaves
 -- of it `MayBecome` (oldtables) and `CrashLeavesOpened` tell the same; `OpensKnown` (oldtables) is all that `open_known` promises
 
--- what `open` makes of a database: of version 2 it has our schema, and in each table the rows that it had; of version 1 it has become version 2; it shows the accounts that it offered
+-- what `open` makes of a database: of version 3 it is as it was; of version 2 or 1 it has become version 3; it shows the accounts that it offered
 pub record OpensAs (old new : Database) : Type 0 where
   pub tables : IsOurSchema old.schema → IsOpenedAs old new
+  pub second : IsSecondSchema old.schema → TurnsThird old new
   pub last : old.schema ≡ old_schema → TurnsNew old new
   pub fourth : old.schema ≡ oldest_schema → TurnsNewest old new
   pub shown : (accounts : Accounts) → Offers old accounts → Presents new accounts
 
--- what a crash may leave of an open, beside what it left before: of a database without the index, or of version 1, what `open` makes of it
+-- what a crash may leave of an open, beside what it left before: of a database of an earlier version, what `open` makes of it
 pub record CrashLeavesOpened (seen : Database) (trees : Trees) : Type 0 where
   pub behind : IsBehind seen.schema
   pub db : Database

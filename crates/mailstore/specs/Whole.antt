@@ -13,7 +13,7 @@ use Rattle.mailtables.specs.declared.queue.Kind.TheVariants as kind
 use Rattle.mailstore.specs.declared.notice.Notice.{Notice as KeptNotice}
 use Rattle.mailstore.specs.declared.queue.Outgoing.{Outgoing}
 use Rattle.mailstore.specs.Account.{Account, Password, Replies, Scripts, latest}
-use Rattle.mailstore.specs.CopyRows.{Copy as KeptCopy, folders_from}
+use Rattle.mailstore.specs.CopyRows.{Copy as KeptCopy, folders_from, flags_from}
 use Rattle.mailstore.specs.MessageRows.{Message}
 
 -- ---- what each part makes
@@ -41,18 +41,18 @@ notices_in part = []
 
 -- a message is kept with the number of its first copy
 abbrev pub messages_in_part : Part → List Message
-messages_in_part (Mail number folder message) = record { id = number; bytes = message } ∷ []
+messages_in_part (Mail number folder message flags) = record { id = number; bytes = message } ∷ []
 messages_in_part part = []
 
 -- the octets of the last message that came
 abbrev pub octets_after : List ℕ → Part → List ℕ
-octets_after last (Mail number folder message) = message
+octets_after last (Mail number folder message flags) = message
 octets_after last part = last
 
--- a copy has the octets of the last message that came
+-- a copy has the octets of the last message that came, and its own flags
 abbrev pub copies_in_part : List ℕ → Part → List KeptCopy
-copies_in_part last (Mail number folder message) = record { folder = folder; n = number; id = number; message = message } ∷ []
-copies_in_part last (Copy number folder first) = record { folder = folder; n = number; id = first; message = last } ∷ []
+copies_in_part last (Mail number folder message flags) = record { folder = folder; n = number; id = number; message = message; flags = flags } ∷ []
+copies_in_part last (Copy number folder first flags) = record { folder = folder; n = number; id = first; message = last; flags = flags } ∷ []
 copies_in_part last part = []
 
 abbrev pub copies_of : List ℕ → List Part → List KeptCopy
@@ -72,6 +72,7 @@ whole head parts replies = record {
   scripts = fold scripts_with empty parts;
   active = head.owner.active;
   folders = folders_from (copies_of [] parts);
+  flags = flags_from (copies_of [] parts);
   queue = flat_map letters_in parts;
   replies = fold replies_with replies parts;
   notices = map (λ e. e.1) (flat_map notices_in parts);

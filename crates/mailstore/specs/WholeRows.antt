@@ -26,14 +26,14 @@ script_put user name text own = script_added user name text (script_removed user
 abbrev pub moment_put : List ℕ → List ℕ → List ℕ → ℕ → Tables → Tables
 moment_put user handle sender moment own = reply_added user handle sender (pos moment) (reply_removed user handle sender own)
 
-abbrev pub mail_put : List ℕ → List ℕ → ℕ → List ℕ → Tables → Tables
-mail_put user folder n message own = copy_added user folder (pos n) (pos n) (message_added user (pos n) message own)
+abbrev pub mail_put : List ℕ → List ℕ → ℕ → List ℕ → List ℕ → Tables → Tables
+mail_put user folder n message flags own = copy_added user folder (pos n) (pos n) flags (message_added user (pos n) message own)
 
 abbrev pub part_made : List ℕ → Part → Tables → Tables
 part_made user (Script name text) = script_put user name text
 part_made user (Reply handle sender moment) = moment_put user handle sender moment
-part_made user (Mail number folder message) = mail_put user folder number message
-part_made user (Copy number folder first) = copy_added user folder (pos number) (pos first)
+part_made user (Mail number folder message flags) = mail_put user folder number message flags
+part_made user (Copy number folder first flags) = copy_added user folder (pos number) (pos first) flags
 part_made user (Letter id way sender target message) = outgoing_added user (pos id) (kind_of way) sender target message
 part_made user (Notice number moment text) = notice_added user (pos number) (pos moment) text
 

@@ -13,6 +13,7 @@ use crate::cell::number;
 use crate::refusal::Refusal;
 use crate::report::{Plan, VacationReply};
 use crate::store::Store;
+use mailflags::Placement;
 use mailtables::{Change, Kind};
 use octets::Octets;
 use sqlite::Alter;
@@ -43,7 +44,7 @@ fn push_counters<'a>(
     let sent = report.sent.as_slice().len() + count(plan.reply.as_ref());
     changes.push(Change::SetCounters {
         name: user,
-        copy: number_after(counters.copy, report.filed.as_slice().len())?,
+        copy: number_after(counters.copy, plan.filed.as_slice().len())?,
         out: number_after(counters.out, sent)?,
         notice: number_after(counters.notice, count(report.notice.as_ref()))?,
     })?;
@@ -60,18 +61,18 @@ fn count<T>(one: Option<&T>) -> usize
     }
 }
 
-/// The message is kept with the number of its first copy, if a folder is to have it.
+/// The message is kept with the number of its first copy, if a mailbox is to have one.
 fn push_message<'a>(
     changes: &mut Vec<Change<'a>>,
     user: &'a [u8],
     message: &'a [u8],
-    folders: &[Octets],
+    copies: &[Placement],
     next: u64,
 ) -> Result<(), Refusal>
-    ensures kept { Pushes user.now (message_kept user.now message.now next folders.now) changes.old.items changes.new.items result }
+    ensures kept { Pushes user.now (message_kept user.now message.now next copies.now) changes.old.items changes.new.items result }
     ensures named { IfErr result IsTransient }
 {
-    if folders.is_empty() {
+    if copies.is_empty() {
         return Ok(());
     }
     changes.push(Change::AddMessage {
@@ -82,22 +83,23 @@ fn push_message<'a>(
     Ok(())
 }
 
-/// A copy joins each folder in turn, numbered from `next` on. Their message has the number of the first.
+/// A copy joins each mailbox in turn with its flags, numbered from `next` on. Their message has the number of the first.
 fn push_copies<'a>(
     changes: &mut Vec<Change<'a>>,
     user: &'a [u8],
-    folders: &'a [Octets],
+    copies: &'a [Placement],
     next: u64,
 ) -> Result<(), Refusal>
-    ensures copied { Pushes user.now (copies_added user.now next next folders.now) changes.old.items changes.new.items result }
+    ensures copied { Pushes user.now (copies_added user.now next next copies.now) changes.old.items changes.new.items result }
     ensures named { IfErr result IsTransient }
 {
-    for (i, folder) in folders.iter().enumerate() {
+    for (i, copy) in copies.iter().enumerate() {
         changes.push(Change::AddCopy {
             owner: user,
-            folder: folder.as_slice(),
+            folder: copy.mailbox.as_slice(),
             n: number_after(next, i)?,
             id: number(next)?,
+            flags: copy.flags.as_slice(),
         })?;
     }
     Ok(())
@@ -235,13 +237,14 @@ fn delivery_changes<'a>(
         message,
         sender,
         moment,
+        filed,
         report,
         reply,
     } = plan;
     push_counters(&mut changes, user, plan, counters)?;
-    let folders = report.filed.as_slice();
-    push_message(&mut changes, user, message, folders, counters.copy)?;
-    push_copies(&mut changes, user, folders, counters.copy)?;
+    let copies = filed.as_slice();
+    push_message(&mut changes, user, message, copies, counters.copy)?;
+    push_copies(&mut changes, user, copies, counters.copy)?;
     let sent = report.sent.as_slice();
     push_redirects(&mut changes, user, sender, message, sent, counters.out)?;
     let reply = reply.as_ref();
@@ -253,8 +256,9 @@ fn delivery_changes<'a>(
 }
 
 impl<S: Alter> Store<S> {
-    /// Writes the delivery: the message joins each folder of the report and goes on to each of its addresses, the reply is
-    /// sent and remembered, and the notice joins the others, all or none. The message is stored once for all folders.
+    /// Writes the delivery: the message joins each mailbox of the plan with its flags there and goes on to each address of the
+    /// report, the reply is sent and remembered, and the notice joins the others, all or none. The message is stored once for all
+    /// mailboxes.
     pub fn commit_delivery(&mut self, user: &[u8], plan: &Plan<'_>) -> Result<(), Refusal>
         ensures writes { WritesAccount user.now (delivers plan.now) (state S.Store self.old) (state S.Store self.new) result }
         ensures once { StoresOnce user.now plan.now (state S.Store self.old) (state S.Store self.new) result }

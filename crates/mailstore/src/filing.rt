@@ -24,6 +24,8 @@ pub struct Filing {
     pub n: u64,
     /// The number of its message.
     pub id: u64,
+    /// The text that names its flags (RFC 5232); empty where it has none.
+    pub flags: Octets,
 }
 
 /// Where the folder's copy after that many is, found by its key.
@@ -38,7 +40,7 @@ fn find_nth<S: Alter>(
 {
     query(
         conn,
-        "SELECT folder, n, id FROM copy WHERE owner = ?1 AND folder = ?2 ORDER BY n LIMIT 1 OFFSET ?3",
+        "SELECT folder, n, id, flags FROM copy WHERE owner = ?1 AND folder = ?2 ORDER BY n LIMIT 1 OFFSET ?3",
         params![owner, folder, count],
     )
 }
@@ -61,10 +63,10 @@ fn find_other<S: Alter>(
 }
 
 impl FromRow for Filing {
-    ghost use Rattle.mailstore.specs.FirstCells.{first_three};
+    ghost use Rattle.mailstore.specs.FirstCells.{first_four};
     ghost use Rattle.mailstore.specs.CopyRows.{filing_cells};
 
-    ghost cells_of = { first_three };
+    ghost cells_of = { first_four };
 
     ghost shows = { filing_cells };
 
@@ -73,6 +75,7 @@ impl FromRow for Filing {
             folder: text_at(row, 0)?,
             n: row.get(1)?,
             id: row.get(2)?,
+            flags: text_at(row, 3)?,
         })
     }
 }
@@ -87,7 +90,7 @@ impl<S: Alter> Store<S> {
         read_each(
             self.alloc,
             &mut self.conn,
-            "SELECT folder, n, id FROM copy WHERE owner = ?1 ORDER BY n",
+            "SELECT folder, n, id, flags FROM copy WHERE owner = ?1 ORDER BY n",
             params![user],
         )
     }

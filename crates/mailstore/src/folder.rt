@@ -72,12 +72,18 @@ fn tally(alloc: Global, rows: &[Row]) -> Result<List<Folder>, Refusal>
     Ok(List::from_vec(all))
 }
 
-/// The message, without the number of its copy.
+/// The message, without the number of its copy and its flags.
 fn without_number(numbered: Option<NumberedMessage>) -> Option<Octets>
     ensures { result ≡ option_map (λ m. m.message) numbered }
 {
     match numbered {
-        Some(NumberedMessage { number: _, message }) => Some(message),
+        Some(
+            NumberedMessage {
+                number: _,
+                message,
+                flags: _,
+            },
+        ) => Some(message),
         None => None,
     }
 }

@@ -1,4 +1,5 @@
 //! What a delivery is to write, and what it reports.
+use mailflags::Placement;
 use octets::{List, Octets, Texts};
 
 /// What a delivery did about a vacation reply.
@@ -35,7 +36,7 @@ pub struct VacationReply {
     pub moment: u64,
 }
 
-/// What a delivery is to write: what its report tells of folders, addresses and a notice, and the reply. The message and its
+/// What a delivery is to write: the copies, what its report tells of addresses and a notice, and the reply. The message and its
 /// sender are borrowed, so no copy of them is made for a folder or for an address.
 #[derive(Drop)]
 pub struct Plan<'a> {
@@ -44,8 +45,10 @@ pub struct Plan<'a> {
     pub sender: &'a [u8],
     /// The moment of the delivery, in seconds since 1970-01-01 UTC. A notice has it.
     pub moment: u64,
-    /// The message joins each folder that is told as filed, in order: a name that stands twice gets two copies. It joins the
-    /// queue for each address that is told as sent, in order, and the user is left the notice.
+    /// The message joins each of the mailboxes with its flags there (RFC 5232), in order: a name that stands twice gets two copies.
+    /// The report tells their names; that it does is for the caller to see.
+    pub filed: List<Placement>,
+    /// The message joins the queue for each address that is told as sent, in order, and the user is left the notice.
     pub report: Report,
     /// The reply joins the queue after them and is remembered, if one is sent.
     pub reply: Option<VacationReply>,

@@ -92,14 +92,13 @@ impl<S: Alter> Store<S> {
         }
     }
 
-    /// Opens a database that `create` made, of this version or of the one before.
+    /// Opens a database that `create` made, of this version or of an earlier one.
     ///
-    /// Where its tables are not exactly ours, or have no row of their version, it is `NotOurs`. Version 1 becomes version 2
-    /// in one transaction, which takes time and memory in proportion to all copies, and where the copies come before the
-    /// queue, the replies and the notices, to these too. Where version 2 lacks the index of the copies by their messages, as
-    /// in a store that was made before there was one, that is made, in one transaction: it reads the table of the copies, in
-    /// time and memory in proportion to it. Else no table but that of the version is read. The connection comes back
-    /// beside a refusal, with its tables as they are.
+    /// Where its tables are not exactly ours, or have no row of their version, it is `NotOurs`. Version 3 stays as it is, and no table
+    /// but that of the version is read. Version 2, with the index of the copies by their messages or without it, as it was made before
+    /// there was one, and version 1 become version 3 in one transaction, which takes time and memory in proportion to all copies; of
+    /// version 1, where the copies come before the queue, the replies and the notices, to these too. A copy of theirs has no flags. The
+    /// connection comes back beside a refusal, with its tables as they are.
     pub fn open(
         alloc: Global,
         mut conn: Connection<S>,

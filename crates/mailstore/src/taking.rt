@@ -17,13 +17,15 @@ use octets::Octets;
 use sqlite::Alter;
 use std::alloc::Global;
 
-/// A message of a folder, with the number of its copy.
+/// A message of a folder, with the number of its copy and its flags.
 #[derive(Debug, Drop)]
 pub struct NumberedMessage {
     /// The number, from 1 on; the account never uses it again.
     pub number: u64,
     /// The octets that were received.
     pub message: Octets,
+    /// The text that names the copy's flags (RFC 5232); empty where it has none.
+    pub flags: Octets,
 }
 
 /// The copy that is to leave a folder.
@@ -81,11 +83,12 @@ impl<S: Alter> Store<S> {
         Ok(Some(NumberedMessage {
             number: filing.n,
             message,
+            flags: filing.flags,
         }))
     }
 
-    /// The first message of the folder, which came before the others, with the number of its copy; none where the folder is
-    /// absent. No other message and no other copy is read; memory is in proportion to it.
+    /// The first message of the folder, which came before the others, with the number of its copy and its flags; none where the
+    /// folder is absent. No other message and no other copy is read; memory is in proportion to it.
     pub fn first_message(
         &mut self,
         user: &[u8],

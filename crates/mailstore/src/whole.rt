@@ -73,15 +73,16 @@ fn push_reply<'a>(
     Ok(())
 }
 
-/// The message is kept under the number of its first copy, which is in a folder.
+/// The message is kept under the number of its first copy, which is in a folder and has these flags.
 fn push_mail<'a>(
     changes: &mut Vec<Change<'a>>,
     user: &'a [u8],
     folder: &'a [u8],
     n: u64,
     message: &'a [u8],
+    flags: &'a [u8],
 ) -> Result<(), Refusal>
-    ensures made { Pushes user.now (mail_put user.now folder.now n message.now) changes.old.items changes.new.items result }
+    ensures made { Pushes user.now (mail_put user.now folder.now n message.now flags.now) changes.old.items changes.new.items result }
     ensures named { IfErr result IsTransient }
 {
     let n = number(n)?;
@@ -95,6 +96,7 @@ fn push_mail<'a>(
         folder,
         n,
         id: n,
+        flags,
     })?;
     Ok(())
 }
@@ -121,17 +123,20 @@ fn push_part<'a>(
             number,
             folder,
             message,
+            flags,
         } => push_mail(
             changes,
             user,
             folder.as_slice(),
             *number,
             message.as_slice(),
+            flags.as_slice(),
         ),
         Part::Copy {
             number: n,
             folder,
             first,
+            flags,
         } => push_one(
             changes,
             Change::AddCopy {
@@ -139,6 +144,7 @@ fn push_part<'a>(
                 folder: folder.as_slice(),
                 n: number(*n)?,
                 id: number(*first)?,
+                flags: flags.as_slice(),
             },
         ),
         Part::Letter {

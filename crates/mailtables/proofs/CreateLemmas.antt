@@ -24,11 +24,11 @@ use Rattle.sqlite.proofs.Callers.{IsPlain, command_of, statement_of, runs_as, su
 use Rattle.sqlite.proofs.InsideLemmas.{keeps_then}
 use Rattle.mailtables.specs.Rows.{Entry, IsHeld, Tables, HoldsTables, cells_of, stored, added}
 use Rattle.mailtables.proofs.StepLemmas.{went, same_value}
-use Rattle.mailtables.specs.Schema.{no_schema, the_tables, mail_schema, unindexed_schema}
+use Rattle.mailtables.specs.Schema.{no_schema, the_tables, mail_schema, schema_8}
 use Rattle.mailtables.specs.Connection.{no_rows, RunsInside, Makes, TurnsRows, TurnsSchema, ChangesRows, MakesTables}
 use Rattle.mailtables.specs.MetaTable.{version_row, meta_tree}
 use Rattle.mailtables.specs.CopyTable.{copy, copy_message, create_copy_message}
-use Rattle.mailtables.specs.Ours.{TurnsOurs, MakesOurs, MayCreate, IsOpenedAs, TurnsIndexed, MakesIndex, MayIndex}
+use Rattle.mailtables.specs.Ours.{TurnsOurs, MakesOurs, MayCreate}
 use Rattle.mailtables.proofs.ResultLemmas.{on_ok}
 use Rattle.mailtables.proofs.WriteLemmas.{MakesInside, clean_before}
 use Rattle.mailtables.proofs.SchemaFacts.{copy_message_defined, copy_message_creates, copy_message_added}
@@ -146,43 +146,20 @@ turns_all g Turned old last end r x ok makes inside commit =
 
 -- ---- the index of the copies by their messages
 
-pub makes_index : (old new : State) (count : ℕ) → Executes create_copy_message [] old new (Ok count) → TurnsIndexed old.now new.now
-makes_index old new count ran ours =
-    let w = subst (λ t. Writes old new None (CreateIndex 7) t [] count) copy_message_creates.1 (runs_as create_copy_message [] old new unindexed_schema ours (CreateIndex 7) copy_message_creates.0 copy_message_creates.2 count ran) in
-    let at_copy = subst (λ (s : Schema). AtPlace (λ t. Defines (mode_of old) (IndexMade create_copy_message old.now t)) (slice_get s.tables 7) (Ok (w.tally, new.now))) ours w.changed in
+pub makes_index : (old new : State) (count : ℕ) → Executes create_copy_message [] old new (Ok count) → TurnsSchema schema_8 mail_schema old.now new.now
+makes_index old new count ran tables h blank =
+    let w = subst (λ t. Writes old new None (CreateIndex 7) t [] count) copy_message_creates.1 (runs_as create_copy_message [] old new schema_8 h.is (CreateIndex 7) copy_message_creates.0 copy_message_creates.2 count ran) in
+    let at_copy = subst (λ (s : Schema). AtPlace (λ t. Defines (mode_of old) (IndexMade create_copy_message old.now t)) (slice_get s.tables 7) (Ok (w.tally, new.now))) h.is w.changed in
     let all = went at_copy in
     let made = all.1 in
     let both : Ok made.index ≡ Ok (record copy_message { tree = 0 }) = sym made.defined ∙ copy_message_defined in
     let same : made.index ≡ record copy_message { tree = 0 } = cc in
-    let is : all.0.schema ≡ mail_schema = made.is ∙ ap (λ s. indexed s copy made.index) ours ∙ ap (indexed unindexed_schema copy) same ∙ copy_message_added in
+    let is : all.0.schema ≡ mail_schema = made.is ∙ ap (λ s. indexed s copy made.index) h.is ∙ ap (indexed schema_8 copy) same ∙ copy_message_added in
     let now : new.now ≡ all.0 = ap (λ (p : Tally × Database). p.1) (same_value all.2) in
     let next : new.now.schema ≡ mail_schema = ap (λ (d : Database). d.schema) now ∙ is in
+    let rows = subst (λ (d : Database). KeepsRows the_tables old.now.trees d.trees) (sym now) (subst (λ (s : Schema). KeepsRows s.tables old.now.trees all.0.trees) h.is made.rows) in
     record {
-      schema = next;
-      rows = subst (λ (d : Database). KeepsRows the_tables old.now.trees d.trees) (sym now) (subst (λ (s : Schema). KeepsRows s.tables old.now.trees all.0.trees) ours made.rows);
+      is = next;
       fits = subst (λ s. Fits s new.now.trees) next (fits_obeyed new.now.schema new.now.trees w.sound.obeys);
+      each = λ t listed. subst (λ r. IsHeld r (tables t.tree)) (sym (all_has (λ (x : Table). new.now.trees x.tree ≡ old.now.trees x.tree) the_tables t rows listed)) (h.each t listed);
     }
-
--- all rows stay
-pub index_holds : (old new : Database) (tables : Tables) → IsOpenedAs old new → HoldsTables unindexed_schema old tables → HoldsTables mail_schema new tables
-index_holds old new tables gained h = record {
-  is = gained.schema;
-  fits = gained.fits;
-  each = λ t listed. subst (λ rows. IsHeld rows (tables t.tree)) (sym (all_has (λ (x : Table). new.trees x.tree ≡ old.trees x.tree) the_tables t gained.rows listed)) (h.each t listed);
-}
-
--- the index is made where the tables hold nothing
-pub index_after : {S X Y : Type 0} (g : Ghosts S) (a b c : Transaction S) (s : Schema) (r : Result X Error) (x : X) (q : Result Y Error) → r ≡ Ok x → MakesTables g s unindexed_schema a b r → MakesIndex g b c q
-    → MakesTables g s mail_schema a c q
-index_after g a b c s r x q ok tables index =
-    inside_then g (TurnsSchema s unindexed_schema) TurnsIndexed (TurnsSchema s mail_schema)
-    (λ old mid new first second tables held blank. let h = first tables held blank in index_holds mid new tables (second h.is) h) a b c r x q ok tables index
-
--- what a crash leaves of its transaction and the commit
-pub indexes_all : {S X : Type 0} (g : Ghosts S) (old : Held S) (last end : State) (r : Result X Error) (x : X) → r ≡ Ok x → MakesInside TurnsIndexed (state g (record old { in_transaction = true })) last r
-    → Survives (state g (record old { in_transaction = true })) last (λ _. ⊥) → Survives last end (λ db. db ≡ last.now.trees)
-    → Survives (state g old) end (λ trees. (state g old).now.schema ≡ unindexed_schema → MayIndex (state g old) trees)
-indexes_all g old last end r x ok makes inside commit =
-    survives_then (state g old) last end _ _ _ (λ _ db none. absurd none)
-    (λ clean db is lacked. record { lacked = lacked; db = last.now; opened = ready TurnsIndexed (state g (record old { in_transaction = true })) last r x ok refl makes (clean_before last end _ commit clean) lacked; left = is })
-    (survives_begin g old last _ inside) commit

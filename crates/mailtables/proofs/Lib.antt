@@ -13,5 +13,4 @@ pub mod ResultLemmas
 pub mod WriteLemmas
 pub mod CreateLemmas
 pub mod VersionLemmas
-pub mod OpeningLemmas
 mod OursExamples

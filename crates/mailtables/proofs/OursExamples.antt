@@ -1,5 +1,5 @@
 -- Examples of databases that are ours, and near misses.
-use Rattle.std.proofs.Common.{◌≡◌, ◌==◌, pos, cond, codes, List, [], ◌∷◌, length, None, true, false, Ok, refl, sym, ap, ◌∙◌, inl, inr, arith}
+use Rattle.std.proofs.Common.{◌≡◌, ◌==◌, pos, cond, codes, List, [], ◌∷◌, length, None, true, false, Ok, refl, sym, ap, ◌∙◌, arith}
 use Rattle.sqlite_value.specs.declared.value.Value.TheVariants.{Int, Text, Null}
 use Rattle.sqlite_value.specs.declared.keys.Collation.TheVariants.{Binary}
 use Rattle.sqlite_value.specs.Order.{Row, column, value_cmp}
@@ -14,7 +14,7 @@ use Rattle.sqlite_resolve.specs.Compile.{table_defined_by}
 use Rattle.sqlite_tied.specs.Compute.{everything}
 use Rattle.sqlite.specs.Effect.{Database}
 use Rattle.sqlite.specs.Listing.{understood}
-use Rattle.mailtables.specs.Schema.{no_schema, mail_schema, unindexed_schema, IsOurSchema}
+use Rattle.mailtables.specs.Schema.{no_schema, mail_schema, schema_8, IsOurSchema}
 use Rattle.mailtables.specs.MetaTable.{meta_tree, stored_value_column, version_row}
 use Rattle.mailtables.specs.Connection.{has_our_name}
 use Rattle.mailtables.specs.Ours.{IsOurs}
@@ -23,39 +23,39 @@ use Rattle.mailtables.specs.Ours.{IsOurs}
 abbrev with_versions : List Row → Database
 with_versions rows = record { schema = mail_schema; trees = λ tree. cond (tree == meta_tree) rows [] }
 
-abbrev says_2 : Row
-says_2 = Int (pos 1) ∷ version_row
+abbrev says_3 : Row
+says_3 = Int (pos 1) ∷ version_row
 
-ours : IsOurs (with_versions (says_2 ∷ []))
+ours : IsOurs (with_versions (says_3 ∷ []))
 unfolding binary value_cmp lib.Ieee.is_nan lib.Ieee.lt
-ours = record { schema = inl refl; row = says_2; only = refl; says = refl }
+ours = record { schema = refl; row = says_3; only = refl; says = refl }
 
--- so is one without the index of the copies by their messages
-ours_unindexed : IsOurs (record (with_versions (says_2 ∷ [])) { schema = unindexed_schema })
-unfolding binary value_cmp lib.Ieee.is_nan lib.Ieee.lt
-ours_unindexed = record { schema = inr refl; row = says_2; only = refl; says = refl }
+-- near miss: the index of the copies by their messages is lacking
+not_unindexed : IsOurs (record (with_versions (says_3 ∷ [])) { schema = schema_8 }) → ⊥
+unfolding everything
+not_unindexed o = let same : length schema_8.indexes ≡ length mail_schema.indexes = ap (λ (s : Schema). length s.indexes) o.schema in omega (arith, same)
 
 -- near miss: no row of the version
 not_without_version : IsOurs (with_versions []) → ⊥
 not_without_version o = let e = o.only in cc
 
--- near miss: version 1
-abbrev says_1 : Row
-says_1 = Int (pos 1) ∷ Text (codes "version") ∷ Int (pos 1) ∷ []
+-- near miss: version 2
+abbrev says_2 : Row
+says_2 = Int (pos 1) ∷ Text (codes "version") ∷ Int (pos 2) ∷ []
 
 abbrev first_of : List Row → Row
 first_of [] = []
 first_of (row ∷ rows) = row
 
-one_not_two : Int (pos 1) ≡ Int (pos 2) → ⊥
-one_not_two e = cc
+two_not_three : Int (pos 2) ≡ Int (pos 3) → ⊥
+two_not_three e = cc
 
-not_version_1 : IsOurs (with_versions (says_1 ∷ [])) → ⊥
+not_version_2 : IsOurs (with_versions (says_2 ∷ [])) → ⊥
 unfolding binary value_cmp lib.Ieee.is_nan lib.Ieee.lt
-not_version_1 o = one_not_two (ap (λ rows. column (first_of rows) stored_value_column) o.only ∙ o.says)
+not_version_2 o = two_not_three (ap (λ rows. column (first_of rows) stored_value_column) o.only ∙ o.says)
 
 -- near miss: a second row of the version
-not_twice : IsOurs (with_versions (says_2 ∷ says_1 ∷ [])) → ⊥
+not_twice : IsOurs (with_versions (says_3 ∷ says_2 ∷ [])) → ⊥
 unfolding binary value_cmp lib.Ieee.is_nan lib.Ieee.lt
 not_twice o = let same : 2 ≡ 1 = ap (λ rows. length rows) o.only in omega (arith, same)
 
@@ -84,8 +84,7 @@ unfolding understood everything
 their_meta_defined = refl
 
 eight_tables : (schema : Schema) → IsOurSchema schema → length schema.tables ≡ 8
-eight_tables schema (inl is) = ap (λ (s : Schema). length s.tables) is
-eight_tables schema (inr is) = ap (λ (s : Schema). length s.tables) is
+eight_tables schema is = ap (λ (s : Schema). length s.tables) is
 
 not_their_meta : (db : Database) → db.schema ≡ created no_schema their_meta → IsOurs db → ⊥
 not_their_meta db theirs o =

@@ -14,7 +14,7 @@ use Rattle.sqlite_resolve.specs.Compile.{table_defined_by, index_defined_by}
 use Rattle.sqlite_tied.specs.Compute.{everything}
 use Rattle.sqlite.specs.Listing.{understood}
 use Rattle.sqlite.proofs.Callers.{IsPlain, command_of, statement_of}
-use Rattle.mailtables.specs.Schema.{no_schema, the_keys, mail_schema, unindexed_schema, schema_1, schema_2, schema_3, schema_4, schema_5, schema_6, schema_7}
+use Rattle.mailtables.specs.Schema.{no_schema, the_keys, mail_schema, schema_1, schema_2, schema_3, schema_4, schema_5, schema_6, schema_7, schema_8}
 use Rattle.mailtables.specs.MetaTable.{meta, create_meta, meta_tree}
 use Rattle.mailtables.specs.AccountTable.{account, create_account, account_tree}
 use Rattle.mailtables.specs.ScriptTable.{script, create_script, script_tree}
@@ -123,15 +123,15 @@ pub copy_message_defined : index_defined_by copy create_copy_message ≡ Ok (rec
 unfolding understood everything
 copy_message_defined = refl
 
-pub copy_message_creates : (command_of (understood unindexed_schema create_copy_message) ≡ CreateIndex 7) × (statement_of create_copy_message (understood unindexed_schema create_copy_message) ≡ create_copy_message)
-    × IsPlain (understood unindexed_schema create_copy_message)
+pub copy_message_creates : (command_of (understood schema_8 create_copy_message) ≡ CreateIndex 7) × (statement_of create_copy_message (understood schema_8 create_copy_message) ≡ create_copy_message)
+    × IsPlain (understood schema_8 create_copy_message)
 unfolding understood everything
 copy_message_creates = (refl, refl, (refl, refl))
 
-pub copy_message_added : indexed unindexed_schema copy (record copy_message { tree = 0 }) ≡ mail_schema
+pub copy_message_added : indexed schema_8 copy (record copy_message { tree = 0 }) ≡ mail_schema
 copy_message_added = refl
 
-pub all_created : created schema_7 (record copy { tree = 0 }) ≡ unindexed_schema
+pub all_created : created schema_7 (record copy { tree = 0 }) ≡ schema_8
 unfolding everything
 all_created = refl
 

@@ -33,7 +33,7 @@ use Rattle.mailtables.specs.QueueTable.{outgoing, insert_outgoing, delete_outgoi
 use Rattle.mailtables.specs.ReplyTable.{reply, insert_reply, delete_reply, reply_cells, reply_key, reply_tree}
 use Rattle.mailtables.specs.NoticeTable.{notice, insert_notice, delete_notices, delete_early_notices, notice_row_cells, notice_moment_column, is_early_notice, notice_tree}
 use Rattle.mailtables.proofs.SchemaFacts.{no_works, message_listed, copy_listed, script_listed, outgoing_listed, reply_listed, notice_listed}
-use Rattle.mailtables.proofs.TextFacts.{by_one, by_two, by_three, six_terms, insert_outgoing_is, insert_outgoing_plain, delete_outgoing_is, delete_outgoing_plain, insert_reply_is, insert_reply_plain, delete_reply_is, delete_reply_plain, insert_notice_is, insert_notice_plain, version_terms, account_terms, active_columns, counter_columns, three_terms, four_terms, insert_version_is, insert_version_plain, insert_account_is, insert_account_plain, update_active_is, update_active_plain, update_counters_is, update_counters_plain, insert_script_is, insert_script_plain, delete_script_is, delete_script_plain, insert_message_is, insert_message_plain, insert_copy_is, insert_copy_plain, delete_message_is, delete_message_plain, delete_copy_is, delete_copy_plain, address_columns, password_columns, rounds_columns, by_early, update_address_is, update_address_plain, update_password_is, update_password_plain, update_rounds_is, update_rounds_plain, delete_scripts_is, delete_scripts_plain, delete_queue_is, delete_queue_plain, delete_notices_is, delete_notices_plain, delete_messages_is, delete_messages_plain, delete_copies_is, delete_copies_plain, delete_early_notices_is, delete_early_notices_plain}
+use Rattle.mailtables.proofs.TextFacts.{by_one, by_two, by_three, six_terms, insert_outgoing_is, insert_outgoing_plain, delete_outgoing_is, delete_outgoing_plain, insert_reply_is, insert_reply_plain, delete_reply_is, delete_reply_plain, insert_notice_is, insert_notice_plain, version_terms, account_terms, active_columns, counter_columns, three_terms, four_terms, five_terms, insert_version_is, insert_version_plain, insert_account_is, insert_account_plain, update_active_is, update_active_plain, update_counters_is, update_counters_plain, insert_script_is, insert_script_plain, delete_script_is, delete_script_plain, insert_message_is, insert_message_plain, insert_copy_is, insert_copy_plain, delete_message_is, delete_message_plain, delete_copy_is, delete_copy_plain, address_columns, password_columns, rounds_columns, by_early, update_address_is, update_address_plain, update_password_is, update_password_plain, update_rounds_is, update_rounds_plain, delete_scripts_is, delete_scripts_plain, delete_queue_is, delete_queue_plain, delete_notices_is, delete_notices_plain, delete_messages_is, delete_messages_plain, delete_copies_is, delete_copies_plain, delete_early_notices_is, delete_early_notices_plain}
 
 abbrev pub account_index : Index
 account_index = automatic account 0 (1 ∷ []) (account_tree + 1)
@@ -101,12 +101,12 @@ inserts_message old new owner id bytes count ran tables h =
     let on = on_insert mail_schema insert_message params old new tables h insert_message_plain count ran 6 message refl _ insert_message_is in
     insert_holds mail_schema no_works message.name message_tree message.primary message.references message.columns params old new tables h message_listed 6 three_terms 4 params on.0 refl (rw cast_int) on.1
 
-pub inserts_copy : (old new : State) (owner folder : List ℕ) (n id : ℤ) (count : ℕ) → Executes insert_copy (copy_cells owner folder n id) old new (Ok count)
-    → TurnsRows (added copy_tree (copy_cells owner folder n id)) old.now new.now
-inserts_copy old new owner folder n id count ran tables h =
-    let params = copy_cells owner folder n id in
+pub inserts_copy : (old new : State) (owner folder : List ℕ) (n id : ℤ) (flags : List ℕ) (count : ℕ) → Executes insert_copy (copy_cells owner folder n id flags) old new (Ok count)
+    → TurnsRows (added copy_tree (copy_cells owner folder n id flags)) old.now new.now
+inserts_copy old new owner folder n id flags count ran tables h =
+    let params = copy_cells owner folder n id flags in
     let on = on_insert mail_schema insert_copy params old new tables h insert_copy_plain count ran 7 copy refl _ insert_copy_is in
-    insert_holds mail_schema no_works copy.name copy_tree copy.primary copy.references copy.columns params old new tables h copy_listed 7 four_terms 5 params on.0 refl (rw (cast_int n, cast_int id)) on.1
+    insert_holds mail_schema no_works copy.name copy_tree copy.primary copy.references copy.columns params old new tables h copy_listed 7 five_terms 6 params on.0 refl (rw (cast_int n, cast_int id)) on.1
 
 pub removes_message : (old new : State) (owner : List ℕ) (id : ℤ) (count : ℕ) → Executes delete_message (message_key owner id) old new (Ok count)
     → TurnsRows (removed message_tree (message_key owner id)) old.now new.now
@@ -132,11 +132,11 @@ inserts_account old new name address salt rounds digest count ran tables h =
     insert_holds mail_schema no_works account.name account_tree account.primary account.references account.columns params old new tables h (inr (inl refl)) 1 account_terms 10 (account_cells name address salt rounds digest) on.0 refl
     (rw (cast_int (pos rounds), cast_int (pos 1))) on.1
 
-pub inserts_version : (old new : State) (count : ℕ) → Executes insert_version [] old new (Ok count) → TurnsRows (added meta_tree (Text (codes "version") ∷ Int (pos 2) ∷ [])) old.now new.now
+pub inserts_version : (old new : State) (count : ℕ) → Executes insert_version [] old new (Ok count) → TurnsRows (added meta_tree (Text (codes "version") ∷ Int (pos 3) ∷ [])) old.now new.now
 inserts_version old new count ran tables h =
     let on = on_insert mail_schema insert_version [] old new tables h insert_version_plain count ran 0 meta refl _ insert_version_is in
-    insert_holds mail_schema no_works meta.name meta_tree meta.primary meta.references meta.columns [] old new tables h (inl refl) 0 version_terms 3 (Text (codes "version") ∷ Int (pos 2) ∷ []) on.0 refl
-    (rw (cast_int (pos 2))) on.1
+    insert_holds mail_schema no_works meta.name meta_tree meta.primary meta.references meta.columns [] old new tables h (inl refl) 0 version_terms 3 (Text (codes "version") ∷ Int (pos 3) ∷ []) on.0 refl
+    (rw (cast_int (pos 3))) on.1
 
 -- the INTEGER columns of an account's row are stored as they are
 module _ (old : State) (tables : Tables) (h : HoldsTables mail_schema old.now tables) (cells : Row) (there : Has (tables account_tree) cells) where

@@ -14,7 +14,7 @@ use Rattle.sqlite_tied.specs.Compute.{everything}
 use Rattle.sqlite.specs.Listing.{understood, reads_listing}
 use Rattle.sqlite.proofs.Callers.{IsPlain, command_of}
 use Rattle.mailtables.specs.Forms.{equals, over, over_two, first_over, nth_over}
-use Rattle.mailtables.specs.Schema.{mail_schema, unindexed_schema}
+use Rattle.mailtables.specs.Schema.{mail_schema}
 use Rattle.mailtables.specs.MetaTable.{insert_version, select_version, meta_tree}
 use Rattle.mailtables.specs.AccountTable.{insert_account, update_active, update_counters, update_address, update_password, update_rounds, select_account, select_counters, account_tree}
 use Rattle.mailtables.specs.ScriptTable.{insert_script, delete_script, delete_scripts, select_names, select_script, script_tree}
@@ -31,7 +31,7 @@ abbrev pub by_two : List Term
 by_two = equals 1 0 ∷ equals 2 1 ∷ []
 
 abbrev pub version_terms : List Term
-version_terms = lit (Text (codes "version")) ∷ lit (Int (pos 2)) ∷ []
+version_terms = lit (Text (codes "version")) ∷ lit (Int (pos 3)) ∷ []
 
 pub insert_version_is : command_of (understood mail_schema insert_version) ≡ Insert 0 (Values (lit Null ∷ version_terms) 3)
 unfolding understood everything
@@ -96,6 +96,9 @@ delete_script_plain = (refl, refl)
 abbrev pub four_terms : List Term
 four_terms = col 0 0 ∷ col 0 1 ∷ col 0 2 ∷ col 0 3 ∷ []
 
+abbrev pub five_terms : List Term
+five_terms = col 0 0 ∷ col 0 1 ∷ col 0 2 ∷ col 0 3 ∷ col 0 4 ∷ []
+
 pub insert_message_is : command_of (understood mail_schema insert_message) ≡ Insert 6 (Values (lit Null ∷ three_terms) 4)
 unfolding understood everything
 insert_message_is = refl
@@ -104,7 +107,7 @@ pub insert_message_plain : IsPlain (understood mail_schema insert_message)
 unfolding understood everything
 insert_message_plain = (refl, refl)
 
-pub insert_copy_is : command_of (understood mail_schema insert_copy) ≡ Insert 7 (Values (lit Null ∷ four_terms) 5)
+pub insert_copy_is : command_of (understood mail_schema insert_copy) ≡ Insert 7 (Values (lit Null ∷ five_terms) 6)
 unfolding understood everything
 insert_copy_is = refl
 
@@ -130,15 +133,6 @@ select_version_is = refl
 pub select_version_plain : IsPlain (understood mail_schema select_version) × (reads_listing mail_schema select_version ≡ false)
 unfolding understood everything
 select_version_plain = ((refl, refl), refl)
-
--- under the schema without the index too
-pub select_version_is_unindexed : command_of (understood unindexed_schema select_version) ≡ Select (over meta_tree by_one (col 1 2 ∷ []) []) (codes "value" ∷ [])
-unfolding understood everything
-select_version_is_unindexed = refl
-
-pub select_version_plain_unindexed : IsPlain (understood unindexed_schema select_version) × (reads_listing unindexed_schema select_version ≡ false)
-unfolding understood everything
-select_version_plain_unindexed = ((refl, refl), refl)
 
 abbrev pub counters_shown : List Term
 counters_shown = col 1 7 ∷ col 1 8 ∷ col 1 9 ∷ []
@@ -311,9 +305,9 @@ unfolding understood everything
 select_message_plain = ((refl, refl), refl)
 
 abbrev pub filings_shown : List Term
-filings_shown = col 1 2 ∷ col 1 3 ∷ col 1 4 ∷ []
+filings_shown = col 1 2 ∷ col 1 3 ∷ col 1 4 ∷ col 1 5 ∷ []
 
-pub select_nth_is : command_of (understood mail_schema select_nth) ≡ Select (nth_over (col 0 2) copy_tree by_two filings_shown ((col 1 3, ascending Binary) ∷ [])) (codes "folder" ∷ codes "n" ∷ codes "id" ∷ [])
+pub select_nth_is : command_of (understood mail_schema select_nth) ≡ Select (nth_over (col 0 2) copy_tree by_two filings_shown ((col 1 3, ascending Binary) ∷ [])) (codes "folder" ∷ codes "n" ∷ codes "id" ∷ codes "flags" ∷ [])
 unfolding understood everything
 select_nth_is = refl
 

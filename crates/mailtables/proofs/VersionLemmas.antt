@@ -20,11 +20,11 @@ use Rattle.sqlite.proofs.Callers.{IsPlain, command_of, one_permutation}
 use Rattle.mailtables.specs.Forms.{over}
 use Rattle.mailtables.specs.Rows.{has_key_from}
 use Rattle.mailtables.proofs.ReadLemmas.{shown_same, fails_same, answered, quiet}
-use Rattle.mailtables.specs.Schema.{mail_schema, unindexed_schema, IsOurSchema}
+use Rattle.mailtables.specs.Schema.{mail_schema, IsOurSchema}
 use Rattle.mailtables.specs.Connection.{StaysSame, SeesCommit, Asks, Answers}
 use Rattle.mailtables.specs.MetaTable.{select_version, version_key, version_rows, Says, meta_tree, stored_value_column, AreVersions}
 use Rattle.mailtables.specs.Ours.{IsOurs}
-use Rattle.mailtables.proofs.TextFacts.{by_one, select_version_is, select_version_plain, select_version_is_unindexed, select_version_plain_unindexed}
+use Rattle.mailtables.proofs.TextFacts.{by_one, select_version_is, select_version_plain}
 use Rattle.mailtables.proofs.ResultLemmas.{on_any, on_ok}
 
 pub same_unchanged : (old new : State) → IsUnchanged old new → StaysSame old new
@@ -74,11 +74,8 @@ pub record AsksVersion (schema : Schema) : Type 0 where
   pub plain : IsPlain (understood schema select_version)
   pub unlisted : reads_listing schema select_version ≡ false
 
-asks_indexed : AsksVersion mail_schema
-asks_indexed = record { is = select_version_is; plain = select_version_plain.0; unlisted = select_version_plain.1 }
-
-asks_unindexed : AsksVersion unindexed_schema
-asks_unindexed = record { is = select_version_is_unindexed; plain = select_version_plain_unindexed.0; unlisted = select_version_plain_unindexed.1 }
+asks_mail : AsksVersion mail_schema
+asks_mail = record { is = select_version_is; plain = select_version_plain.0; unlisted = select_version_plain.1 }
 
 pub version_found : (schema : Schema) → AsksVersion schema → (old new : State) (rows : List Row) → old.now.schema ≡ schema → Shown select_version version_key old new rows → IsPermutation (map (λ r. column r stored_value_column ∷ []) (version_rows old.now.trees)) rows
 version_found schema asks old new rows ours shown =
@@ -118,12 +115,12 @@ version_says : (n : ℤ) (trees : Trees) (P : Type 0) → P ↔ SaysVersion n tr
 version_says n trees P means rows same (Err e) said = tt
 version_says n trees P means rows same (Ok is) said = let both = says_it n trees rows _ refl same in (λ e. means.1 (both.0 (said.0 e)), λ h. said.1 (both.1 (means.0 h)))
 
-pub ours_says : (db : Database) → IsOurSchema db.schema → IsOurs db ↔ SaysVersion (pos 2) db.trees
+pub ours_says : (db : Database) → IsOurSchema db.schema → IsOurs db ↔ SaysVersion (pos 3) db.trees
 ours_says db ours = (λ h. record { row = h.row; only = h.only; says = h.says }, λ h. record { schema = ours; row = h.row; only = h.only; says = h.says })
 
--- our tables, with the index or without it
+-- our tables
 pub asks_ours : (schema : Schema) → IsOurSchema schema → AsksVersion schema
-asks_ours schema ours = elim ours [ inl is ↦ subst AsksVersion (sym is) asks_indexed | inr is ↦ subst AsksVersion (sym is) asks_unindexed ]
+asks_ours schema ours = subst AsksVersion (sym ours) asks_mail
 
 -- the query for the version, under one schema
 module _ (schema : Schema) (asks : AsksVersion schema) (old new : State) (r : Result (Vec Row Global) Error) (asked : Answers select_version version_key old new r) (is : old.now.schema ≡ schema) where

@@ -1,5 +1,5 @@
 -- Changes one after another in a transaction, and its end.
-use Rattle.std.proofs.Common.{◌≡◌, ℕ, ◌+◌, ◌<◌, true, false, List, [], ◌∷◌, ◌++◌, take, length, get_or, Ok, Err, Result, OnOk, IsTrue, refl, sym, ap, subst, ◌∙◌, arith}
+use Rattle.std.proofs.Common.{◌≡◌, ℕ, ◌+◌, ◌<◌, true, false, List, [], ◌∷◌, ◌++◌, take, length, get_or, Ok, Err, Result, OnOk, IsTrue, refl, sym, ap, subst, ◌∙◌, inl, arith}
 use Rattle.std.proofs.lemmas.List.{take_more}
 use Rattle.sqlite_trees.specs.Tree.{Trees}
 use Rattle.sqlite_trees.specs.declared.store.Store.{Ghosts}
@@ -76,3 +76,14 @@ pub commits_all : {S : Type 0} (g : Ghosts S) (old : Held S) (last end : State) 
 commits_all g old last end changes inside commit was =
     survives_then (state g old) last end _ _ _ (λ _ db none. absurd none)
     (λ clean db is tables h. (last.now, (was (clean_before last end _ commit clean)).holds tables h, is)) (survives_begin g old last _ inside) commit
+
+-- nothing is done
+pub survives_same : (s : State) (P : Trees → Type 0) → Survives s s P
+survives_same s P = record {
+  clean = omega arith;
+  shield = λ h. h;
+  counts = omega arith;
+  limit = refl;
+  closes = λ _ is_open. inl is_open;
+  crash = λ _ db may. inl may;
+}

@@ -55,8 +55,8 @@ message_added owner id bytes = added message_tree (message_cells owner id bytes)
 abbrev pub message_removed : List ℕ → ℤ → Tables → Tables
 message_removed owner id = removed message_tree (message_key owner id)
 
-abbrev pub copy_added : List ℕ → List ℕ → ℤ → ℤ → Tables → Tables
-copy_added owner folder n id = added copy_tree (copy_cells owner folder n id)
+abbrev pub copy_added : List ℕ → List ℕ → ℤ → ℤ → List ℕ → Tables → Tables
+copy_added owner folder n id flags = added copy_tree (copy_cells owner folder n id flags)
 
 abbrev pub copy_removed : List ℕ → List ℕ → ℤ → Tables → Tables
 copy_removed owner folder n = removed copy_tree (copy_key owner folder n)
@@ -92,7 +92,7 @@ made_one (RemoveScripts owner) = owned_removed script_tree owner.now
 made_one (AddMessage owner id bytes) = message_added owner.now id bytes.now
 made_one (RemoveMessage owner id) = message_removed owner.now id
 made_one (RemoveMessages owner) = owned_removed message_tree owner.now
-made_one (AddCopy owner folder n id) = copy_added owner.now folder.now n id
+made_one (AddCopy owner folder n id flags) = copy_added owner.now folder.now n id flags.now
 made_one (RemoveCopy owner folder n) = copy_removed owner.now folder.now n
 made_one (RemoveCopies owner) = owned_removed copy_tree owner.now
 made_one (AddOutgoing owner id kind sender target message) = outgoing_added owner.now id kind sender.now target.now message.now
@@ -132,7 +132,7 @@ owner_of (RemoveScripts owner) = owner.now
 owner_of (AddMessage owner id bytes) = owner.now
 owner_of (RemoveMessage owner id) = owner.now
 owner_of (RemoveMessages owner) = owner.now
-owner_of (AddCopy owner folder n id) = owner.now
+owner_of (AddCopy owner folder n id flags) = owner.now
 owner_of (RemoveCopy owner folder n) = owner.now
 owner_of (RemoveCopies owner) = owner.now
 owner_of (AddOutgoing owner id kind sender target message) = owner.now

@@ -1,4 +1,4 @@
--- The table of the copies of messages, which are the folders: a row says which message a folder has.
+-- The table of the copies of messages, which are the folders: a row says which message a folder has, and with which flags (RFC 5232).
 use Rattle.std.specs.Prelude.{false, ℕ, ◌+◌, ℤ, List, [], ◌∷◌, codes}
 use Rattle.sqlite_schema.specs.declared.schema.Action.TheVariants.{NoAction}
 use Rattle.sqlite_schema.specs.declared.schema.Kind.TheVariants as kind
@@ -25,6 +25,9 @@ n_column = 2
 abbrev pub id_column : ℕ
 id_column = 3
 
+abbrev pub flags_column : ℕ
+flags_column = 4
+
 -- `REFERENCES message (owner, id)` at the columns of the owner and of the message's number
 abbrev pub message_reference : Reference
 message_reference = record { columns = 1 ∷ 4 ∷ []; parent = codes "message"; parent_columns = codes "owner" ∷ codes "id" ∷ []; on_delete = NoAction; on_update = NoAction; is_deferred = false }
@@ -34,7 +37,7 @@ to_message = account_reference ∷ message_reference ∷ []
 
 abbrev pub copy : Table
 copy = keyed (codes "copy") copy_tree (1 ∷ 2 ∷ 3 ∷ []) to_message
-    (needed (codes "owner") kind.Blob ∷ needed (codes "folder") kind.Blob ∷ needed (codes "n") kind.Integer ∷ needed (codes "id") kind.Integer ∷ [])
+    (needed (codes "owner") kind.Blob ∷ needed (codes "folder") kind.Blob ∷ needed (codes "n") kind.Integer ∷ needed (codes "id") kind.Integer ∷ needed (codes "flags") kind.Blob ∷ [])
 
 -- the index of the copies by their messages, whose tree is the one after the last table's two
 abbrev pub copy_message : Index
@@ -44,13 +47,13 @@ copy_message = record { name = codes "copy_message"; tree = copy_tree + 2; table
 
 abbrev pub create_copy : List ℕ
 create_copy =
-    codes "CREATE TABLE copy (owner BLOB NOT NULL REFERENCES account (name), folder BLOB NOT NULL, n INTEGER NOT NULL, id INTEGER NOT NULL, PRIMARY KEY (owner, folder, n), FOREIGN KEY (owner, id) REFERENCES message (owner, id)) STRICT"
+    codes "CREATE TABLE copy (owner BLOB NOT NULL REFERENCES account (name), folder BLOB NOT NULL, n INTEGER NOT NULL, id INTEGER NOT NULL, flags BLOB NOT NULL, PRIMARY KEY (owner, folder, n), FOREIGN KEY (owner, id) REFERENCES message (owner, id)) STRICT"
 
 abbrev pub create_copy_message : List ℕ
 create_copy_message = codes "CREATE INDEX copy_message ON copy (owner, id)"
 
 abbrev pub insert_copy : List ℕ
-insert_copy = codes "INSERT INTO copy (owner, folder, n, id) VALUES (?1, ?2, ?3, ?4)"
+insert_copy = codes "INSERT INTO copy (owner, folder, n, id, flags) VALUES (?1, ?2, ?3, ?4, ?5)"
 
 abbrev pub delete_copy : List ℕ
 delete_copy = codes "DELETE FROM copy WHERE owner = ?1 AND folder = ?2 AND n = ?3"
@@ -60,7 +63,7 @@ delete_copies = codes "DELETE FROM copy WHERE owner = ?1"
 
 -- one copy of a folder, after that many
 abbrev pub select_nth : List ℕ
-select_nth = codes "SELECT folder, n, id FROM copy WHERE owner = ?1 AND folder = ?2 ORDER BY n LIMIT 1 OFFSET ?3"
+select_nth = codes "SELECT folder, n, id, flags FROM copy WHERE owner = ?1 AND folder = ?2 ORDER BY n LIMIT 1 OFFSET ?3"
 
 -- the numbers of a folder's copies, in their order
 abbrev pub select_numbers : List ℕ
@@ -89,8 +92,9 @@ select_folder =
 
 -- ---- its rows
 
-abbrev pub copy_cells : List ℕ → List ℕ → ℤ → ℤ → Row
-copy_cells owner folder n id = Blob owner ∷ Blob folder ∷ Int n ∷ Int id ∷ []
+-- the last cell is the text that names the flags of the copy
+abbrev pub copy_cells : List ℕ → List ℕ → ℤ → ℤ → List ℕ → Row
+copy_cells owner folder n id flags = Blob owner ∷ Blob folder ∷ Int n ∷ Int id ∷ Blob flags ∷ []
 
 -- the key of a row: the owner, the folder and the number
 abbrev pub copy_key : List ℕ → List ℕ → ℤ → Row

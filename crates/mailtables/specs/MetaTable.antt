@@ -23,7 +23,7 @@ abbrev pub create_meta : List ℕ
 create_meta = codes "CREATE TABLE meta (item TEXT NOT NULL PRIMARY KEY, value INTEGER NOT NULL) STRICT"
 
 abbrev pub insert_version : List ℕ
-insert_version = codes "INSERT INTO meta (item, value) VALUES ('version', 2)"
+insert_version = codes "INSERT INTO meta (item, value) VALUES ('version', 3)"
 
 abbrev pub select_version : List ℕ
 select_version = codes "SELECT value FROM meta WHERE item = ?1"
@@ -32,7 +32,7 @@ abbrev pub version_key : Row
 version_key = value.Text (codes "version") ∷ []
 
 abbrev pub version_row : Row
-version_row = value.Text (codes "version") ∷ value.Int (pos 2) ∷ []
+version_row = value.Text (codes "version") ∷ value.Int (pos 3) ∷ []
 
 -- the rows of the version, each with its rowid
 abbrev pub version_rows : Trees → List Row

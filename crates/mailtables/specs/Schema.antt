@@ -1,5 +1,5 @@
--- The tables of version 2, as the texts of their CREATE statements define them.
-use Rattle.std.specs.Prelude.{◌≡◌, ◌⊎◌, ◌+◌, true, false, None, List, [], ◌∷◌, ◌++◌}
+-- The tables of version 3, as the texts of their CREATE statements define them.
+use Rattle.std.specs.Prelude.{◌≡◌, ◌+◌, true, false, None, List, [], ◌∷◌, ◌++◌}
 use Rattle.sqlite_schema.specs.declared.schema.Column.{Column}
 use Rattle.sqlite_schema.specs.declared.schema.Index.{Index}
 use Rattle.sqlite_schema.specs.declared.schema.Reference.{Reference}
@@ -42,13 +42,9 @@ the_indexes = the_keys ++ copy_message ∷ []
 abbrev pub mail_schema : Schema
 mail_schema = record { tables = the_tables; indexes = the_indexes; views = [] }
 
--- the schema of a store that was made before there was the index of the copies by their messages: all else is the same
-abbrev pub unindexed_schema : Schema
-unindexed_schema = record { tables = the_tables; indexes = the_keys; views = [] }
-
--- our tables, with that index or without it
+-- our tables, with that index
 abbrev pub IsOurSchema : Schema → Type 0
-IsOurSchema schema = (schema ≡ mail_schema) ⊎ (schema ≡ unindexed_schema)
+IsOurSchema schema = schema ≡ mail_schema
 
 -- the schema once the first tables are made
 abbrev pub schema_1 : Schema
@@ -71,6 +67,10 @@ schema_6 = created schema_5 (record notice { tree = 0 })
 
 abbrev pub schema_7 : Schema
 schema_7 = created schema_6 (record message { tree = 0 })
+
+-- all tables, before the index of the copies by their messages
+abbrev pub schema_8 : Schema
+schema_8 = record { tables = the_tables; indexes = the_keys; views = [] }
 
 -- the column of this form, without a default
 abbrev pub column_of : Form → Column

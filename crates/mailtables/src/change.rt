@@ -79,6 +79,7 @@ pub enum Change<'a> {
         folder: &'a [u8],
         n: i64,
         id: i64,
+        flags: &'a [u8],
     },
     RemoveCopy {
         owner: &'a [u8],
@@ -171,7 +172,8 @@ fn make<S: Alter>(tx: &mut Transaction<'_, S>, change: &Change<'_>) -> Result<()
             folder,
             ref n,
             ref id,
-        } => add_copy(tx, owner, folder, n, id),
+            flags,
+        } => add_copy(tx, owner, folder, n, id, flags),
         Change::RemoveCopy {
             owner,
             folder,

@@ -2,45 +2,46 @@
 ghost use Rattle.mailtables.specs.Changes.{owned_removed, copy_added, copy_removed};
 ghost use Rattle.mailtables.specs.CopyTable.{copy_tree};
 ghost use Rattle.mailtables.specs.Connection.{ChangesRows, MakesTables};
-ghost use Rattle.mailtables.specs.Ours.{MakesIndex};
-ghost use Rattle.mailtables.specs.Schema.{unindexed_schema, schema_7};
+ghost use Rattle.mailtables.specs.Schema.{mail_schema, schema_7, schema_8};
 
 use crate::statement::execute;
 use sqlite::{Alter, Error, Transaction, params};
 
 /// Makes the table `copy`, inside a transaction.
 pub(crate) fn make_copy<S: Alter>(tx: &mut Transaction<'_, S>) -> Result<(), Error>
-    ensures { MakesTables S.Store schema_7 unindexed_schema tx.old tx.new result }
+    ensures { MakesTables S.Store schema_7 schema_8 tx.old tx.new result }
 {
     execute(
         tx,
-        "CREATE TABLE copy (owner BLOB NOT NULL REFERENCES account (name), folder BLOB NOT NULL, n INTEGER NOT NULL, id INTEGER NOT NULL, PRIMARY KEY (owner, folder, n), FOREIGN KEY (owner, id) REFERENCES message (owner, id)) STRICT",
+        "CREATE TABLE copy (owner BLOB NOT NULL REFERENCES account (name), folder BLOB NOT NULL, n INTEGER NOT NULL, id INTEGER NOT NULL, flags BLOB NOT NULL, PRIMARY KEY (owner, folder, n), FOREIGN KEY (owner, id) REFERENCES message (owner, id)) STRICT",
         &[],
     )
 }
 
 /// Makes the index of the copies by their messages, by which SQLite asks whether a message that goes is still referred to.
-/// Inside a transaction. Takes time and memory in proportion to the copies.
+/// Inside a transaction.
 pub(crate) fn make_copy_message<S: Alter>(tx: &mut Transaction<'_, S>) -> Result<(), Error>
-    ensures { MakesIndex S.Store tx.old tx.new result }
+    ensures { MakesTables S.Store schema_8 mail_schema tx.old tx.new result }
 {
     execute(tx, "CREATE INDEX copy_message ON copy (owner, id)", &[])
 }
 
-/// A copy in a folder, with its number, of the message with the number `id`, which is there. Inside a transaction.
+/// A copy in a folder, with its number, of the message with the number `id`, which is there; `flags` is the text that names its
+/// flags. Inside a transaction.
 pub fn add_copy<S: Alter>(
     tx: &mut Transaction<'_, S>,
     owner: &[u8],
     folder: &[u8],
     n: &i64,
     id: &i64,
+    flags: &[u8],
 ) -> Result<(), Error>
-    ensures { ChangesRows S.Store (copy_added owner.now folder.now n.now id.now) tx.old tx.new result }
+    ensures { ChangesRows S.Store (copy_added owner.now folder.now n.now id.now flags.now) tx.old tx.new result }
 {
     execute(
         tx,
-        "INSERT INTO copy (owner, folder, n, id) VALUES (?1, ?2, ?3, ?4)",
-        params![owner, folder, n, id],
+        "INSERT INTO copy (owner, folder, n, id, flags) VALUES (?1, ?2, ?3, ?4, ?5)",
+        params![owner, folder, n, id, flags],
     )
 }
 

@@ -1,6 +1,5 @@
 //! Whether the tables of a database are ours: those that the texts of `table.rt` make, and no others.
-ghost use Rattle.std.specs.Prelude.{◌≡◌, ◌⊎◌, ◌↔◌, true, [], ◌∷◌, map, codes, is_some, IsTrue};
-ghost use Rattle.sqlite_schema.specs.Names.{index_named};
+ghost use Rattle.std.specs.Prelude.{◌≡◌, ◌↔◌, true, [], ◌∷◌, map, IsTrue};
 ghost use Rattle.sqlite_value.specs.Keys.{plain};
 ghost use Rattle.mailtables.specs.Forms.{needed, maybe, keyed};
 ghost use Rattle.mailtables.specs.Schema as spec;
@@ -271,7 +270,7 @@ pub fn is_notice(table: &Table, tree: u32) -> bool
     is_table(table, b"notice", tree, &[1, 2], Parents::Account, &forms)
 }
 
-fn is_message(table: &Table) -> bool
+pub fn is_message(table: &Table) -> bool
     ensures { IsTrue result ↔ (table.now ≡ message_table.message) }
 {
     let forms = [
@@ -290,6 +289,7 @@ fn is_copy(table: &Table) -> bool
         needed(b"folder", Kind::Blob),
         needed(b"n", Kind::Integer),
         needed(b"id", Kind::Integer),
+        needed(b"flags", Kind::Blob),
     ];
     let parents = Parents::AccountAndMessage;
     is_table(table, b"copy", 14, &[1, 2, 3], parents, &forms)
@@ -372,7 +372,7 @@ pub fn are_indexes(mut indexes: &[Index], mut forms: &[KeyForm<'_>]) -> bool
 }
 
 /// Whether these are the indexes of the tables' keys.
-fn are_keys(indexes: &[Index]) -> bool
+pub fn are_keys(indexes: &[Index]) -> bool
     ensures { IsTrue result ↔ (indexes.now ≡ spec.the_keys) }
 {
     let forms = [
@@ -401,7 +401,7 @@ fn is_copy_message(index: &Index) -> bool
 }
 
 /// Whether these are the indexes of the tables' keys and the one of the copies by their messages.
-fn are_all(indexes: &[Index]) -> bool
+pub fn are_all(indexes: &[Index]) -> bool
     ensures { IsTrue result ↔ (indexes.now ≡ spec.the_indexes) }
 {
     let [keys @ .., last] = indexes else {
@@ -410,25 +410,11 @@ fn are_all(indexes: &[Index]) -> bool
     are_keys(keys) && is_copy_message(last)
 }
 
-/// Whether these are the indexes of the tables' keys, with the one of the copies by their messages or without it.
-fn are_indexes_of_ours(indexes: &[Index]) -> bool
-    ensures { IsTrue result ↔ (indexes.now ≡ spec.the_indexes) ⊎ (indexes.now ≡ spec.the_keys) }
-{
-    are_all(indexes) || are_keys(indexes)
-}
-
-/// Whether these are our tables and indexes, and nothing else. The index of the copies by their messages may be absent.
+/// Whether these are our tables and indexes, and nothing else.
 pub fn is_ours(schema: &Schema) -> bool
     ensures { IsTrue result ↔ spec.IsOurSchema schema.now }
 {
     are_tables(schema.tables.as_slice())
-        && are_indexes_of_ours(schema.indexes.as_slice())
+        && are_all(schema.indexes.as_slice())
         && schema.views.is_empty()
-}
-
-/// Whether an index has the name of that of the copies by their messages, ASCII case ignored.
-pub(crate) fn has_copy_message(schema: &Schema) -> bool
-    ensures { result ≡ is_some (index_named schema.now (codes "copy_message")) }
-{
-    schema.index_named(b"copy_message").is_some()
 }

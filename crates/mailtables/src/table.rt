@@ -1,10 +1,10 @@
 //! All tables, and whether a database has them.
 ghost use Rattle.std.specs.Prelude.{◌≡◌, false, ◌↔◌, IsTrue, OnOk, OnErr};
 ghost use Rattle.sqlite.specs.Held.{state};
-ghost use Rattle.mailtables.specs.Ours.{Creates, MakesOurs, MayCreate, Indexes, MayIndex, Completes, Opens};
+ghost use Rattle.mailtables.specs.Ours.{Creates, MakesOurs, MayCreate, Opens};
 ghost use Rattle.sqlite.specs.State.{Survives, HasCleanDisk};
 ghost use Rattle.mailtables.specs.Connection.{MakesTables, IsSettled, StaysSame, has_our_name};
-ghost use Rattle.mailtables.specs.Schema.{no_schema, mail_schema, schema_3, schema_6, unindexed_schema};
+ghost use Rattle.mailtables.specs.Schema.{no_schema, mail_schema, schema_3, schema_6, schema_7};
 
 use crate::account::make_account;
 use crate::copy::{make_copy, make_copy_message};
@@ -12,7 +12,6 @@ use crate::message::make_message;
 use crate::notice::make_notice;
 use crate::queue::make_outgoing;
 use crate::reply::make_reply;
-use crate::schema::has_copy_message;
 use crate::script::make_script;
 use crate::version::{add_version, has_version, make_meta};
 use sqlite::{Alter, Connection, Error, Transaction};
@@ -50,13 +49,20 @@ fn make_first<S: Alter>(tx: &mut Transaction<'_, S>) -> Result<(), Error>
     make_script(tx)
 }
 
+/// The table of the copies, which are the folders, and its index by their messages, inside a transaction.
+pub fn make_copies<S: Alter>(tx: &mut Transaction<'_, S>) -> Result<(), Error>
+    ensures { MakesTables S.Store schema_7 mail_schema tx.old tx.new result }
+{
+    make_copy(tx)?;
+    make_copy_message(tx)
+}
+
 /// The tables of messages and copies, which are the folders, and the index of the copies, inside a transaction.
 pub fn make_folders<S: Alter>(tx: &mut Transaction<'_, S>) -> Result<(), Error>
     ensures { MakesTables S.Store schema_6 mail_schema tx.old tx.new result }
 {
     make_message(tx)?;
-    make_copy(tx)?;
-    make_copy_message(tx)
+    make_copies(tx)
 }
 
 /// The tables of the queue, the replies and the notices, inside a transaction.
@@ -101,47 +107,12 @@ pub fn make_tables<S: Alter>(conn: &mut Connection<S>) -> Result<(), Error>
     tx.commit()
 }
 
-/// Makes the index of the copies by their messages in one transaction, where the tables are ours but for it.
-fn make_index<S: Alter>(conn: &mut Connection<S>) -> Result<(), Error>
-    requires { conn.old.in_transaction ≡ false }
-    ensures ended { conn.new.in_transaction ≡ false }
-    ensures limit { conn.new.step_limit ≡ conn.old.step_limit }
-    ensures made { Indexes (state S.Store conn.old) (state S.Store conn.new) result }
-    ensures settled { HasCleanDisk (state S.Store conn.new) → OnOk result (IsSettled (state S.Store conn.new)) }
-    ensures same { HasCleanDisk (state S.Store conn.new) → OnErr result (StaysSame (state S.Store conn.old) (state S.Store conn.new)) }
-    ensures crash { Survives (state S.Store conn.old) (state S.Store conn.new)
-        (λ trees. (state S.Store conn.old).now.schema ≡ unindexed_schema → MayIndex (state S.Store conn.old) trees) }
-{
-    let _settled = conn.is_autocommit();
-    let mut tx = conn.transaction();
-    make_copy_message(&mut tx)?;
-    tx.commit()
-}
-
-/// Makes the index of the copies by their messages, where our tables lack it.
-fn complete<S: Alter>(conn: &mut Connection<S>) -> Result<(), Error>
-    requires { conn.old.in_transaction ≡ false }
-    ensures ended { conn.new.in_transaction ≡ false }
-    ensures limit { conn.new.step_limit ≡ conn.old.step_limit }
-    ensures completes { Completes (state S.Store conn.old) (state S.Store conn.new) result }
-{
-    if has_copy_message(conn.schema()) {
-        return Ok(());
-    }
-    make_index(conn)
-}
-
-/// Opens a database of our tables: whether their version is 2. Where it is, and they lack the index of the copies by their
-/// messages, that is made, in one transaction. No table is read but that of the version and, for the index, that of the copies.
+/// Opens a database of our tables: whether their version is 3. No table is read but that of the version, and nothing changes.
 pub fn open_tables<S: Alter>(conn: &mut Connection<S>) -> Result<bool, Error>
     requires { conn.old.in_transaction ≡ false }
     ensures ended { conn.new.in_transaction ≡ false }
     ensures limit { conn.new.step_limit ≡ conn.old.step_limit }
     ensures opens { Opens (state S.Store conn.old) (state S.Store conn.new) result }
 {
-    if !has_version(conn)? {
-        return Ok(false);
-    }
-    complete(conn)?;
-    Ok(true)
+    has_version(conn)
 }

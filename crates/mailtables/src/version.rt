@@ -29,7 +29,7 @@ pub fn add_version<S: Alter>(tx: &mut Transaction<'_, S>) -> Result<(), Error>
 {
     execute(
         tx,
-        "INSERT INTO meta (item, value) VALUES ('version', 2)",
+        "INSERT INTO meta (item, value) VALUES ('version', 3)",
         &[],
     )
 }
@@ -46,13 +46,13 @@ pub fn find_version<S: Alter>(conn: &mut Connection<S>) -> Result<Vec<Row>, Erro
     )
 }
 
-/// Whether the row of the version is there once, and says 2.
+/// Whether the row of the version is there once, and says 3.
 pub(crate) fn has_version<S: Alter>(conn: &mut Connection<S>) -> Result<bool, Error>
     requires { conn.old.in_transaction ≡ false }
     ensures { Queries S.Store (Asks IsOurSchema (λ is. IsTrue is ↔ IsOurs (state S.Store conn.old).now)) conn.old conn.new result }
 {
     let rows = find_version(conn)?;
-    are_version(&rows, &2)
+    are_version(&rows, &3)
 }
 
 /// Whether the first number of the row is this one.

@@ -1,7 +1,9 @@
 pub mod OldFacts
+pub mod SecondFacts
 pub mod OldVersionLemmas
 pub mod DropLemmas
 pub mod MigrationLemmas
 pub mod MovingLemmas
 pub mod UpgradeLemmas
 pub mod OpeningLemmas
+pub mod ThirdLemmas

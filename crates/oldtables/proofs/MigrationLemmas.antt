@@ -35,12 +35,13 @@ use Rattle.mailtables.specs.Rows.{has_key}
 use Rattle.sqlite_keyed.specs.Lists.{delete_where}
 use Rattle.std.proofs.lemmas.List.{take_more}
 use Rattle.sqlite.proofs.StateLemmas.{survives_then}
-use Rattle.mailtables.proofs.WriteLemmas.{clean_before}
-use Rattle.mailtables.proofs.OpeningLemmas.{survives_same}
+use Rattle.mailtables.proofs.WriteLemmas.{clean_before, survives_same}
 use Rattle.mailtables.proofs.ResultLemmas.{on_ok, on_any}
-use Rattle.mailtables.specs.Schema.{mail_schema, schema_6}
+use Rattle.mailtables.specs.Schema.{mail_schema, schema_6, schema_7}
 use Rattle.sqlite_rules.proofs.ListLemmas.{all_has}
 use Rattle.oldtables.proofs.OldFacts.{old_without_copy, oldest_without_copy, drops_last, drops_fourth, last_not_acted_on, fourth_not_acted_on, Selects, selects_last, selects_fourth, four_columns, copy_names}
+use Rattle.oldtables.specs.SecondSchema.{second_copy, second_schema, second_unindexed_schema}
+use Rattle.oldtables.proofs.SecondFacts.{second_without_copy, unindexed_without_copy, drops_second, drops_unindexed, second_not_acted_on, unindexed_not_acted_on}
 use Rattle.mailtables.proofs.ReadLemmas.{answered, shown_same}
 use Rattle.mailtables.proofs.AnswerLemmas.{cells_in_order}
 use Rattle.oldtables.proofs.DropLemmas.{drops}
@@ -141,6 +142,11 @@ pub copies_dropped : (old new : State) (count : ℕ) → Executes drop_copy [] o
 copies_dropped old new count ran = record {
   last = subst (λ s. LosesTable old_schema s old.now new.now) old_without_copy (drops old_schema drop_copy 6 (old_copy old_copy_tree) refl drops_last.is drops_last.plain last_not_acted_on refl old new count ran);
   fourth = subst (λ s. LosesTable oldest_4 s old.now new.now) oldest_without_copy (drops oldest_4 drop_copy 3 (old_copy oldest_copy_tree) refl drops_fourth.is drops_fourth.plain fourth_not_acted_on refl old new count ran);
+  second = λ schema is. elim is [
+    | inl indexed ↦ subst (λ s. LosesTable s schema_7 old.now new.now) (sym indexed) (subst (λ s. LosesTable second_schema s old.now new.now) second_without_copy (drops second_schema drop_copy 7 second_copy refl drops_second.is drops_second.plain second_not_acted_on refl old new count ran))
+    | inr lacks ↦ subst (λ s. LosesTable s schema_7 old.now new.now) (sym lacks)
+        (subst (λ s. LosesTable second_unindexed_schema s old.now new.now) unindexed_without_copy (drops second_unindexed_schema drop_copy 7 second_copy refl drops_unindexed.is drops_unindexed.plain unindexed_not_acted_on refl old new count ran))
+  ];
 }
 
 le_true : (n m : ℕ) → n ≤ m → nat_le n m ≡ true

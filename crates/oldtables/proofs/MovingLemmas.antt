@@ -133,11 +133,11 @@ module _ (tree : ℕ) (columns : Row → Row) where
       let last = subst (λ (c : Row). TurnsRows (added tree c) between new) (sym is) second (joined tree columns (take at rows) tables) (first tables h) in
       subst (HoldsTables mail_schema new) (sym more) last
 
-  joined_at : (rows : List Row) (tables : Tables) → (tree == tree) ≡ true → joined tree columns rows tables tree ≡ tables tree ++ map columns rows
+  pub joined_at : (rows : List Row) (tables : Tables) → (tree == tree) ≡ true → joined tree columns rows tables tree ≡ tables tree ++ map columns rows
   joined_at [] tables itself = sym (append-nil (tables tree))
   joined_at (r ∷ rows) tables itself = joined_at rows (added tree (columns r) tables) itself ∙ ap (λ l. l ++ map columns rows) (rw itself refl) ∙ append_assoc (tables tree) (columns r ∷ []) (map columns rows)
 
-  joined_beside : (other : ℕ) → (other == tree) ≡ false → (rows : List Row) (tables : Tables) → joined tree columns rows tables other ≡ tables other
+  pub joined_beside : (other : ℕ) → (other == tree) ≡ false → (rows : List Row) (tables : Tables) → joined tree columns rows tables other ≡ tables other
   joined_beside other apart [] tables = refl
   joined_beside other apart (r ∷ rows) tables = joined_beside other apart rows (added tree (columns r) tables) ∙ rw apart refl
 

@@ -1,4 +1,4 @@
--- What is computed of the schemas of version 1, and of the statements that move it to version 2.
+-- What is computed of the schemas of version 1, and of the statements that move it to version 3.
 use Rattle.std.proofs.Common.{◌≡◌, ℕ, ◌+◌, true, false, codes, List, [], ◌∷◌, Ok, refl}
 use Rattle.sqlite_sql.specs.Term.{Term, col}
 use Rattle.sqlite_schema.specs.declared.schema.Keys.TheVariants.{Enforced}

@@ -1,4 +1,4 @@
--- The row of the version, where that is 1, and how it goes.
+-- The row of the version, where that is an earlier one, and how it goes.
 use Rattle.std.proofs.Common.{◌≡◌, ◌↔◌, ◌+◌, ℕ, ℤ, pos, true, [], ◌∷◌, Ok, refl, sym, subst, inl, inr}
 use Rattle.sqlite_value.specs.declared.value.Value.TheVariants.{Int}
 use Rattle.sqlite_value.specs.Order.{Row}
@@ -24,14 +24,37 @@ use Rattle.mailtables.proofs.SchemaFacts.{no_works}
 use Rattle.mailtables.proofs.StepLemmas.{on_delete, delete_holds}
 use Rattle.mailtables.proofs.VersionLemmas.{AsksVersion, SaysVersion}
 use Rattle.oldtables.specs.OldSchema.{IsOldSchema, IsOld, delete_version}
+use Rattle.oldtables.specs.SecondSchema.{IsSecondSchema, IsSecond}
+use Rattle.oldtables.specs.declared.version.Older.{Older}
+use Rattle.oldtables.specs.declared.version.Older.TheVariants.{Second, CopiesLast, CopiesFourth}
+use Rattle.oldtables.specs.Upgrade.{IsOlderSchema, IsOlder, version_of}
 use Rattle.oldtables.proofs.OldFacts.{version_last, version_fourth}
+use Rattle.oldtables.proofs.SecondFacts.{version_second, version_unindexed}
 
 -- the query for it is understood in either order of the tables
-pub asks_old : (schema : Schema) → IsOldSchema schema → AsksVersion schema
+asks_old : (schema : Schema) → IsOldSchema schema → AsksVersion schema
 asks_old schema old = elim old [ inl is ↦ subst AsksVersion (sym is) version_last | inr is ↦ subst AsksVersion (sym is) version_fourth ]
 
-pub old_says : (db : Database) → IsOldSchema db.schema → IsOld db ↔ SaysVersion (pos 1) db.trees
+old_says : (db : Database) → IsOldSchema db.schema → IsOld db ↔ SaysVersion (pos 1) db.trees
 old_says db old = (λ h. record { row = h.row; only = h.only; says = h.says }, λ h. record { schema = old; row = h.row; only = h.only; says = h.says })
+
+-- in version 2, with the index of the copies or without it
+asks_second : (schema : Schema) → IsSecondSchema schema → AsksVersion schema
+asks_second schema second = elim second [ inl is ↦ subst AsksVersion (sym is) version_second | inr is ↦ subst AsksVersion (sym is) version_unindexed ]
+
+second_says : (db : Database) → IsSecondSchema db.schema → IsSecond db ↔ SaysVersion (pos 2) db.trees
+second_says db second = (λ h. record { row = h.row; only = h.only; says = h.says }, λ h. record { schema = second; row = h.row; only = h.only; says = h.says })
+
+-- in either version
+pub asks_older : (older : Older) (schema : Schema) → IsOlderSchema older schema → AsksVersion schema
+asks_older Second schema is = asks_second schema is
+asks_older CopiesLast schema is = asks_old schema is
+asks_older CopiesFourth schema is = asks_old schema is
+
+pub older_says : (older : Older) (db : Database) → IsOlderSchema older db.schema → IsOlder older db ↔ SaysVersion (version_of older) db.trees
+older_says Second db is = second_says db is
+older_says CopiesLast db is = old_says db is
+older_says CopiesFourth db is = old_says db is
 
 delete_version_is : command_of (understood mail_schema delete_version) ≡ Delete 0 (over meta_tree by_one (col 1 0 ∷ []) [])
 unfolding understood everything

@@ -1,5 +1,5 @@
--- How a database of version 1 becomes one of version 2.
-use Rattle.std.specs.Prelude.{◌≡◌, nat_le, cond, Bool, true, false, ℕ, List, [], ◌∷◌, fold, ◌++◌, map, Result, IfOk, OnOk, OnErr, IsTrue, ◌↔◌, Vec, IsPermutation}
+-- How a database of version 1 becomes one of version 3.
+use Rattle.std.specs.Prelude.{◌≡◌, nat_le, cond, ℕ, List, [], ◌∷◌, fold, ◌++◌, map, Vec, IsPermutation}
 use Rattle.std.specs.declared.alloc.Global.{Global}
 use Rattle.sqlite_value.specs.Order.{Row}
 use Rattle.sqlite_value.specs.declared.value.Value.TheVariants.{Int, Blob}
@@ -9,13 +9,11 @@ use Rattle.oldtables.specs.declared.moving.Queued.{Queued}
 use Rattle.oldtables.specs.declared.moving.Replied.{Replied}
 use Rattle.oldtables.specs.declared.moving.Noted.{Noted}
 use Rattle.sqlite_keyed.specs.Lists.{delete_where}
+use Rattle.sqlite_schema.specs.declared.schema.Schema.{Schema}
 use Rattle.sqlite.specs.Effect.{Database}
-use Rattle.sqlite.specs.State.{State, HasCleanDisk, Survives}
-use Rattle.sqlite_trees.specs.Tree.{Trees}
 use Rattle.mailtables.specs.Rows.{Tables, HoldsTables, has_key, added, removed}
-use Rattle.mailtables.specs.Schema.{mail_schema, schema_3, schema_6}
-use Rattle.oldtables.specs.OldSchema.{IsOldSchema, old_schema, oldest_schema, oldest_4, old_copy_tree, oldest_copy_tree, oldest_outgoing_tree, oldest_reply_tree, oldest_notice_tree, queue_columns, four_cells, old_cells, message_from, copy_from, IsOld}
-use Rattle.mailtables.specs.Connection.{SeesCommit, StaysSame}
+use Rattle.mailtables.specs.Schema.{mail_schema, schema_3, schema_6, schema_7}
+use Rattle.oldtables.specs.OldSchema.{IsOldSchema, old_schema, oldest_schema, oldest_4, old_copy_tree, oldest_copy_tree, oldest_outgoing_tree, oldest_reply_tree, oldest_notice_tree, queue_columns, four_cells, old_cells, message_from, copy_from}
 use Rattle.mailtables.specs.MetaTable.{meta_tree, version_key, version_row}
 use Rattle.mailtables.specs.AccountTable.{account_tree}
 use Rattle.mailtables.specs.ScriptTable.{script_tree}
@@ -24,6 +22,7 @@ use Rattle.mailtables.specs.ReplyTable.{reply_tree}
 use Rattle.mailtables.specs.NoticeTable.{notice_tree}
 use Rattle.mailtables.specs.MessageTable.{message_tree}
 use Rattle.mailtables.specs.CopyTable.{copy_tree}
+use Rattle.oldtables.specs.SecondSchema.{IsSecondSchema}
 use Rattle.oldtables.specs.Inside.{LosesTable}
 
 -- a copy of version 1, as its row has it
@@ -36,10 +35,11 @@ pub record AreOldCopies (rows : Vec Row Global) (old new : Database) : Type 0 wh
   pub last : (tables : Tables) → HoldsTables old_schema old tables → IsPermutation (map old_cells (tables old_copy_tree)) rows.items
   pub fourth : (tables : Tables) → HoldsTables oldest_schema old tables → IsPermutation (map old_cells (tables oldest_copy_tree)) rows.items
 
--- the table of the copies goes: where it was the last, and where it was the fourth and the later ones are gone
+-- the table of the copies goes: of version 1 where it was the last, and where it was the fourth and the later ones are gone; and of version 2
 pub record LosesCopies (old new : Database) : Type 0 where
   pub last : LosesTable old_schema schema_6 old new
   pub fourth : LosesTable oldest_4 schema_3 old new
+  pub second : (schema : Schema) → IsSecondSchema schema → LosesTable schema schema_7 old new
 
 -- the tables without those from this number on
 abbrev pub before : ℕ → Tables → Tables
@@ -57,11 +57,11 @@ refiled cells tables = added copy_tree (copy_from cells) (added message_tree (me
 abbrev pub filled : List Row → Tables → Tables
 filled rows tables = fold (λ now cells. refiled cells now) tables rows
 
--- the row of the version is that of version 2
+-- the row of the version is that of version 3
 abbrev pub renewed : Tables → Tables
 renewed tables = added meta_tree version_row (removed meta_tree version_key tables)
 
--- of the tables of version 1, with the copies last, these are those of version 2: each copy has its message, of its own number, and the other rows are as before
+-- of the tables of version 1, with the copies last, these are those of version 3: each copy has its message, of its own number, and the other rows are as before
 pub record IsMigrated (old new : Tables) : Type 0 where
   pub copies : List Row
   pub same : IsPermutation (map old_cells (old old_copy_tree)) copies
@@ -74,7 +74,7 @@ pub record IsMigrated (old new : Tables) : Type 0 where
   pub replies : new reply_tree ≡ old reply_tree
   pub notices : new notice_tree ≡ old notice_tree
 
--- a database of version 1 with the copies last has turned into one of version 2
+-- a database of version 1 with the copies last has turned into one of version 3
 abbrev pub TurnsNew : Database → Database → Type 0
 TurnsNew old new = (tables : Tables) → HoldsTables old_schema old tables → (after : Tables) × IsMigrated tables after × HoldsTables mail_schema new after
 
@@ -96,7 +96,7 @@ pub record AreLater (later : Later) (old new : Database) : Type 0 where
   pub replies : AreRowsAt oldest_reply_tree four_cells old later.replies
   pub notices : AreRowsAt oldest_notice_tree four_cells old later.notices
 
--- the tables from the copies on, and then those of version 2 with no row
+-- the tables from the copies on, and then those of version 3 with no row
 abbrev pub RemakesAll : Database → Database → Type 0
 RemakesAll old new = (tables : Tables) → HoldsTables oldest_schema old tables → HoldsTables mail_schema new (before oldest_copy_tree tables)
 
@@ -118,39 +118,9 @@ pub record IsMoved (old new : Tables) : Type 0 where
   pub notices : IsPermutation (map four_cells (old oldest_notice_tree)) (new notice_tree)
   pub copies : new old_copy_tree ≡ old oldest_copy_tree
 
--- a database of version 1 with the copies fourth has turned into one of version 2, as one with the copies last would
+-- a database of version 1 with the copies fourth has turned into one of version 3, as one with the copies last would
 abbrev pub TurnsNewest : Database → Database → Type 0
 TurnsNewest old new = (tables : Tables) → HoldsTables oldest_schema old tables → (moved after : Tables) × IsMoved tables moved × IsMigrated moved after × HoldsTables mail_schema new after
-
--- ---- either order
-
--- a database of version 1 has turned into one of version 2: the flag says whether it has the copies last
-abbrev pub MigratesBy : Bool → Database → Database → Type 0
-MigratesBy true = TurnsNew
-MigratesBy false = TurnsNewest
-
--- after Ok it has
-abbrev pub Migrates : {X E : Type 0} → Bool → State → State → Result X E → Type 0
-Migrates is_last old new result = HasCleanDisk new → OnOk result (MigratesBy is_last old.now new.now)
-
--- what a crash may leave while it does, beside what it left before
-pub record MayMigrate (is_last : Bool) (s : State) (trees : Trees) : Type 0 where
-  pub db : Database
-  pub turned : MigratesBy is_last s.now db
-  pub left : trees ≡ db.trees
-
--- and of a database that is opened: of one of version 1
-pub record MayOpenOld (is_last : Bool) (s : State) (trees : Trees) : Type 0 where
-  pub old : IsOld s.now
-  pub migrated : MayMigrate is_last s trees
-
--- a database of version 1's tables is opened: the answer says whether its row of the version says 1; where it does, it has become version 2, and its last commit is seen; where it doesn't, and after a refusal, all is as it was
-pub record OpensOld {E : Type 0} (is_last : Bool) (old new : State) (result : Result Bool E) : Type 0 where
-  pub found : IsOldSchema old.now.schema → HasCleanDisk new → IfOk result (λ is. IsTrue is ↔ IsOld old.now)
-  pub migrated : IsOldSchema old.now.schema → HasCleanDisk new → IfOk result (λ is. IsTrue is → MigratesBy is_last old.now new.now × SeesCommit new)
-  pub not_old : IsOldSchema old.now.schema → HasCleanDisk new → IfOk result (λ is. is ≡ false → StaysSame old new)
-  pub refused : IsOldSchema old.now.schema → HasCleanDisk new → OnErr result (StaysSame old new)
-  pub crash : IsOldSchema old.now.schema → Survives old new (MayOpenOld is_last old)
 
 -- ---- what the rows of the later tables are taken apart into
 

@@ -4,7 +4,7 @@ use Rattle.sqlite_schema.specs.declared.schema.Kind.TheVariants as kind
 use Rattle.sqlite_schema.specs.declared.schema.Table.{Table}
 use Rattle.sqlite_schema.specs.declared.schema.Schema.{Schema}
 use Rattle.sqlite_catalog.specs.Change.{created}
-use Rattle.sqlite_value.specs.declared.value.Value.TheVariants.{Int}
+use Rattle.sqlite_value.specs.declared.value.Value.TheVariants.{Int, Blob}
 use Rattle.sqlite_value.specs.Order.{Row, column}
 use Rattle.sqlite.specs.Effect.{Database}
 use Rattle.mailtables.specs.MetaTable.{version_rows, stored_value_column}
@@ -58,7 +58,7 @@ pub record IsOld (db : Database) : Type 0 where
   pub only : version_rows db.trees ≡ row ∷ []
   pub says : column row stored_value_column ≡ Int (pos 1)
 
--- ---- the statements that move it to version 2
+-- ---- the statements that move it to version 3
 
 abbrev pub select_old_copies : List ℕ
 select_old_copies = codes "SELECT owner, folder, n, message FROM copy"
@@ -104,13 +104,13 @@ oldest_notice_tree = 12
 abbrev pub old_cells : Row → Row
 old_cells cells = column cells 0 ∷ column cells 1 ∷ column cells 2 ∷ column cells 3 ∷ []
 
--- the message's row of version 2: its number is the copy's
+-- the message's row of version 3: its number is the copy's
 abbrev pub message_from : Row → Row
 message_from cells = column cells 0 ∷ column cells 2 ∷ column cells 3 ∷ []
 
--- the copy's row of version 2: it is a copy of the message with its own number
+-- the copy's row of version 3: it is a copy of the message with its own number, without flags
 abbrev pub copy_from : Row → Row
-copy_from cells = column cells 0 ∷ column cells 1 ∷ column cells 2 ∷ column cells 2 ∷ []
+copy_from cells = column cells 0 ∷ column cells 1 ∷ column cells 2 ∷ column cells 2 ∷ Blob [] ∷ []
 
 -- ---- the rows of the tables that come later
 

@@ -1,38 +1,42 @@
--- The opening of a database of either version.
+-- The opening of a database of any version.
 use Rattle.std.specs.Prelude.{◌≡◌, ◌⊎◌, ◌↔◌, Bool, false, Result, IfOk, OnErr, IsTrue}
 use Rattle.sqlite_trees.specs.Tree.{Trees}
 use Rattle.sqlite_schema.specs.declared.schema.Schema.{Schema}
 use Rattle.sqlite.specs.Effect.{Database}
 use Rattle.sqlite.specs.State.{State, HasCleanDisk, Survives}
-use Rattle.mailtables.specs.Schema.{mail_schema, unindexed_schema, IsOurSchema}
+use Rattle.mailtables.specs.Schema.{mail_schema, IsOurSchema}
 use Rattle.mailtables.specs.Connection.{SeesCommit, StaysSame}
 use Rattle.mailtables.specs.Ours.{IsOurs, IsOpenedAs}
 use Rattle.oldtables.specs.declared.opening.Layout.{Layout}
-use Rattle.oldtables.specs.declared.opening.Layout.TheVariants.{Current, CopiesLast, CopiesFourth}
+use Rattle.oldtables.specs.declared.opening.Layout.TheVariants.{Current, Second, CopiesLast, CopiesFourth}
 use Rattle.oldtables.specs.OldSchema.{old_schema, oldest_schema, IsOldSchema, IsOld}
+use Rattle.oldtables.specs.SecondSchema.{IsSecondSchema, IsSecond}
 use Rattle.oldtables.specs.Migration.{TurnsNew, TurnsNewest}
+use Rattle.oldtables.specs.Third.{TurnsThird}
 
--- our tables, of either version
+-- a schema of ours that opening changes: of version 2 or of version 1
+abbrev pub IsBehind : Schema → Type 0
+IsBehind schema = IsSecondSchema schema ⊎ IsOldSchema schema
+
+-- our tables, of any version
 abbrev pub IsKnownSchema : Schema → Type 0
-IsKnownSchema schema = IsOurSchema schema ⊎ IsOldSchema schema
+IsKnownSchema schema = IsOurSchema schema ⊎ IsBehind schema
 
 -- a database of our tables whose one row of the version says which version they are of
 abbrev pub IsKnown : Database → Type 0
-IsKnown db = IsOurs db ⊎ IsOld db
-
--- a schema of ours that opening changes
-abbrev pub IsBehind : Schema → Type 0
-IsBehind schema = (schema ≡ unindexed_schema) ⊎ IsOldSchema schema
+IsKnown db = IsOurs db ⊎ (IsSecond db ⊎ IsOld db)
 
 -- the schema's tables lie like this
 abbrev pub LiesAs : Layout → Schema → Type 0
 LiesAs Current schema = IsOurSchema schema
+LiesAs Second schema = IsSecondSchema schema
 LiesAs CopiesLast schema = schema ≡ old_schema
 LiesAs CopiesFourth schema = schema ≡ oldest_schema
 
 -- what opening makes of a database whose tables lie like this
 abbrev pub Becomes : Layout → Database → Database → Type 0
 Becomes Current = IsOpenedAs
+Becomes Second = TurnsThird
 Becomes CopiesLast = TurnsNew
 Becomes CopiesFourth = TurnsNewest
 
@@ -44,7 +48,7 @@ pub record MayBecome (layout : Layout) (s : State) (trees : Trees) : Type 0 wher
   pub became : Becomes layout s.now db
   pub left : trees ≡ db.trees
 
--- a database whose tables lie like this is opened: the answer says whether the row of the version is theirs; where it is, the database has become version 2, and its last commit is seen; where it isn't, and after a refusal, all is as it was, and so it is where nothing was to be done
+-- a database whose tables lie like this is opened: the answer says whether the row of the version is theirs; where it is, the database is of version 3 then, and its last commit is seen; where it isn't, and after a refusal, all is as it was, and so it is where nothing was to be done
 pub record OpensKnown {E : Type 0} (layout : Layout) (old new : State) (result : Result Bool E) : Type 0 where
   pub found : LiesAs layout old.now.schema → HasCleanDisk new → IfOk result (λ is. IsTrue is ↔ IsKnown old.now)
   pub opened : LiesAs layout old.now.schema → HasCleanDisk new → IfOk result (λ is. IsTrue is → Becomes layout old.now new.now × SeesCommit new)

@@ -1,4 +1,4 @@
-//! The tables of version 1 in an SQL database, and how they become those of version 2.
+//! The tables of versions 1 and 2 in an SQL database, and how they become those of version 3.
 #![tactic(auto)]
 
 mod migration;
@@ -6,6 +6,7 @@ mod moving;
 mod opening;
 mod schema;
 mod statement;
+mod third;
 mod upgrade;
 mod version;
 

@@ -1,4 +1,4 @@
-//! How a database of version 1 becomes one of version 2.
+//! How a database of version 1 becomes one of version 3.
 ghost use Rattle.std.specs.Prelude.{◌≡◌, IfOk};
 ghost use Rattle.sqlite_value.specs.declared.value.Value.TheVariants.{Int, Blob};
 ghost use Rattle.sqlite_value.specs.Order.{column};
@@ -70,12 +70,12 @@ fn remake<S: Alter>(tx: &mut Transaction<'_, S>) -> Result<(), Error>
     make_folders(tx)
 }
 
-/// The copy joins the messages and the copies, inside a transaction.
+/// The copy joins the messages and, without flags, the copies, inside a transaction.
 fn refile<S: Alter>(tx: &mut Transaction<'_, S>, copy: &OldCopy<'_>) -> Result<(), Error>
     ensures { ChangesRows S.Store (refiled (cells_of copy.now)) tx.old tx.new result }
 {
     add_message(tx, copy.owner, &copy.n, copy.message)?;
-    add_copy(tx, copy.owner, copy.folder, &copy.n, &copy.n)
+    add_copy(tx, copy.owner, copy.folder, &copy.n, &copy.n, b"")
 }
 
 /// The copies of the rows do so in turn, inside a transaction.
@@ -89,8 +89,8 @@ fn fill<S: Alter>(tx: &mut Transaction<'_, S>, rows: &[Row]) -> Result<(), Error
     Ok(())
 }
 
-/// The row of the version says 2 then, inside a transaction.
-fn renew_version<S: Alter>(tx: &mut Transaction<'_, S>) -> Result<(), Error>
+/// The row of the version says 3 then, inside a transaction.
+pub(crate) fn renew_version<S: Alter>(tx: &mut Transaction<'_, S>) -> Result<(), Error>
     ensures { ChangesRows S.Store renewed tx.old tx.new result }
 {
     remove_version(tx)?;
@@ -105,7 +105,7 @@ pub(crate) fn refill<S: Alter>(tx: &mut Transaction<'_, S>, rows: &[Row]) -> Res
     renew_version(tx)
 }
 
-/// Version 1, with the copies last, becomes version 2, inside a transaction. Takes memory for all copies.
+/// Version 1, with the copies last, becomes version 3, inside a transaction. Takes memory for all copies.
 pub(crate) fn migrate_last<S: Alter>(tx: &mut Transaction<'_, S>) -> Result<(), Error>
     ensures { RunsInside S.Store (Makes TurnsNew) tx.old tx.new result }
 {

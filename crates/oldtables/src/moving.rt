@@ -180,7 +180,7 @@ fn drop_from_copy<S: Alter>(tx: &mut Transaction<'_, S>) -> Result<(), Error>
     drop_copy(tx)
 }
 
-/// Instead of the tables from the copies on, those of version 2, inside a transaction.
+/// Instead of the tables from the copies on, those of version 3, inside a transaction.
 fn remake_all<S: Alter>(tx: &mut Transaction<'_, S>) -> Result<(), Error>
     ensures { RunsInside S.Store (Makes RemakesAll) tx.old tx.new result }
 {
@@ -269,7 +269,7 @@ fn restore<S: Alter>(tx: &mut Transaction<'_, S>, later: &Later) -> Result<(), E
     fill_notices(tx, &later.notices)
 }
 
-/// Version 1, with the copies fourth, becomes version 2, inside a transaction. Takes memory for all copies, for the queue, the
+/// Version 1, with the copies fourth, becomes version 3, inside a transaction. Takes memory for all copies, for the queue, the
 /// replies and the notices.
 pub(crate) fn migrate_fourth<S: Alter>(tx: &mut Transaction<'_, S>) -> Result<(), Error>
     ensures { RunsInside S.Store (Makes TurnsNewest) tx.old tx.new result }

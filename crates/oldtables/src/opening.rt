@@ -1,10 +1,11 @@
-//! The opening of a database of either version.
+//! The opening of a database of any version.
 ghost use Rattle.std.specs.Prelude.{◌≡◌, false, IfSome, IfNone};
 ghost use Rattle.sqlite.specs.Held.{state};
 ghost use Rattle.oldtables.specs.Opening.{IsKnownSchema, LiesAs, OpensKnown};
 
-use crate::schema::{is_old, is_oldest};
+use crate::schema::{is_old, is_oldest, is_second};
 use crate::upgrade::open_old;
+use crate::version::Older;
 use mailtables::{is_ours, open_tables};
 use sqlite::{Alter, Connection, Error};
 use sqlite_schema::schema::Schema;
@@ -12,21 +13,25 @@ use sqlite_schema::schema::Schema;
 /// How the tables of a store lie.
 #[derive(Clone, Copy, Debug, PartialEq, Eq)]
 pub enum Layout {
-    /// Those of version 2, with the index of the copies by their messages or without it.
+    /// Those of version 3.
     Current,
+    /// Those of version 2, with the index of the copies by their messages or without it.
+    Second,
     /// Those of version 1, with the copies after all others.
     CopiesLast,
     /// Those of version 1, with the copies before the queue, the replies and the notices.
     CopiesFourth,
 }
 
-/// How the tables lie, where they and their indexes are exactly ours, of either version; else none.
+/// How the tables lie, where they and their indexes are exactly ours, of any version; else none.
 pub fn layout_of(schema: &Schema) -> Option<Layout>
     ensures found { IfSome result (λ layout. LiesAs layout schema.now) }
     ensures none { IfNone result (¬ IsKnownSchema schema.now) }
 {
     if is_ours(schema) {
         Some(Layout::Current)
+    } else if is_second(schema) {
+        Some(Layout::Second)
     } else if is_old(schema) {
         Some(Layout::CopiesLast)
     } else if is_oldest(schema) {
@@ -37,10 +42,11 @@ pub fn layout_of(schema: &Schema) -> Option<Layout>
 }
 
 /// Opens a database whose tables lie like this: whether its row of the version says theirs. Where it does, the database is of
-/// version 2 then, with the index of the copies by their messages, in one transaction.
+/// version 3 then, in one transaction.
 ///
-/// Of version 2 no table is read but that of the version and, where the index was lacking, that of the copies. Version 1 takes
-/// memory for all copies, with the copies fourth also for the queue, the replies and the notices. After a refusal it is as it was.
+/// Of version 3 no table is read but that of the version. Version 2 takes memory for the rows of all copies, version 1 for all
+/// copies with their messages, with the copies fourth also for the queue, the replies and the notices. After a refusal it is as it
+/// was.
 pub fn open_known<S: Alter>(conn: &mut Connection<S>, layout: Layout) -> Result<bool, Error>
     requires { conn.old.in_transaction ≡ false }
     ensures ended { conn.new.in_transaction ≡ false }
@@ -49,7 +55,8 @@ pub fn open_known<S: Alter>(conn: &mut Connection<S>, layout: Layout) -> Result<
 {
     match layout {
         Layout::Current => open_tables(conn),
-        Layout::CopiesLast => open_old(conn, true),
-        Layout::CopiesFourth => open_old(conn, false),
+        Layout::Second => open_old(conn, Older::Second),
+        Layout::CopiesLast => open_old(conn, Older::CopiesLast),
+        Layout::CopiesFourth => open_old(conn, Older::CopiesFourth),
     }
 }

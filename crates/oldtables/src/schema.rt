@@ -1,13 +1,16 @@
-//! Whether the tables of a database are those of version 1, in either order, and no others.
-ghost use Rattle.std.specs.Prelude.{◌≡◌, ◌↔◌, [], ◌∷◌, IsTrue};
+//! Whether the tables of a database are those of version 2, or of version 1 in either order, and no others.
+ghost use Rattle.std.specs.Prelude.{◌≡◌, ◌⊎◌, ◌↔◌, [], ◌∷◌, IsTrue};
 ghost use Rattle.mailtables.specs.QueueTable.{outgoing as the_outgoing};
 ghost use Rattle.mailtables.specs.ReplyTable.{reply as the_reply};
 ghost use Rattle.mailtables.specs.NoticeTable.{notice as the_notice};
+ghost use Rattle.mailtables.specs.MessageTable.{message as the_message};
+ghost use Rattle.mailtables.specs.Schema.{the_keys, the_indexes};
 ghost use Rattle.oldtables.specs.OldSchema.{old_copy, old_schema, oldest_schema};
+ghost use Rattle.oldtables.specs.SecondSchema.{second_copy, second_tables, IsSecondSchema};
 
 use mailtables::schema::{
-    Parents, are_indexes, is_account, is_meta, is_notice, is_outgoing, is_reply, is_script,
-    is_table, key_of, needed,
+    Parents, are_all, are_indexes, are_keys, is_account, is_message, is_meta, is_notice,
+    is_outgoing, is_reply, is_script, is_table, key_of, needed,
 };
 use sqlite_schema::schema::{Index, Kind, Schema, Table};
 
@@ -105,5 +108,66 @@ pub(crate) fn is_oldest(schema: &Schema) -> bool
 {
     are_oldest_tables(schema.tables.as_slice())
         && are_oldest_keys(schema.indexes.as_slice())
+        && schema.views.is_empty()
+}
+
+/// Whether it is the table of version 2's copies.
+fn is_second_copy(table: &Table) -> bool
+    ensures { IsTrue result ↔ (table.now ≡ second_copy) }
+{
+    let forms = [
+        needed(b"owner", Kind::Blob),
+        needed(b"folder", Kind::Blob),
+        needed(b"n", Kind::Integer),
+        needed(b"id", Kind::Integer),
+    ];
+    let parents = Parents::AccountAndMessage;
+    is_table(table, b"copy", 14, &[1, 2, 3], parents, &forms)
+}
+
+fn are_second_folders(tables: &[Table]) -> bool
+    ensures { IsTrue result ↔ (tables.now ≡ the_message ∷ second_copy ∷ []) }
+{
+    let [message, copy] = tables else {
+        return false;
+    };
+    is_message(message) && is_second_copy(copy)
+}
+
+fn are_second_last(tables: &[Table]) -> bool
+    ensures { IsTrue result ↔ (tables.now ≡ the_outgoing ∷ the_reply ∷ the_notice ∷ the_message ∷ second_copy ∷ []) }
+{
+    let [outgoing, reply, notice, others @ ..] = tables else {
+        return false;
+    };
+    is_outgoing(outgoing, 6)
+        && is_reply(reply, 8)
+        && is_notice(notice, 10)
+        && are_second_folders(others)
+}
+
+fn are_second_tables(tables: &[Table]) -> bool
+    ensures { IsTrue result ↔ (tables.now ≡ second_tables) }
+{
+    let [meta, account, script, others @ ..] = tables else {
+        return false;
+    };
+    is_meta(meta) && is_account(account) && is_script(script) && are_second_last(others)
+}
+
+/// Whether these are the indexes of the tables' keys, with the one of the copies by their messages or without it.
+fn are_second_indexes(indexes: &[Index]) -> bool
+    ensures { IsTrue result ↔ (indexes.now ≡ the_indexes) ⊎ (indexes.now ≡ the_keys) }
+{
+    are_all(indexes) || are_keys(indexes)
+}
+
+/// Whether these are the tables and indexes of version 2, and nothing else. The index of the copies by their messages may be
+/// absent.
+pub(crate) fn is_second(schema: &Schema) -> bool
+    ensures { IsTrue result ↔ IsSecondSchema schema.now }
+{
+    are_second_tables(schema.tables.as_slice())
+        && are_second_indexes(schema.indexes.as_slice())
         && schema.views.is_empty()
 }

@@ -1,13 +1,35 @@
-//! The row of the version, where that is 1.
-ghost use Rattle.std.specs.Prelude.{◌≡◌, false, ◌↔◌, IsTrue};
+//! The row of the version, where that is an earlier one.
+ghost use Rattle.std.specs.Prelude.{◌≡◌, false, ◌↔◌, IfOk, IsTrue};
 ghost use Rattle.sqlite.specs.Held.{state};
-ghost use Rattle.mailtables.specs.MetaTable.{version_key, meta_tree};
+ghost use Rattle.mailtables.specs.MetaTable.{version_key, meta_tree, Says};
 ghost use Rattle.mailtables.specs.Connection.{Asks, Queries, ChangesRows};
 ghost use Rattle.mailtables.specs.Rows.{removed};
-ghost use Rattle.oldtables.specs.OldSchema.{IsOld, IsOldSchema};
+ghost use Rattle.oldtables.specs.Upgrade.{IsOlder, IsOlderSchema, version_of};
 
 use mailtables::{are_version, execute, find_version};
-use sqlite::{Alter, Connection, Error, Transaction, params};
+use sqlite::{Alter, Connection, Error, Row, Transaction, params};
+
+/// The tables of an earlier version.
+#[derive(Clone, Copy)]
+pub(crate) enum Older {
+    /// Those of version 2.
+    Second,
+    /// Those of version 1, with the copies after all others.
+    CopiesLast,
+    /// Those of version 1, with the copies before the queue, the replies and the notices.
+    CopiesFourth,
+}
+
+/// Whether there is one row, and it says the version.
+fn are_older(rows: &[Row], older: Older) -> Result<bool, Error>
+    ensures { IfOk result (λ is. IsTrue is ↔ Says (version_of older) rows.now) }
+{
+    match older {
+        Older::Second => are_version(rows, &2),
+        Older::CopiesLast => are_version(rows, &1),
+        Older::CopiesFourth => are_version(rows, &1),
+    }
+}
 
 /// The rows of the version go, inside a transaction.
 pub(crate) fn remove_version<S: Alter>(tx: &mut Transaction<'_, S>) -> Result<(), Error>
@@ -16,11 +38,14 @@ pub(crate) fn remove_version<S: Alter>(tx: &mut Transaction<'_, S>) -> Result<()
     execute(tx, "DELETE FROM meta WHERE item = ?1", params!["version"])
 }
 
-/// Whether the row of the version is there once, and says 1.
-pub(crate) fn has_old_version<S: Alter>(conn: &mut Connection<S>) -> Result<bool, Error>
+/// Whether the row of the version is there once, and says this one.
+pub(crate) fn has_old_version<S: Alter>(
+    conn: &mut Connection<S>,
+    older: Older,
+) -> Result<bool, Error>
     requires { conn.old.in_transaction ≡ false }
-    ensures { Queries S.Store (Asks IsOldSchema (λ is. IsTrue is ↔ IsOld (state S.Store conn.old).now)) conn.old conn.new result }
+    ensures { Queries S.Store (Asks (IsOlderSchema older) (λ is. IsTrue is ↔ IsOlder older (state S.Store conn.old).now)) conn.old conn.new result }
 {
     let rows = find_version(conn)?;
-    are_version(&rows, &1)
+    are_older(&rows, older)
 }

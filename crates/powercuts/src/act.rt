@@ -1,5 +1,5 @@
 //! What changes the accounts, as events over a store.
-use crate::base::{COPIES_FOURTH, COPIES_LAST, CURRENT};
+use crate::base::{COPIES_FOURTH, COPIES_LAST, CURRENT, SECOND};
 use mailengine::{Envelope, Event, When};
 use octets::Octets;
 use std::alloc::{AllocError, Global};
@@ -49,19 +49,22 @@ pub enum Act {
     TakeMail,
     /// A delivery into two folders, with a redirect and a vacation reply.
     Deliver,
+    /// The opening of a store of version 2.
+    OpenSecond,
     /// The opening of a store of version 1, with the copies last.
     OpenLast,
     /// The same, with the copies fourth.
     OpenFourth,
 }
 
-pub const ACTS: [Act; 8] = [
+pub const ACTS: [Act; 9] = [
     Act::PutScript,
     Act::DeleteScript,
     Act::AddUser,
     Act::TakeOut,
     Act::TakeMail,
     Act::Deliver,
+    Act::OpenSecond,
     Act::OpenLast,
     Act::OpenFourth,
 ];
@@ -75,6 +78,7 @@ impl Act {
             Act::TakeOut => "take_out",
             Act::TakeMail => "take_mail",
             Act::Deliver => "deliver",
+            Act::OpenSecond => "open, version 2",
             Act::OpenLast => "open, copies last",
             Act::OpenFourth => "open, copies fourth",
         }
@@ -83,16 +87,17 @@ impl Act {
     /// The statements that make the store.
     pub fn base(self) -> &'static [&'static str] {
         match self {
+            Act::OpenSecond => &SECOND,
             Act::OpenLast => &COPIES_LAST,
             Act::OpenFourth => &COPIES_FOURTH,
             _ => &CURRENT,
         }
     }
 
-    /// What happens in the store before: two scripts, one of them active, and mail. A store of version 1 is as it was made.
+    /// What happens in the store before: two scripts, one of them active, and mail. A store of an older version is as it was made.
     pub fn earlier(self, alloc: Global) -> Result<Vec<Event>, AllocError> {
         match self {
-            Act::OpenLast | Act::OpenFourth => Ok(Vec::new(alloc)),
+            Act::OpenSecond | Act::OpenLast | Act::OpenFourth => Ok(Vec::new(alloc)),
             _ => earlier(alloc),
         }
     }
@@ -107,7 +112,7 @@ impl Act {
             Act::TakeOut => events.push(row_taken(alloc)?)?,
             Act::TakeMail => events.push(mail_taken(alloc)?)?,
             Act::Deliver => events.push(delivery(alloc, MAIL)?)?,
-            Act::OpenLast | Act::OpenFourth => {}
+            Act::OpenSecond | Act::OpenLast | Act::OpenFourth => {}
         }
         Ok(events)
     }

@@ -15,7 +15,7 @@ pub const ALL: [&str; 8] = [
     "SELECT owner, handle, sender, moment FROM reply",
     "SELECT owner, id, moment, text FROM notice",
     "SELECT owner, id, bytes FROM message",
-    "SELECT owner, folder, n, id FROM copy",
+    "SELECT owner, folder, n, id, flags FROM copy",
 ];
 
 /// The row of the version.

@@ -1,6 +1,7 @@
 -- Reports and listings by example: right ones, and what is near them.
 use Rattle.std.proofs.Common.{◌≡◌, ℕ, List, refl, ap, get_or, [], ◌∷◌, ◌++◌, Some, None, arith}
 use Rattle.std.specs.Prelude.{codes}
+use Rattle.mailflags.specs.declared.placement.Placement.{Placement}
 use Rattle.sievesyntax.specs.Meaning.{Done, Failed}
 use Rattle.sievesyntax.specs.RunState.{TooManyRedirects}
 use Rattle.mailtables.specs.declared.queue.Kind.TheVariants.{Redirect, Reply}
@@ -9,15 +10,18 @@ use Rattle.reportlines.specs.Addresses.{shown_address, shown_octet}
 use Rattle.reportlines.specs.Reports.{delivery_report, report_of}
 use Rattle.reportlines.specs.Listings.{notice_line, notice_listing, queue_line, queue_listing}
 
--- nothing done is told by `discard`, and mailboxes by a line each
+abbrev seen : List ℕ → Placement
+seen mailbox = record { mailbox = mailbox; flags = codes "\\Seen" }
+
+-- nothing done is told by `discard`, and mailboxes by a line each, without flags
 report-nothing : report_of (Done (record { filed = []; sent = []; reply = None })) ≡ codes "discard\n"
 report-nothing = refl
 
-report-two : report_of (Done (record { filed = codes "lists" ∷ codes "INBOX" ∷ []; sent = []; reply = None })) ≡ codes "file lists\nfile INBOX\n"
+report-two : report_of (Done (record { filed = seen (codes "lists") ∷ seen (codes "INBOX") ∷ []; sent = []; reply = None })) ≡ codes "file lists\nfile INBOX\n"
 report-two = refl
 
 -- beside a mailbox there is no `discard`
-report-beside : report_of (Done (record { filed = codes "INBOX" ∷ []; sent = []; reply = None })) ≡ codes "file INBOX\ndiscard\n" → ⊥
+report-beside : report_of (Done (record { filed = seen (codes "INBOX") ∷ []; sent = []; reply = None })) ≡ codes "file INBOX\ndiscard\n" → ⊥
 report-beside e = cc
 
 report-failed : report_of (Failed TooManyRedirects) ≡ codes "failed: more than 16 redirects\n"

@@ -3,6 +3,7 @@ use Rattle.std.specs.Prelude.{ℕ, List, [], ◌∷◌, ◌++◌, codes, decimal
 use Rattle.std.specs.List.{flat_map}
 use Rattle.addrparts.specs.declared.address.Addr.{Addr}
 use Rattle.addrparts.specs.Spelling.{spelling}
+use Rattle.mailflags.specs.declared.placement.Placement.{Placement}
 use Rattle.sievesyntax.specs.Meaning.{Outcome, Done, Failed}
 use Rattle.mailstore.specs.declared.report.Report.{Report}
 use Rattle.mailstore.specs.declared.report.VacationReport.{VacationReport}
@@ -27,8 +28,8 @@ reply_lines true = codes "vacation wanted" ∷ []
 reply_lines false = []
 
 -- the lines on mailboxes, addresses and an answer, in this order
-abbrev pub lines_of : List (List ℕ) → List Addr → Bool → List (List ℕ)
-lines_of filed sent answers = map file_line filed ++ (map (λ target. send_line (spelling target)) sent ++ reply_lines answers)
+abbrev pub lines_of : List Placement → List Addr → Bool → List (List ℕ)
+lines_of filed sent answers = map (λ copy. file_line copy.mailbox) filed ++ (map (λ target. send_line (spelling target)) sent ++ reply_lines answers)
 
 -- the lines on what is done; on a failure one line, which tells of it
 abbrev pub deed_lines : Outcome → List (List ℕ)

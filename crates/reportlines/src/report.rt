@@ -11,6 +11,7 @@ use crate::line::add_line;
 use addrparts::{Addr, spell};
 use deliverplan::failure_text;
 use mailengine::{Failure, Outcome};
+use mailflags::Placement;
 use octets::Octets;
 use sievelex::ScriptFault;
 use std::alloc::{AllocError, Global};
@@ -34,7 +35,7 @@ pub fn of_outcome(alloc: Global, outcome: &Outcome) -> Result<Octets, AllocError
 /// The lines of what is done, or `discard`.
 fn of_deeds(
     alloc: Global,
-    filed: &[Octets],
+    filed: &[Placement],
     sent: &[Addr],
     answers: bool,
 ) -> Result<Octets, AllocError>
@@ -50,7 +51,7 @@ fn of_deeds(
 /// The lines of what is done.
 fn of_lines(
     alloc: Global,
-    filed: &[Octets],
+    filed: &[Placement],
     sent: &[Addr],
     answers: bool,
 ) -> Result<Octets, AllocError>
@@ -74,11 +75,11 @@ fn add_answer(text: &mut Octets, answers: bool) -> Result<(), AllocError>
 }
 
 /// Appends a line for each mailbox.
-fn add_mailboxes(text: &mut Octets, filed: &[Octets]) -> Result<(), AllocError>
-    ensures { OnOk result (text.new ≡ text.old ++ flat_map with_end (map file_line filed.now)) }
+fn add_mailboxes(text: &mut Octets, filed: &[Placement]) -> Result<(), AllocError>
+    ensures { OnOk result (text.new ≡ text.old ++ flat_map with_end (map (λ copy. file_line copy.mailbox) filed.now)) }
 {
-    for mailbox in filed {
-        add_line(text, b"file ", mailbox.as_slice())?;
+    for copy in filed {
+        add_line(text, b"file ", copy.mailbox.as_slice())?;
     }
     Ok(())
 }

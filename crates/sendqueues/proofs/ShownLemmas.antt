@@ -18,7 +18,7 @@ use Rattle.sendwaits.specs.declared.waits.Waits.{Waits}
 
 -- tables of ours are tables that `open` takes
 presented : (db : Database) (accounts : Accounts) → Presents db accounts → Offers db accounts
-presented db accounts shown = inl (shown.0, inl shown.1, shown.2)
+presented db accounts shown = inl shown
 
 module _ {S : Type 0} (g : Ghosts S) (tells : Bool) {K : Type 0} (holds : K → Database) where
   abbrev Still : Option (Held S) → K → Option (Held S) → K → Type 0

@@ -107,7 +107,7 @@ later_line : spelled try_later ≡ end (codes "NO (TRYLATER) \"Try later.\"")
 later_line = refl
 
 greeting : spelled (capabilities None)
-    ≡ end (codes "\"IMPLEMENTATION\" \"sieved 1\"") ++ end (codes "\"SASL\" \"PLAIN\"") ++ end (codes "\"SIEVE\" \"fileinto envelope vacation copy vacation-seconds subaddress relational comparator-i;ascii-numeric encoded-character mailbox date\"")
+    ≡ end (codes "\"IMPLEMENTATION\" \"sieved 1\"") ++ end (codes "\"SASL\" \"PLAIN\"") ++ end (codes "\"SIEVE\" \"fileinto envelope vacation copy vacation-seconds subaddress relational comparator-i;ascii-numeric encoded-character mailbox date imap4flags\"")
     ++ end (codes "\"MAXREDIRECTS\" \"16\"") ++ end (codes "\"UNAUTHENTICATE\"") ++ end (codes "\"VERSION\" \"1.0\"") ++ end (codes "OK")
 greeting = refl
 

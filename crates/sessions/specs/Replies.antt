@@ -67,7 +67,7 @@ abbrev pub capability_lines : Option (List ℕ) → List Line
 capability_lines user =
     line.Capability (codes "IMPLEMENTATION") (Some (codes "sieved 1"))
     ∷ line.Capability (codes "SASL") (Some (codes "PLAIN"))
-    ∷ line.Capability (codes "SIEVE") (Some (codes "fileinto envelope vacation copy vacation-seconds subaddress relational comparator-i;ascii-numeric encoded-character mailbox date"))
+    ∷ line.Capability (codes "SIEVE") (Some (codes "fileinto envelope vacation copy vacation-seconds subaddress relational comparator-i;ascii-numeric encoded-character mailbox date imap4flags"))
     ∷ line.Capability (codes "MAXREDIRECTS") (Some (codes "16"))
     ∷ line.Capability (codes "UNAUTHENTICATE") None
     ∷ line.Capability (codes "VERSION") (Some (codes "1.0"))

@@ -91,7 +91,7 @@ pub fn capabilities(alloc: Global, user: &Option<Octets>) -> Result<Reply, Alloc
         &mut lines,
         b"SIEVE",
         Some(
-            b"fileinto envelope vacation copy vacation-seconds subaddress relational comparator-i;ascii-numeric encoded-character mailbox date",
+            b"fileinto envelope vacation copy vacation-seconds subaddress relational comparator-i;ascii-numeric encoded-character mailbox date imap4flags",
         ),
     )?;
     add_capability(alloc, &mut lines, b"MAXREDIRECTS", Some(b"16"))?;

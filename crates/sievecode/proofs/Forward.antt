@@ -95,10 +95,10 @@ something_at back k instr rest e =
     slice_get-map (forward (length back)) back k ∙ ap (option_map (forward (length back))) (at_drop back k instr rest e).0
 
 -- what comes next does what the code does that is left there
-abbrev Goes : (Check → Bool) → List Instruction → ℕ → Run → Type 0
+abbrev Goes : (RunState → Check → Bool) → List Instruction → ℕ → Run → Type 0
 Goes truth back n next = (place : ℕ) (flag : Bool) (so_far : RunState) → length back ≤ place + n → next place flag so_far ≡ Some (run truth zero (drop place back) flag so_far)
 
-module _ (truth : Check → Bool) (back : List Instruction) (n : ℕ) (next : Run) (place : ℕ) (rest : List Instruction) (enough : length back ≤ place + suc n) (left : length back ≡ place + suc (length rest)) (after : drop (suc place) back ≡ rest) where
+module _ (truth : RunState → Check → Bool) (back : List Instruction) (n : ℕ) (next : Run) (place : ℕ) (rest : List Instruction) (enough : length back ≤ place + suc n) (left : length back ≡ place + suc (length rest)) (after : drop (suc place) back ≡ rest) where
   goes_next : Goes truth back n next → (flag : Bool) (so_far : RunState) → next (place + 1) flag so_far ≡ Some (run truth zero rest flag so_far)
   goes_next goes flag so_far =
       goes (place + 1) flag so_far (omega arith) ∙ ap (λ k. Some (run truth zero (drop k back) flag so_far)) (add-one place) ∙ ap (λ code. Some (run truth zero code flag so_far)) after
@@ -114,7 +114,7 @@ module _ (truth : Check → Bool) (back : List Instruction) (n : ℕ) (next : Ru
   -- one turn
   turn_goes : Goes truth back n next → (instr : Instruction) → IsWithin (length rest) instr → (flag : Bool) (so_far : RunState) → turn truth next (forward (length back) instr) place flag so_far ≡ Some (run truth zero (instr ∷ rest) flag so_far)
   turn_goes goes (set value) within flag so_far = goes_next goes value so_far
-  turn_goes goes (look check) within flag so_far = goes_next goes (truth check) so_far
+  turn_goes goes (look check) within flag so_far = goes_next goes (truth so_far check) so_far
   turn_goes goes flip within flag so_far = goes_next goes (not flag) so_far
   turn_goes goes (jump until) within flag so_far = goes_on goes until flag so_far within
   turn_goes goes (jump_if until) within true so_far = goes_on goes until true so_far within
@@ -130,7 +130,7 @@ module _ (truth : Check → Bool) (back : List Instruction) (n : ℕ) (next : Ru
   turn_goes goes I.stop within flag so_far = refl
 
 -- from each place it does what the code does that is left there
-follows : (truth : Check → Bool) (back : List Instruction) → AreWithin back → (n place : ℕ) (flag : Bool) (so_far : RunState) (rest : List Instruction) → drop place back ≡ rest → length back ≤ place + n → jumps_from truth (turned back) n place flag so_far ≡ Some (run truth zero rest flag so_far)
+follows : (truth : RunState → Check → Bool) (back : List Instruction) → AreWithin back → (n place : ℕ) (flag : Bool) (so_far : RunState) (rest : List Instruction) → drop place back ≡ rest → length back ≤ place + n → jumps_from truth (turned back) n place flag so_far ≡ Some (run truth zero rest flag so_far)
 follows truth back within zero place flag so_far [] e enough =
     ap (λ o. at_place o (λ instr. None) so_far) (nothing_at back place e)
 follows truth back within zero place flag so_far (instr ∷ rest) e enough =

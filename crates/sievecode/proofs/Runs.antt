@@ -10,11 +10,11 @@ use Rattle.sievecode.specs.Instructions as I
 use Rattle.sievecode.specs.Layout.{test_code, all_code, any_code, command_code, branches_code, commands_code}
 
 -- what code does after it has passed over that many instructions
-abbrev pub run : (Check → Bool) → ℕ → List Instruction → Bool → RunState → Flow
+abbrev pub run : (RunState → Check → Bool) → ℕ → List Instruction → Bool → RunState → Flow
 run truth k [] flag so_far = Going so_far
 run truth (suc k) (instr ∷ code) flag so_far = run truth k code flag so_far
 run truth zero (set value ∷ code) flag so_far = run truth zero code value so_far
-run truth zero (look check ∷ code) flag so_far = run truth zero code (truth check) so_far
+run truth zero (look check ∷ code) flag so_far = run truth zero code (truth so_far check) so_far
 run truth zero (flip ∷ code) flag so_far = run truth zero code (not flag) so_far
 run truth zero (jump left ∷ code) flag so_far = run truth (length code - left) code flag so_far
 run truth zero (jump_if left ∷ code) flag so_far = run truth (cond flag (length code - left) zero) code flag so_far
@@ -22,7 +22,7 @@ run truth zero (jump_unless left ∷ code) flag so_far = run truth (cond flag ze
 run truth zero (I.act action ∷ code) flag so_far = and_then (performed action so_far) (run truth zero code flag)
 run truth zero (I.stop ∷ code) flag so_far = Stopped so_far
 
-pub past : (truth : Check → Bool) (k : ℕ) (code : List Instruction) (flag : Bool) (so_far : RunState) → run truth k code flag so_far ≡ run truth zero (drop k code) flag so_far
+pub past : (truth : RunState → Check → Bool) (k : ℕ) (code : List Instruction) (flag : Bool) (so_far : RunState) → run truth k code flag so_far ≡ run truth zero (drop k code) flag so_far
 past truth zero code flag so_far = refl
 past truth (suc k) [] flag so_far = refl
 past truth (suc k) (instr ∷ code) flag so_far = past truth k code flag so_far
@@ -44,7 +44,7 @@ ends_through code middle rest a b = record { front = a.front ++ b.front; is = a.
 pub ends_length : (code rest : List Instruction) → Ends code rest → length rest ≤ length code
 ends_length code rest e = omega (arith, ap length e.is, length-append e.front rest)
 
-skips : (truth : Check → Bool) (code rest : List Instruction) → Ends code rest → (flag : Bool) (so_far : RunState) → run truth (length code - length rest) code flag so_far ≡ run truth zero rest flag so_far
+skips : (truth : RunState → Check → Bool) (code rest : List Instruction) → Ends code rest → (flag : Bool) (so_far : RunState) → run truth (length code - length rest) code flag so_far ≡ run truth zero rest flag so_far
 skips truth code rest e flag so_far =
     let n = length code - length rest in
     let front : length e.front ≡ n = omega (arith, ap length e.is, length-append e.front rest) in
@@ -95,7 +95,7 @@ mutual
 
 -- the code of a test sets the flag to whether the test holds
 mutual
-  pub test_runs : (truth : Check → Bool) (tree : TestTree) (rest : List Instruction) (flag : Bool) (so_far : RunState) → run truth zero (test_code tree rest) flag so_far ≡ run truth zero rest (holds truth tree) so_far
+  pub test_runs : (truth : RunState → Check → Bool) (tree : TestTree) (rest : List Instruction) (flag : Bool) (so_far : RunState) → run truth zero (test_code tree rest) flag so_far ≡ run truth zero rest (holds (truth so_far) tree) so_far
   test_runs truth yes rest flag so_far = refl
   test_runs truth no rest flag so_far = refl
   test_runs truth (looks check) rest flag so_far = refl
@@ -103,60 +103,60 @@ mutual
   test_runs truth (all_of inner) rest flag so_far = all_runs truth inner rest flag so_far
   test_runs truth (any_of inner) rest flag so_far = any_runs truth inner rest flag so_far
 
-  all_runs : (truth : Check → Bool) (tests : Tests) (rest : List Instruction) (flag : Bool) (so_far : RunState) → run truth zero (all_code tests (length rest) (set true ∷ rest)) flag so_far ≡ run truth zero rest (all_hold truth tests) so_far
+  all_runs : (truth : RunState → Check → Bool) (tests : Tests) (rest : List Instruction) (flag : Bool) (so_far : RunState) → run truth zero (all_code tests (length rest) (set true ∷ rest)) flag so_far ≡ run truth zero rest (all_hold (truth so_far) tests) so_far
   all_runs truth no_tests rest flag so_far = refl
   all_runs truth (test first more) rest flag so_far =
       let after = all_code more (length rest) (set true ∷ rest) in
       let ends = ends_through after (set true ∷ rest) rest (all_ends more (length rest) (set true ∷ rest)) (ends_more (set true) rest rest (ends_here rest)) in
       test_runs truth first (jump_unless (length rest) ∷ after) flag so_far
-      ∙ (elim (holds truth first) as (λ first. run truth (cond first zero (length after - length rest)) after first so_far ≡ run truth zero rest (first && all_hold truth more) so_far) [
+      ∙ (elim (holds (truth so_far) first) as (λ first. run truth (cond first zero (length after - length rest)) after first so_far ≡ run truth zero rest (first && all_hold (truth so_far) more) so_far) [
         | true ↦ all_runs truth more rest true so_far
         | false ↦ skips truth after rest ends false so_far
       ])
 
-  any_runs : (truth : Check → Bool) (tests : Tests) (rest : List Instruction) (flag : Bool) (so_far : RunState) → run truth zero (any_code tests (length rest) (set false ∷ rest)) flag so_far ≡ run truth zero rest (some_holds truth tests) so_far
+  any_runs : (truth : RunState → Check → Bool) (tests : Tests) (rest : List Instruction) (flag : Bool) (so_far : RunState) → run truth zero (any_code tests (length rest) (set false ∷ rest)) flag so_far ≡ run truth zero rest (some_holds (truth so_far) tests) so_far
   any_runs truth no_tests rest flag so_far = refl
   any_runs truth (test first more) rest flag so_far =
       let after = any_code more (length rest) (set false ∷ rest) in
       let ends = ends_through after (set false ∷ rest) rest (any_ends more (length rest) (set false ∷ rest)) (ends_more (set false) rest rest (ends_here rest)) in
       test_runs truth first (jump_if (length rest) ∷ after) flag so_far
-      ∙ (elim (holds truth first) as (λ first. run truth (cond first (length after - length rest) zero) after first so_far ≡ run truth zero rest (first || some_holds truth more) so_far) [
+      ∙ (elim (holds (truth so_far) first) as (λ first. run truth (cond first (length after - length rest) zero) after first so_far ≡ run truth zero rest (first || some_holds (truth so_far) more) so_far) [
         | true ↦ skips truth after rest ends true so_far
         | false ↦ any_runs truth more rest false so_far
       ])
 
 -- what is run after code that has this effect, with some flag
-abbrev Comes : (Check → Bool) → List Instruction → Flow → Flow → Type 0
+abbrev Comes : (RunState → Check → Bool) → List Instruction → Flow → Flow → Type 0
 Comes truth rest effect whole = (flag : Bool) × (whole ≡ and_then effect (run truth zero rest flag))
 
 -- one effect after another
-comes_on : (truth : Check → Bool) (middle rest : List Instruction) (effect : Flow) (next : RunState → Flow) (whole : Flow) → Comes truth middle effect whole → ((flag : Bool) (so_far : RunState) → Comes truth rest (next so_far) (run truth zero middle flag so_far)) → Comes truth rest (and_then effect next) whole
+comes_on : (truth : RunState → Check → Bool) (middle rest : List Instruction) (effect : Flow) (next : RunState → Flow) (whole : Flow) → Comes truth middle effect whole → ((flag : Bool) (so_far : RunState) → Comes truth rest (next so_far) (run truth zero middle flag so_far)) → Comes truth rest (and_then effect next) whole
 comes_on truth middle rest (Going so_far) next whole a b = let c = b a.0 so_far in (c.0, a.1 ∙ c.1)
 comes_on truth middle rest (Stopped so_far) next whole a b = (false, a.1)
 comes_on truth middle rest (Failed failure) next whole a b = (false, a.1)
 
 -- code that goes on elsewhere
-comes_to : (truth : Check → Bool) (middle rest : List Instruction) (effect whole : Flow) → ((flag : Bool) (so_far : RunState) → run truth zero middle flag so_far ≡ run truth zero rest flag so_far) → Comes truth middle effect whole → Comes truth rest effect whole
+comes_to : (truth : RunState → Check → Bool) (middle rest : List Instruction) (effect whole : Flow) → ((flag : Bool) (so_far : RunState) → run truth zero middle flag so_far ≡ run truth zero rest flag so_far) → Comes truth middle effect whole → Comes truth rest effect whole
 comes_to truth middle rest (Going so_far) whole same a = (a.0, a.1 ∙ same a.0 so_far)
 comes_to truth middle rest (Stopped so_far) whole same a = (false, a.1)
 comes_to truth middle rest (Failed failure) whole same a = (false, a.1)
 
 -- the code of commands does what they do
 mutual
-  pub command_runs : (truth : Check → Bool) (tree : CommandTree) (rest : List Instruction) (flag : Bool) (so_far : RunState) → Comes truth rest (does truth tree so_far) (run truth zero (command_code tree rest) flag so_far)
+  pub command_runs : (truth : RunState → Check → Bool) (tree : CommandTree) (rest : List Instruction) (flag : Bool) (so_far : RunState) → Comes truth rest (does truth tree so_far) (run truth zero (command_code tree rest) flag so_far)
   command_runs truth (require names) rest flag so_far = (flag, refl)
   command_runs truth (choose branches) rest flag so_far = branches_run truth branches rest flag so_far
   command_runs truth stop rest flag so_far = (flag, refl)
   command_runs truth (act action) rest flag so_far = (flag, refl)
 
-  branches_run : (truth : Check → Bool) (branches : Branches) (rest : List Instruction) (flag : Bool) (so_far : RunState) → Comes truth rest (chooses truth branches so_far) (run truth zero (branches_code branches (length rest) rest) flag so_far)
+  branches_run : (truth : RunState → Check → Bool) (branches : Branches) (rest : List Instruction) (flag : Bool) (so_far : RunState) → Comes truth rest (chooses truth branches so_far) (run truth zero (branches_code branches (length rest) rest) flag so_far)
   branches_run truth no_branches rest flag so_far = (flag, refl)
   branches_run truth (branch condition block more) rest flag so_far =
       let after = branches_code more (length rest) rest in
       let blocked = commands_code block (jump (length rest) ∷ after) in
       let tested = test_runs truth condition (jump_unless (length after) ∷ blocked) flag so_far in
-      let chosen : Comes truth rest (chooses truth (branch condition block more) so_far) (run truth zero (jump_unless (length after) ∷ blocked) (holds truth condition) so_far) =
-      elim (holds truth condition) as (λ first. Comes truth rest (cond first (does_all truth block so_far) (chooses truth more so_far)) (run truth (cond first zero (length blocked - length after)) blocked first so_far)) [
+      let chosen : Comes truth rest (chooses truth (branch condition block more) so_far) (run truth zero (jump_unless (length after) ∷ blocked) (holds (truth so_far) condition) so_far) =
+      elim (holds (truth so_far) condition) as (λ first. Comes truth rest (cond first (does_all truth block so_far) (chooses truth more so_far)) (run truth (cond first zero (length blocked - length after)) blocked first so_far)) [
         | true ↦ comes_to truth (jump (length rest) ∷ after) rest (does_all truth block so_far) _ (λ flag so_far. skips truth after rest (branches_ends more (length rest) rest) flag so_far) (commands_run truth block (jump (length rest) ∷ after) true so_far)
         | false ↦
             let skipped = skips truth blocked after (ends_through blocked (jump (length rest) ∷ after) after (commands_ends block (jump (length rest) ∷ after)) (ends_more (jump (length rest)) after after (ends_here after))) false so_far in
@@ -165,13 +165,13 @@ mutual
       ] in
       (chosen.0, tested ∙ chosen.1)
 
-  pub commands_run : (truth : Check → Bool) (commands : Commands) (rest : List Instruction) (flag : Bool) (so_far : RunState) → Comes truth rest (does_all truth commands so_far) (run truth zero (commands_code commands rest) flag so_far)
+  pub commands_run : (truth : RunState → Check → Bool) (commands : Commands) (rest : List Instruction) (flag : Bool) (so_far : RunState) → Comes truth rest (does_all truth commands so_far) (run truth zero (commands_code commands rest) flag so_far)
   commands_run truth no_commands rest flag so_far = (flag, refl)
   commands_run truth (command first more) rest flag so_far =
       comes_on truth (commands_code more rest) rest (does truth first so_far) (does_all truth more) _ (command_runs truth first (commands_code more rest) flag so_far) (λ flag so_far. commands_run truth more rest flag so_far)
 
 -- a whole script
-pub whole_runs : (truth : Check → Bool) (commands : Commands) (so_far : RunState) → run truth zero (commands_code commands []) false so_far ≡ does_all truth commands so_far
+pub whole_runs : (truth : RunState → Check → Bool) (commands : Commands) (so_far : RunState) → run truth zero (commands_code commands []) false so_far ≡ does_all truth commands so_far
 whole_runs truth commands so_far = let run = commands_run truth commands [] false so_far in run.1 ∙ nothing_more (does_all truth commands so_far)
   where
     nothing_more : (flow : Flow) → and_then flow Going ≡ flow

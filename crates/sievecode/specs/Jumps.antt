@@ -1,4 +1,4 @@
--- What flat code does, over any truth of the tests that look at the message.
+-- What flat code does, over any truth of the tests that look at the message or at what the run has done.
 use Rattle.std.specs.Prelude.{◌≡◌, ℕ, zero, suc, ◌+◌, ◌<◌, ◌≤◌, Bool, false, not, cond, List, length, Option, Some, None, slice_get}
 use Rattle.sievesyntax.specs.declared.tree.checks.Check.{Check}
 use Rattle.sievesyntax.specs.RunState.{RunState, at_first, Flow, Going, Stopped, Failed, performed}
@@ -17,9 +17,9 @@ after_action (Stopped so_far) next = Some (Stopped so_far)
 after_action (Failed failure) next = Some (Failed failure)
 
 -- one turn, and then the run that is next
-abbrev pub turn : (Check → Bool) → Run → Instruction → Run
+abbrev pub turn : (RunState → Check → Bool) → Run → Instruction → Run
 turn truth next (set value) place flag so_far = next (place + 1) value so_far
-turn truth next (look check) place flag so_far = next (place + 1) (truth check) so_far
+turn truth next (look check) place flag so_far = next (place + 1) (truth so_far check) so_far
 turn truth next flip place flag so_far = next (place + 1) (not flag) so_far
 turn truth next (jump target) place flag so_far = next target flag so_far
 turn truth next (jump_if target) place flag so_far = next (cond flag target (place + 1)) flag so_far
@@ -33,7 +33,7 @@ at_place None go so_far = Some (Going so_far)
 at_place (Some instr) go so_far = go instr
 
 -- what flat code gives from a place on in at most n turns, or none where it is still going
-abbrev pub jumps_from : (Check → Bool) → List Instruction → ℕ → Run
+abbrev pub jumps_from : (RunState → Check → Bool) → List Instruction → ℕ → Run
 jumps_from truth code zero place flag so_far = at_place (slice_get code place) (λ instr. None) so_far
 jumps_from truth code (suc n) place flag so_far = at_place (slice_get code place) (λ instr. turn truth (jumps_from truth code n) instr place flag so_far) so_far
 
@@ -43,12 +43,12 @@ outcome_of None = None
 outcome_of (Some flow) = Some (ended flow)
 
 -- what flat code gives in at most n turns, or none where it is still going
-abbrev pub jumps : (Check → Bool) → List Instruction → ℕ → Option Outcome
+abbrev pub jumps : (RunState → Check → Bool) → List Instruction → ℕ → Option Outcome
 jumps truth code n = outcome_of (jumps_from truth code n 0 false at_first)
 
 -- the code does what the tree does, in no more turns than the code is long, whichever tests hold
 abbrev pub IsCodeOf : List Instruction → Commands → Type 0
-IsCodeOf code tree = (truth : Check → Bool) → jumps truth code (length code) ≡ Some (outcome truth tree)
+IsCodeOf code tree = (truth : RunState → Check → Bool) → jumps truth code (length code) ≡ Some (outcome truth tree)
 
 -- a jump from this place leads past it, and at most to the end of code of this length
 abbrev pub LeadsForward : ℕ → ℕ → Instruction → Type 0

@@ -2,7 +2,7 @@
 //! (RFC 5228, 2.10, 3 and 5).
 //!
 //! [`compile`] makes it of a checked script. Its contract says what it means, for every truth of the tests that
-//! look at the message: so nothing here needs a message.
+//! look at the message or at what the run has done: so nothing here needs a message.
 #![tactic(auto)]
 
 mod code;

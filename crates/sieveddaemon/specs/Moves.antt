@@ -28,7 +28,7 @@ pub record LetAt (others : List Event) (w next : World) : Type 0 where
 -- behind others' events the message is the first of its folder, and the event that takes the first out was answered so
 pub record TakenAt (others : List Event) (mail : KeptMail) (answer : Answer) (w next : World) : Type 0 where
   pub done : DoneAt others (TakeMail mail.user mail.folder) answer w next
-  pub first : IsFirst done.between.accounts mail.user mail.folder mail.message
+  pub first : IsFirst done.between.accounts mail.user mail.folder mail.message mail.flags
 
 -- what became of a message leads from a world to another
 abbrev pub MovedAt : List Event → Moving → World → World → Type 0

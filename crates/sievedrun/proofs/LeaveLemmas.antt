@@ -142,16 +142,16 @@ module _ (user folder : List ℕ) where
 
   -- a message was told as the first of the folder, and it is the first of the mail
   module _ (tells : Bool) (old new : List KeptMail) (mail : List (List ℕ)) (first : NumberedMessage) (more : List (List ℕ)) (is : mail ≡ first.message ∷ more) (told_first : IsFirst user folder first) where
-    one_is_first : AreFirsts user folder (kept_mail user folder first.number first.message ∷ []) (take 1 mail)
-    one_is_first = subst (λ l. AreFirsts user folder (kept_mail user folder first.number first.message ∷ []) (take 1 l)) (sym is) (first, told_first, refl, refl, tt)
+    one_is_first : AreFirsts user folder (kept_mail user folder first.number first.message first.flags ∷ []) (take 1 mail)
+    one_is_first = subst (λ l. AreFirsts user folder (kept_mail user folder first.number first.message first.flags ∷ []) (take 1 l)) (sym is) (first, told_first, refl, refl, tt)
 
-    pub one_kept : (IsTrue tells → new ≡ old ++ kept_mail user folder first.number first.message ∷ []) → GrowsBy user folder tells old new (take 1 mail)
-    one_kept kept told = (kept_mail user folder first.number first.message ∷ [], kept told, one_is_first)
+    pub one_kept : (IsTrue tells → new ≡ old ++ kept_mail user folder first.number first.message first.flags ∷ []) → GrowsBy user folder tells old new (take 1 mail)
+    one_kept kept told = (kept_mail user folder first.number first.message first.flags ∷ [], kept told, one_is_first)
 
     -- it may be kept
-    pub may_be_kept : (IsTrue tells → MayKeep old (kept_mail user folder first.number first.message) new) → GrowsBy user folder tells old new (take 0 mail) ⊎ GrowsBy user folder tells old new (take 1 mail)
+    pub may_be_kept : (IsTrue tells → MayKeep old (kept_mail user folder first.number first.message first.flags) new) → GrowsBy user folder tells old new (take 0 mail) ⊎ GrowsBy user folder tells old new (take 1 mail)
     may_be_kept may = by tells may
       where
-        by : (tells : Bool) → (IsTrue tells → MayKeep old (kept_mail user folder first.number first.message) new) → GrowsBy user folder tells old new (take 0 mail) ⊎ GrowsBy user folder tells old new (take 1 mail)
-        by true may = elim (may refl) [ inl same ↦ inl (λ told. ([], same ∙ sym (append-nil old), tt)) | inr one ↦ inr (λ told. (kept_mail user folder first.number first.message ∷ [], one, one_is_first)) ]
+        by : (tells : Bool) → (IsTrue tells → MayKeep old (kept_mail user folder first.number first.message first.flags) new) → GrowsBy user folder tells old new (take 0 mail) ⊎ GrowsBy user folder tells old new (take 1 mail)
+        by true may = elim (may refl) [ inl same ↦ inl (λ told. ([], same ∙ sym (append-nil old), tt)) | inr one ↦ inr (λ told. (kept_mail user folder first.number first.message first.flags ∷ [], one, one_is_first)) ]
         by false may = inl (λ told. absurd (let no = told in cc))

@@ -14,7 +14,7 @@ use Rattle.mailstore.specs.declared.profile.Profile.{Profile}
 use Rattle.mailstore.specs.declared.taking.NumberedMessage.{NumberedMessage}
 use Rattle.mailstore.specs.Account.{Account, Accounts, open_of, with_user, messages_in, takes_mail}
 use Rattle.mailstore.specs.AccountRows.{profile_of}
-use Rattle.mailstore.specs.CopyRows.{HasFirst}
+use Rattle.mailstore.specs.CopyRows.{HasFirst, IsFirstIn}
 use Rattle.mailstore.specs.Promises.{HasOurTables, HasUser, HasOpen, HasNoOpen, OfOpen, Keeps, CrashLeavesAccounts, Reads, ReadsOwn, WritesAccount}
 use Rattle.mailstore.specs.Refusals.{IsTransient}
 use Rattle.mailstore.specs.Shows.{IsFirstOf, rows_of}
@@ -37,7 +37,7 @@ module _ (user folder : List ℕ) (tells : Bool) (had has : List KeptMail) where
   Grew = GrowsBy user folder tells had has
 
   abbrev First : Option NumberedMessage → Account → Type 0
-  First first account = HasFirst first (messages_in account.folders folder)
+  First = IsFirstIn folder
 
   -- only reads
   pub read_alone : {X E : Type 0} (a b : State) (r : Result X E) (answers_ok : Bool) (Became : Accounts → Accounts → Type 0) → Keeps a b r → (IsTrue answers_ok → HasCleanDisk b → IsTrue b.is_open)
@@ -73,7 +73,7 @@ module _ (user folder : List ℕ) (tells : Bool) (had has : List KeptMail) where
     none_read is same = read_alone a b r true (FirstMoved user folder Grew (Ok false)) reads.keeps (λ told clean. subst (λ q. OnOk q (IsTrue b.is_open)) was (reads.keeps.live clean))
         (λ clean accounts shown.
         let own = found clean accounts shown in
-        let none : mail_in accounts user folder ≡ [] = own_mail accounts own.0 own.1 ∙ none_first (messages_in own.0.folders folder) (subst (λ f. First f own.0) is own.2) in
+        let none : mail_in accounts user folder ≡ [] = own_mail accounts own.0 own.1 ∙ none_first (messages_in own.0.folders folder) (subst (λ f. First f own.0) is own.2).message in
         (record { left = refl; kept = same }, none))
 
     module _ (message : NumberedMessage) (is : first ≡ Some message) (numbered : ReadsOwn user (IsFirstOf user folder) a b r) where
@@ -85,16 +85,16 @@ module _ (user folder : List ℕ) (tells : Bool) (had has : List KeptMail) where
       is_first : HasCleanDisk b → (accounts : Accounts) → HasAccounts a accounts → (more : List (List ℕ)) × (mail_in accounts user folder ≡ message.message ∷ more)
       is_first clean accounts shown =
           let own = found clean accounts shown in
-          (drop 1 (messages_in own.0.folders folder), own_mail accounts own.0 own.1 ∙ some_first (messages_in own.0.folders folder) message (subst (λ f. First f own.0) is own.2))
+          (drop 1 (messages_in own.0.folders folder), own_mail accounts own.0 own.1 ∙ some_first (messages_in own.0.folders folder) message (subst (λ f. First f own.0) is own.2).message)
 
       -- the sink refused it
-      pub not_kept : (fault : Fault) → (IsTrue tells → MayKeep had (kept_mail user folder message.number message.message) has) → MovesMail user folder Grew false (FirstMoved user folder Grew (Err fault)) a b
+      pub not_kept : (fault : Fault) → (IsTrue tells → MayKeep had (kept_mail user folder message.number message.message message.flags) has) → MovesMail user folder Grew false (FirstMoved user folder Grew (Err fault)) a b
       not_kept fault may = read_alone a b r false (FirstMoved user folder Grew (Err fault)) reads.keeps (λ told. absurd (false≢true told))
           (λ clean accounts shown.
           let mail = is_first clean accounts shown in
           record { left = refl; kept = may_be_kept user folder tells had has (mail_in accounts user folder) message mail.0 mail.1 (told_first clean accounts shown) may })
 
-      module _ (c : State) (q : Result (Unit {0}) Refusal) (writes : WritesAccount user (takes_mail folder 1) b c q) (acts : ActsMailTaking user folder a c q) (kept : IsTrue tells → has ≡ had ++ kept_mail user folder message.number message.message ∷ []) where
+      module _ (c : State) (q : Result (Unit {0}) Refusal) (writes : WritesAccount user (takes_mail folder 1) b c q) (acts : ActsMailTaking user folder a c q) (kept : IsTrue tells → has ≡ had ++ kept_mail user folder message.number message.message message.flags ∷ []) where
         before : HasCleanDisk c → HasCleanDisk b
         before = clean_before b c (CrashLeavesAccounts (HasUser user) (λ all. with_user all user (takes_mail folder 1)) b) writes.crash
 

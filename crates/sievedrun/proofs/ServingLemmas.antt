@@ -67,7 +67,7 @@ closed_as gives waits closes location Told Now so (given, (keeper, store, came, 
 -- once it is given back it is offered
 pub offers_seen : {X : Type 0} (Given : Type 0) (sees : X → Database) (held new : Database) (store : Option X) → new ≡ database_seen sees held store → (accounts : Accounts) → AreSeen Given sees held store accounts → Offers new accounts
 offers_seen Given sees held new None is accounts shown = subst (λ db. Offers db accounts) (sym is) shown
-offers_seen Given sees held new (Some store) is accounts (got, shown) = subst (λ db. Offers db accounts) (sym is) (inl (shown.0, inl shown.1, shown.2))
+offers_seen Given sees held new (Some store) is accounts (got, shown) = subst (λ db. Offers db accounts) (sym is) (inl shown)
 
 -- ---- why what comes first can't be answered
 

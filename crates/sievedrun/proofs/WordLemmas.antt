@@ -8,7 +8,7 @@ use Rattle.sqlite_schema.specs.declared.schema.Schema.{Schema}
 use Rattle.sqlite.specs.Effect.{Database}
 use Rattle.sqlite.specs.State.{State, HasCleanDisk}
 use Rattle.mailstore.specs.Account.{Account, Accounts, is_closed, open_of, has_mail, no_accounts, messages_in, row_with}
-use Rattle.mailstore.specs.Schema.{no_schema, IsOurSchema}
+use Rattle.mailstore.specs.Schema.{no_schema}
 use Rattle.mailstore.specs.OldSchema.{IsOldSchema}
 use Rattle.mailstore.specs.Opening.{IsKnown}
 use Rattle.mailstore.specs.Shows.{Presents, Offers, OpensAs}
@@ -113,12 +113,12 @@ sudden_hinders Broken Wrong Denied fault sudden = elim sudden [ inl e ↦ inl e 
 
 -- our tables are some tables
 pub ours_not_none : (db : Database) → IsKnown db → db.schema ≡ no_schema → ⊥
-ours_not_none db (inl ours) none = new ours.schema
-  where
-    new : IsOurSchema db.schema → ⊥
-    new (inl is) = let e = ap (λ (s : Schema). s.tables) (sym is ∙ none) in cc
-    new (inr is) = let e = ap (λ (s : Schema). s.tables) (sym is ∙ none) in cc
-ours_not_none db (inr old) none = older old.schema
+ours_not_none db (inl ours) none = let e = ap (λ (s : Schema). s.tables) (sym ours.schema ∙ none) in cc
+ours_not_none db (inr (inl second)) none = elim second.schema as (λ _. ⊥) [
+  | inl is ↦ let e = ap (λ (s : Schema). s.tables) (sym is ∙ none) in cc
+  | inr is ↦ let e = ap (λ (s : Schema). s.tables) (sym is ∙ none) in cc
+]
+ours_not_none db (inr (inr old)) none = older old.schema
   where
     older : IsOldSchema db.schema → ⊥
     older (inl is) = let e = ap (λ (s : Schema). s.tables) (sym is ∙ none) in cc

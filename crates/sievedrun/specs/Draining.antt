@@ -47,7 +47,7 @@ IsFirst user folder first = (tables : Tables) × (accounts : Accounts) × ShowsA
 abbrev pub AreFirsts : List ℕ → List ℕ → List KeptMail → List (List ℕ) → Type 0
 AreFirsts user folder [] [] = Unit {0}
 AreFirsts user folder (mail ∷ mails) (message ∷ messages) =
-    (first : NumberedMessage) × IsFirst user folder first × (mail ≡ kept_mail user folder first.number first.message) × (first.message ≡ message) × AreFirsts user folder mails messages
+    (first : NumberedMessage) × IsFirst user folder first × (mail ≡ kept_mail user folder first.number first.message first.flags) × (first.message ≡ message) × AreFirsts user folder mails messages
 AreFirsts user folder mails messages = ⊥
 
 -- what a sink keeps grew by these messages of the user's folder, at its end; of one that doesn't tell what it keeps nothing is said

@@ -95,7 +95,8 @@ fn move_first<S: Alter, T: MailSink>(
     let Some(first) = first else {
         return Ok(false);
     };
-    if let Err(error) = sink.keep(user, folder, first.number, first.message.as_slice()) {
+    let (message, flags) = (first.message.as_slice(), first.flags.as_slice());
+    if let Err(error) = sink.keep(user, folder, first.number, message, flags) {
         return Err(sink_failure(error));
     }
     match store.take_mail(user, folder) {

@@ -125,5 +125,5 @@ fn put_pieces<W: Write>(output: &mut W, line: &Line<'_>) -> Result<(), Fault>
 {
     put(output, line.front.as_slice())?;
     put(output, line.last)?;
-    put(output, line.back)
+    put(output, line.back.as_slice())
 }

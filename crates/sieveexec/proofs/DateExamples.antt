@@ -1,18 +1,18 @@
 -- The dates that tests look at, and near misses.
-use Rattle.std.proofs.Common.{◌≡◌, ◌∙◌, ◌∷◌, ◌++◌, ℕ, ℤ, pos, neg_ℤ, List, [], Some, None, true, false, refl, sym, ap, inl, inr, arith, rules}
+use Rattle.std.proofs.Common.{◌≡◌, ◌∙◌, ◌∷◌, ◌++◌, ℕ, ℤ, pos, List, [], Some, None, true, false, refl, sym, inr, arith, rules}
 use Rattle.std.specs.Prelude.{codes}
 use Rattle.std.proofs.lemmas.Int.{ints}
 use Rattle.maildates.specs.declared.date_time.DateTime.{DateTime}
-use Rattle.maildates.specs.DateTimes.{IsDateTime, IsMoment, IsSameMoment, local_minutes}
+use Rattle.maildates.specs.DateTimes.{IsDateTime, local_minutes}
 use Rattle.maildates.specs.Finding.{date_of, is_civil}
 use Rattle.maildates.specs.Pieces.{goes_on}
 use Rattle.maildates.specs.Words.{number_in, two_digits, day_of, year_of, is_named, month_of, weekday_of, mark_of}
 use Rattle.maildates.specs.Zones.{offset_of, numeric_of, hours_west, named_of, zone_of}
 use Rattle.maildates.specs.Reading.{next_state, after_gap, cut, piece, reads, after_name, day_from, second_from, time_from, parts_from}
-use Rattle.sievesyntax.specs.declared.tree.checks.DateZone.TheVariants.{Host, Given, Original}
+use Rattle.sievesyntax.specs.declared.tree.checks.DateZone.TheVariants.{Given, Original}
 use Rattle.sieveexec.specs.declared.when.When.{When}
 use Rattle.sieveexec.specs.Mails.{MailSpec, mail_of}
-use Rattle.sieveexec.specs.Dates.{IsBehindLast, IsFieldDate, IsDateCount, IsShown, behind_last, field_date}
+use Rattle.sieveexec.specs.Dates.{IsBehindLast, IsFieldDate, IsDateCount, IsShown, field_date}
 use Rattle.sieveexec.proofs.DateLemmas.{behind_again, field_date_is, field_date_again}
 
 -- what stands behind the last semicolon, and not behind the first

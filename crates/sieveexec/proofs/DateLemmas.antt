@@ -1,6 +1,5 @@
 -- The date of a field, and whether some date passes.
-use Rattle.std.proofs.Common.{◌≡◌, ◌==◌, ◌+◌, ◌/◌, ◌%◌, ◌<◌, ◌↔◌, ℕ, ℤ, suc, length, take, drop, get_or, Bool, true, false, ◌||◌, cond, ◌⊎◌, inl, inr, List, [], ◌∷◌, ◌++◌, Option, Some, None, refl, sym, ap, ◌∙◌, subst, arith, decimal, add-one, length-drop}
-use Rattle.std.specs.Prelude.{unwrap_or}
+use Rattle.std.proofs.Common.{◌≡◌, ◌+◌, ◌/◌, ◌%◌, ◌<◌, ℕ, ℤ, suc, length, take, drop, get_or, Bool, true, false, ◌||◌, cond, inl, inr, List, [], ◌∷◌, ◌++◌, Option, Some, None, refl, sym, ap, ◌∙◌, subst, arith, decimal, add-one, length-drop}
 use Rattle.std.specs.Bool.{Decides}
 use Rattle.std.specs.List.{list_any}
 use Rattle.std.specs.Option.{option_and_then, MatchOption}
@@ -8,16 +7,16 @@ use Rattle.std.proofs.Math.Bool.{or-true}
 use Rattle.std.proofs.Math.Seq.{drop-cons}
 use Rattle.std.proofs.lemmas.Bool.{eqb-true, cond-true, cond-false, false_from_ne_true}
 use Rattle.std.proofs.lemmas.Bool.Decides.{same_from_decides, Decides-like}
-use Rattle.std.proofs.lemmas.List.{get_or-drop, get_or_default, length-take-le, take-append-drop}
+use Rattle.std.proofs.lemmas.List.{get_or-drop, get_or_default, take-append-drop}
 use Rattle.std.proofs.lemmas.List.Folds.{list_any_none}
 use Rattle.octets.proofs.Lists.{some_is}
-use Rattle.memchr.specs.Find.{Nowhere, NoneBefore, NoneAfter, Passes, is_byte}
+use Rattle.memchr.specs.Find.{Nowhere, NoneAfter, Passes, is_byte}
 use Rattle.sievesyntax.specs.declared.tree.checks.DateZone.{DateZone}
 use Rattle.sievesyntax.specs.declared.tree.checks.DateZone.TheVariants.{Host, Given, Original}
 use Rattle.maildates.specs.declared.date_time.DateTime.{DateTime}
 use Rattle.maildates.specs.DateTexts.{IsDateText}
-use Rattle.maildates.specs.DateTimes.{IsMoment, IsSameMoment}
-use Rattle.maildates.specs.Finding.{date_of, same_moment_passes, moment_passes}
+use Rattle.maildates.specs.DateTimes.{IsMoment}
+use Rattle.maildates.specs.Finding.{date_of, moment_passes}
 use Rattle.maildates.proofs.FindingLaws.{date_of_is, date_of_again, same_moment_decides, moment_decides}
 use Rattle.maildates.proofs.MomentLaws.{one_same, one_moment}
 use Rattle.maildates.proofs.WordLemmas.{then_some}

@@ -1,7 +1,7 @@
 -- The definitions at a few mails: what they fit, and what is near it that they don't.
-use Rattle.std.proofs.Common.{◌≡◌, lit<, true, false, Some, None, inl, inr, [], ◌∷◌, ◌++◌, codes, refl, arith, pos, neg_ℤ, rules}
+use Rattle.std.proofs.Common.{◌≡◌, lit<, ℕ, List, true, false, Some, None, inl, inr, [], ◌∷◌, ◌++◌, codes, decimal, refl, arith, pos, neg_ℤ, rules}
 use Rattle.std.proofs.lemmas.Int.{ints}
-use Rattle.sievesyntax.specs.declared.tree.checks.Matching.TheVariants.{Is, Contains, Value, Count}
+use Rattle.sievesyntax.specs.declared.tree.checks.Matching.TheVariants.{Is, Contains, Matches, Value, Count}
 use Rattle.sievesyntax.specs.declared.tree.checks.Relation.TheVariants as R
 use Rattle.sievesyntax.specs.declared.tree.checks.AddressPart.TheVariants.{LocalPart, Domain, User, Detail}
 use Rattle.sievesyntax.specs.declared.tree.checks.AddressPart.TheVariants as part
@@ -15,9 +15,11 @@ use Rattle.maildates.specs.DateTimes.{IsZone}
 use Rattle.sieveexec.specs.declared.when.When.{When}
 use Rattle.sieveexec.specs.Mails.{MailSpec, mail_of, values_of, text_shown, has_addresses, addresses_of}
 use Rattle.sieveexec.specs.Matches.{matches_key, matches_some}
-use Rattle.sieveexec.specs.Counts.{fields_counted, addresses_counted, envelope_counted}
+use Rattle.sieveexec.specs.Counts.{fields_counted, envelope_counted}
 use Rattle.sieveexec.specs.Parts.{CutsAtFirst, IsPartOf, part_of, Cuts, CutsAtLast, IsPart, part_in}
+use Rattle.sieveexec.specs.FlagKeys.{flag_keys}
 use Rattle.sieveexec.specs.Holding.{IsBeyond, IsNamed, SomeAddress}
+use Rattle.sieveexec.specs.Truth.{flag_holds}
 
 -- the first second of 1970, two hours east of UTC
 abbrev start : When
@@ -171,3 +173,33 @@ named-to = inr (refl, refl)
 not_named-from : IsNamed (record { from = false; to = true }) sample (codes "x@y@z") → ⊥
 not_named-from (inl (asked, same)) = cc
 not_named-from (inr (asked, same)) = cc
+
+-- `hasflag "b A"` is `hasflag ["b", "A"]` (RFC 5232, 4), and nothing stands between two blanks
+flag_words : (flag_keys Is (codes "b A" ∷ []) ≡ codes "b" ∷ (codes "A" ∷ [])) × (flag_keys Contains (codes " b  " ∷ (codes " " ∷ [])) ≡ codes "b" ∷ [])
+flag_words = (refl, refl)
+
+-- a pattern isn't cut
+flag_pattern : flag_keys Matches (codes "b A" ∷ []) ≡ codes "b A" ∷ []
+flag_pattern = refl
+
+-- two flags
+abbrev two : List (List ℕ)
+two = codes "\\Seen" ∷ codes "Junk" ∷ []
+
+-- one of them is among the keys, in any case; a part of one, or both in one pattern, is none of them
+flag_there : flag_holds two (record { comparator = AsciiCasemap; matching = Is; keys = codes "x junk" ∷ [] }) ≡ true
+flag_there = refl
+
+flag_part : flag_holds two (record { comparator = AsciiCasemap; matching = Is; keys = codes "jun" ∷ [] }) ≡ false
+flag_part = refl
+
+flags_together : flag_holds two (record { comparator = Octet; matching = Value R.Equal; keys = codes "\\Seen Junk" ∷ [] }) ≡ false
+flags_together = refl
+
+-- two are counted, as the number in decimal
+flags_counted : flag_holds two (record { comparator = AsciiNumeric; matching = Count R.Equal; keys = codes "02" ∷ [] }) ≡ matches_some AsciiNumeric (Count R.Equal) (codes "02" ∷ []) (decimal 2)
+flags_counted = refl
+
+-- where there are none, no key is in one, not even the empty one
+no_flags : flag_holds [] (record { comparator = Octet; matching = Contains; keys = [] ∷ [] }) ≡ false
+no_flags = refl

@@ -1,32 +1,34 @@
 -- No test looks at the octets of a message, but at its fields and its size.
-use Rattle.std.proofs.Common.{◌≡◌, ℕ, List, Some, refl, sym, ap, ◌∙◌}
+use Rattle.std.proofs.Common.{◌≡◌, ℕ, List, Some, refl, ap, ◌∙◌}
 use Rattle.std.proofs.Math.Path.{fun_ext}
 use Rattle.mailhead.specs.Heads.{fields_of, size_of}
 use Rattle.mailfronts.specs.Fronts.{HasHeaderOf}
 use Rattle.mailfronts.proofs.FrontLemmas.{fields_in_front}
 use Rattle.sievesyntax.specs.Meaning.{outcome}
+use Rattle.sievesyntax.specs.RunState.{RunState}
 use Rattle.sievesyntax.specs.Tree.{Commands}
 use Rattle.sievesyntax.specs.declared.tree.checks.Check.{Check}
-use Rattle.sievesyntax.specs.declared.tree.checks.Check.TheVariants.{Size, Exists, Header, Address, Envelope, MailboxExists, Date, CurrentDate}
+use Rattle.sievesyntax.specs.declared.tree.checks.Check.TheVariants.{Size, Exists, Header, Address, Envelope, MailboxExists, Date, CurrentDate, HasFlag}
 use Rattle.sieveexec.specs.declared.envelope.Envelope as E
 use Rattle.sieveexec.specs.declared.when.When.{When}
 use Rattle.sieveexec.specs.Mails.{MailSpec, mail_of, with_size}
 use Rattle.sieveexec.specs.Outcomes.{outcome_at}
-use Rattle.sieveexec.specs.Truth.{truth_at}
+use Rattle.sieveexec.specs.Truth.{truth_by}
 
-same_truth : (mail : MailSpec) (octets : List ℕ) (check : Check) → truth_at (record mail { octets = octets }) check ≡ truth_at mail check
-same_truth mail octets (Size size) = refl
-same_truth mail octets (Exists names) = refl
-same_truth mail octets (Header header) = refl
-same_truth mail octets (Address address) = refl
-same_truth mail octets (Envelope test) = refl
-same_truth mail octets (MailboxExists names) = refl
-same_truth mail octets (Date test) = refl
-same_truth mail octets (CurrentDate test) = refl
+same_truth : (mail : MailSpec) (octets : List ℕ) (flags : List (List ℕ)) (check : Check) → truth_by (record mail { octets = octets }) flags check ≡ truth_by mail flags check
+same_truth mail octets flags (Size size) = refl
+same_truth mail octets flags (Exists names) = refl
+same_truth mail octets flags (Header header) = refl
+same_truth mail octets flags (Address address) = refl
+same_truth mail octets flags (Envelope test) = refl
+same_truth mail octets flags (MailboxExists names) = refl
+same_truth mail octets flags (Date test) = refl
+same_truth mail octets flags (CurrentDate test) = refl
+same_truth mail octets flags (HasFlag test) = refl
 
 -- so the outcome is the same, whatever they are
 same_outcome : (mail : MailSpec) (octets : List ℕ) (tree : Commands) → outcome_at (record mail { octets = octets }) tree ≡ outcome_at mail tree
-same_outcome mail octets tree = ap (λ truth. outcome truth tree) (fun_ext (same_truth mail octets))
+same_outcome mail octets tree = ap (λ truth. outcome truth tree) (fun_ext (λ (so_far : RunState). fun_ext (same_truth mail octets so_far.flags)))
 
 module _ (envelope : E.Envelope) (when : When) (tree : Commands) where
   -- with the fields and the size of another message

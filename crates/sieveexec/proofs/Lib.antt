@@ -1,10 +1,12 @@
 pub mod Decisions
+pub mod WordLemmas
 pub mod MatchLemmas
 pub mod OrderLemmas
 pub mod PartLemmas
 pub mod DateLemmas
 pub mod TruthLemmas
 pub mod FrontLemmas
+pub mod UnflaggedLemmas
 pub mod IndexLemmas
 pub mod JoinedLemmas
 pub mod NameLemmas

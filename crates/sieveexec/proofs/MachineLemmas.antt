@@ -21,16 +21,16 @@ use Rattle.sieveexec.specs.declared.machine.Turn.TheVariants as T
 use Rattle.sieveexec.specs.Runs.{after_turn, failure_view, MovesOn, outcome_view}
 
 -- with as many turns as there are places left, the code gives this from here
-abbrev pub Gives : (Check → Bool) → List Instruction → Option Flow → ℕ → Bool → RunState → Type 0
+abbrev pub Gives : (RunState → Check → Bool) → List Instruction → Option Flow → ℕ → Bool → RunState → Type 0
 Gives truth code whole place flag state = (n : ℕ) × (length code ≤ place + n) × (jumps_from truth code n place flag state ≡ whole)
 
 -- what a turn leaves to do
-abbrev pub Leaves : (Check → Bool) → List Instruction → Option Flow → Turn → Bool → RunState → Type 0
+abbrev pub Leaves : (RunState → Check → Bool) → List Instruction → Option Flow → Turn → Bool → RunState → Type 0
 Leaves truth code whole (Next place) flag state = Gives truth code whole place flag state
 Leaves truth code whole Stopped flag state = Some (F.Stopped state) ≡ whole
 Leaves truth code whole (T.Failed failure) flag state = Some (F.Failed (failure_view failure)) ≡ whole
 
-module _ (truth : Check → Bool) (code : List Instruction) (whole : Option Flow) (place : ℕ) where
+module _ (truth : RunState → Check → Bool) (code : List Instruction) (whole : Option Flow) (place : ℕ) where
   -- the rest is what the turn leaves
   rest_of : (m : ℕ) → length code ≤ place + suc m → (made : Turn) (flag : Bool) (state : RunState) → MovesOn place made → after_turn made (jumps_from truth code m) flag state ≡ whole → Leaves truth code whole made flag state
   rest_of m enough (Next place') flag state forward e = (m, omega arith, e)

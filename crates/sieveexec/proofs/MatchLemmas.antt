@@ -5,7 +5,7 @@ use Rattle.std.proofs.lemmas.Bool.Decides.{Decides-and, Decides-or, Decides-eqb}
 use Rattle.std.proofs.lemmas.Slice.Eq.{bytes_eq-Decides}
 use Rattle.std.specs.Char.{to_ascii_uppercase}
 use Rattle.collation.specs.Comparators.{ContainsBy}
-use Rattle.collation.specs.Numbers.{EqualNumbers, number_at}
+use Rattle.collation.specs.Numbers.{number_at}
 use Rattle.globmatch.specs.Glob.{items, Glob}
 use Rattle.globmatch.specs.declared.pattern.Item.{Item}
 use Rattle.globmatch.specs.declared.pattern.Item.TheVariants.{Star, One, Exact}

@@ -12,7 +12,7 @@ use Rattle.sievesyntax.specs.declared.tree.checks.Collation.{Collation}
 use Rattle.sievesyntax.specs.declared.tree.checks.Matching.{Matching}
 use Rattle.sievesyntax.specs.declared.tree.checks.EnvelopeTest.{EnvelopeTest}
 use Rattle.sievesyntax.specs.declared.tree.checks.Check.{Check}
-use Rattle.sievesyntax.specs.declared.tree.checks.Check.TheVariants.{Size, Exists, Header, Address, Envelope, MailboxExists, Date, CurrentDate}
+use Rattle.sievesyntax.specs.declared.tree.checks.Check.TheVariants.{Size, Exists, Header, Address, Envelope, MailboxExists, Date, CurrentDate, HasFlag}
 use Rattle.sievesyntax.specs.Valid.{IsMailbox}
 use Rattle.addrparts.specs.declared.address.Addr.{Addr}
 use Rattle.addrparts.specs.Parts.{AreAddresses}
@@ -20,6 +20,7 @@ use Rattle.addrparts.specs.Reading.{addrs}
 use Rattle.addrparts.proofs.Lists.{addrs-are, addrs-only}
 use Rattle.maildates.specs.Parts.{part_text}
 use Rattle.maildates.proofs.FindingLaws.{moment_decides}
+use Rattle.sieveexec.specs.FlagKeys.{flag_keys}
 use Rattle.sieveexec.specs.Dates.{field_date, date_count}
 use Rattle.sieveexec.proofs.DateLemmas.{count_decides, found_decides}
 use Rattle.sieveexec.specs.Mails.{MailSpec, values_of, texts_of, has_addresses, addresses_of}
@@ -27,7 +28,7 @@ use Rattle.sieveexec.specs.Matches.{MatchesSome}
 use Rattle.sieveexec.specs.Parts.{IsPartOf, part_of, IsPart, part_in}
 use Rattle.sieveexec.specs.Counts.{is_count, is_some_of, fields_counted, addresses_counted, envelope_counted}
 use Rattle.sieveexec.specs.Holding.{IsBeyond, IsNamed, SomeAddress, TestHolds}
-use Rattle.sieveexec.specs.Truth.{is_beyond, is_mailbox, is_some_there, part_matches, envelope_matches, date_matches, truth_at}
+use Rattle.sieveexec.specs.Truth.{is_beyond, is_mailbox, is_some_there, part_matches, envelope_matches, date_matches, truth_by}
 use Rattle.sieveexec.proofs.Decisions.{decides_as, any_decides, all_decides}
 use Rattle.sieveexec.proofs.MatchLemmas.{matches_some_decides}
 use Rattle.sieveexec.proofs.PartLemmas.{given, part_of_is, part_of_only, part_is, part_only}
@@ -127,36 +128,40 @@ counts_decides true one other P Q first second = first
 counts_decides false one other P Q first second = second
 
 -- a test is true exactly where it holds
-pub truth_decides : (mail : MailSpec) (check : Check) → Decides (truth_at mail check) (TestHolds mail check)
-truth_decides mail (Size size) = beyond_decides size.bound mail.size size.limit
-truth_decides mail (Exists names) = all_decides (λ name. is_some_there (values_of mail name)) (λ name. values_of mail name ≢ []) (λ name. there_decides (values_of mail name)) names
-truth_decides mail (Header header) =
+pub truth_decides : (mail : MailSpec) (flags : List (List ℕ)) (check : Check) → Decides (truth_by mail flags check) (TestHolds mail flags check)
+truth_decides mail flags (Size size) = beyond_decides size.bound mail.size size.limit
+truth_decides mail flags (Exists names) = all_decides (λ name. is_some_there (values_of mail name)) (λ name. values_of mail name ≢ []) (λ name. there_decides (values_of mail name)) names
+truth_decides mail flags (Header header) =
     counts_decides (is_count header.matching) _ _ _ _
     (matches_some_decides header.comparator header.matching header.keys (decimal (fields_counted mail header.fields)))
     (any_decides _ _ (λ name. any_decides _ _ (matches_some_decides header.comparator header.matching header.keys) (texts_of mail name)) header.fields)
-truth_decides mail (Address address) =
+truth_decides mail flags (Address address) =
     counts_decides (is_count address.matching) _ _ _ _
     (matches_some_decides address.comparator address.matching address.keys (decimal (addresses_counted mail address.part address.fields)))
     (any_decides _ _ (λ name. some_decides _ _ (λ one.
     part_decides address.comparator address.matching address.keys (part_of address.part one) (IsPartOf address.part one) (part_of_is address.part one) (part_of_only address.part one)) mail name) address.fields)
-truth_decides mail (MailboxExists names) = all_decides is_mailbox IsMailbox mailbox_decides names
-truth_decides mail (Date test) =
+truth_decides mail flags (MailboxExists names) = all_decides is_mailbox IsMailbox mailbox_decides names
+truth_decides mail flags (Date test) =
     counts_decides (is_count test.matching) _ _ _ _
     (count_decides mail test.field _ (MatchesSome test.comparator test.matching test.keys) (matches_some_decides test.comparator test.matching test.keys (decimal (date_count (field_date mail test.field)))))
     (found_decides (date_matches test.comparator test.matching test.keys test.part) (λ shown. MatchesSome test.comparator test.matching test.keys (part_text test.part shown))
     (λ shown. matches_some_decides test.comparator test.matching test.keys (part_text test.part shown)) mail test.zone test.field)
-truth_decides mail (CurrentDate test) =
+truth_decides mail flags (CurrentDate test) =
     counts_decides (is_count test.matching) _ _ _ _
     (matches_some_decides test.comparator test.matching test.keys (decimal 1))
     (moment_decides (date_matches test.comparator test.matching test.keys test.part) (λ shown. MatchesSome test.comparator test.matching test.keys (part_text test.part shown))
     (λ shown. matches_some_decides test.comparator test.matching test.keys (part_text test.part shown)) mail.moment (unwrap_or test.zone mail.zone))
-truth_decides mail (Envelope test) =
+truth_decides mail flags (Envelope test) =
     counts_decides (is_count test.matching) _ _ _ _
     (matches_some_decides test.comparator test.matching test.keys (decimal (envelope_counted mail test)))
     (decides_as _ (named mail test) (λ (one, part, name, is, matches). asked_for mail test one part name is matches)
     (Decides-or _ _
     (Decides-and _ _ (is_asked test.parts.from) (matching_decides test mail.from))
     (Decides-and _ _ (is_asked test.parts.to) (matching_decides test mail.to))))
+truth_decides mail flags (HasFlag test) =
+    counts_decides (is_count test.matching) _ _ _ _
+    (matches_some_decides test.comparator test.matching test.keys (decimal (length flags)))
+    (any_decides _ _ (matches_some_decides test.comparator test.matching (flag_keys test.matching test.keys)) flags)
 
 -- ---- a test that counts, and one that doesn't
 

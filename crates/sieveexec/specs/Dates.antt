@@ -1,5 +1,5 @@
 -- The dates that tests look at (RFC 5260, 4 and 5).
-use Rattle.std.specs.Prelude.{◌≡◌, ◌==◌, ◌⊎◌, ℕ, ◌/◌, ◌%◌, Bool, true, false, cond, nat_eq, codes, List, [], ◌∷◌, ◌++◌, Option, Some, None, unwrap_or}
+use Rattle.std.specs.Prelude.{◌≡◌, ◌==◌, ◌⊎◌, ℕ, Bool, true, false, cond, nat_eq, codes, List, [], ◌∷◌, ◌++◌, Option, Some, None}
 use Rattle.std.specs.List.{list_any}
 use Rattle.std.specs.Option.{option_and_then}
 use Rattle.std.specs.Cmp.Lexicographic.{pointwise}
@@ -9,7 +9,7 @@ use Rattle.sievesyntax.specs.declared.tree.checks.DateZone.TheVariants.{Host, Gi
 use Rattle.maildates.specs.declared.date_time.DateTime.{DateTime}
 use Rattle.maildates.specs.DateTexts.{IsDateText}
 use Rattle.maildates.specs.DateTimes.{IsSameMoment}
-use Rattle.maildates.specs.Finding.{date_of, same_moment_passes, moment_passes}
+use Rattle.maildates.specs.Finding.{date_of, same_moment_passes}
 use Rattle.sieveexec.specs.Mails.{MailSpec, values_of}
 
 -- ---- the date of a field

@@ -1,17 +1,18 @@
--- Which tests hold of a mail (RFC 5228, 5; RFC 5231; RFC 5260).
-use Rattle.std.specs.Prelude.{◌≡◌, ◌≢◌, ◌<◌, ◌⊎◌, ℕ, true, List, [], decimal, unwrap_or, MatchBool}
+-- Which tests hold of a mail and of the flags that the run has set (RFC 5228, 5; RFC 5231; RFC 5232; RFC 5260).
+use Rattle.std.specs.Prelude.{◌≡◌, ◌≢◌, ◌<◌, ◌⊎◌, ℕ, true, List, [], length, decimal, unwrap_or, MatchBool}
 use Rattle.std.specs.List.{All, Any}
 use Rattle.sievesyntax.specs.declared.tree.checks.Bound.{Bound}
 use Rattle.sievesyntax.specs.declared.tree.checks.Bound.TheVariants.{Over, Under}
 use Rattle.sievesyntax.specs.declared.tree.checks.EnvelopeParts.{EnvelopeParts}
 use Rattle.sievesyntax.specs.declared.tree.checks.Check.{Check}
-use Rattle.sievesyntax.specs.declared.tree.checks.Check.TheVariants.{Size, Exists, Header, Address, Envelope, MailboxExists, Date, CurrentDate}
+use Rattle.sievesyntax.specs.declared.tree.checks.Check.TheVariants.{Size, Exists, Header, Address, Envelope, MailboxExists, Date, CurrentDate, HasFlag}
 use Rattle.sievesyntax.specs.Valid.{IsMailbox}
 use Rattle.addrparts.specs.declared.address.Addr.{Addr}
 use Rattle.addrparts.specs.Parts.{AreAddresses}
 use Rattle.maildates.specs.declared.date_time.DateTime.{DateTime}
 use Rattle.maildates.specs.DateTimes.{IsMoment}
 use Rattle.maildates.specs.Parts.{part_text}
+use Rattle.sieveexec.specs.FlagKeys.{flag_keys}
 use Rattle.sieveexec.specs.Dates.{IsFieldDate, IsDateCount, IsShown}
 use Rattle.sieveexec.specs.Mails.{MailSpec, values_of, texts_of, has_addresses}
 use Rattle.sieveexec.specs.Matches.{MatchesSome}
@@ -35,31 +36,36 @@ pub record SomeAddress (mail : MailSpec) (name : List ℕ) (P : Addr → Type 0)
 
 -- a test that looks at the message, its envelope or mailboxes holds (RFC 5228, 5.1, 5.4, 5.5, 5.7, 5.9). Where values are counted, their
 -- number in decimal matches a key (RFC 5231, 4.2). Each mailbox is there, for a message can be filed into it (RFC 5490, 3.1). A
--- date is looked at by the clock of a zone, and so is the moment of the delivery, which is one date (RFC 5260, 4 and 5)
-abbrev pub TestHolds : MailSpec → Check → Type 0
-TestHolds mail (Size size) = IsBeyond size.bound mail.size size.limit
-TestHolds mail (Exists names) = All (λ name. values_of mail name ≢ []) names
-TestHolds mail (Header header) =
+-- date is looked at by the clock of a zone, and so is the moment of the delivery, which is one date (RFC 5260, 4 and 5). The flags
+-- are asked one by one (RFC 5232, 4)
+abbrev pub TestHolds : MailSpec → (flags : List (List ℕ)) → Check → Type 0
+TestHolds mail flags (Size size) = IsBeyond size.bound mail.size size.limit
+TestHolds mail flags (Exists names) = All (λ name. values_of mail name ≢ []) names
+TestHolds mail flags (Header header) =
     MatchBool (is_count header.matching)
     (MatchesSome header.comparator header.matching header.keys (decimal (fields_counted mail header.fields)))
     (Any (λ name. Any (MatchesSome header.comparator header.matching header.keys) (texts_of mail name)) header.fields)
-TestHolds mail (Address address) =
+TestHolds mail flags (Address address) =
     MatchBool (is_count address.matching)
     (MatchesSome address.comparator address.matching address.keys (decimal (addresses_counted mail address.part address.fields)))
     (Any (λ name. SomeAddress mail name (λ one. (part : List ℕ) × IsPartOf address.part one part × MatchesSome address.comparator address.matching address.keys part)) address.fields)
-TestHolds mail (MailboxExists names) = All IsMailbox names
-TestHolds mail (Date date) =
+TestHolds mail flags (MailboxExists names) = All IsMailbox names
+TestHolds mail flags (Date date) =
     MatchBool (is_count date.matching)
     ((count : ℕ) × IsDateCount mail date.field count × MatchesSome date.comparator date.matching date.keys (decimal count))
     ((found : DateTime) × (shown : DateTime) × IsFieldDate mail date.field found × IsShown mail date.zone found shown
     × MatchesSome date.comparator date.matching date.keys (part_text date.part shown))
-TestHolds mail (CurrentDate current) =
+TestHolds mail flags (CurrentDate current) =
     MatchBool (is_count current.matching)
     (MatchesSome current.comparator current.matching current.keys (decimal 1))
     ((shown : DateTime) × IsMoment mail.moment (unwrap_or current.zone mail.zone) shown
     × MatchesSome current.comparator current.matching current.keys (part_text current.part shown))
-TestHolds mail (Envelope envelope) =
+TestHolds mail flags (Envelope envelope) =
     MatchBool (is_count envelope.matching)
     (MatchesSome envelope.comparator envelope.matching envelope.keys (decimal (envelope_counted mail envelope)))
     ((one : List ℕ) × (part : List ℕ) × IsNamed envelope.parts mail one × IsPart envelope.part one part
     × MatchesSome envelope.comparator envelope.matching envelope.keys part)
+TestHolds mail flags (HasFlag test) =
+    MatchBool (is_count test.matching)
+    (MatchesSome test.comparator test.matching test.keys (decimal (length flags)))
+    (Any (MatchesSome test.comparator test.matching (flag_keys test.matching test.keys)) flags)

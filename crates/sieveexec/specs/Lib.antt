@@ -2,6 +2,7 @@ pub mod Mails
 pub mod Matches
 pub mod Parts
 pub mod Counts
+pub mod FlagKeys
 pub mod Dates
 pub mod Holding
 pub mod Truth

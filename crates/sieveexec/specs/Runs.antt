@@ -5,7 +5,6 @@ use Rattle.sievesyntax.specs.RunState as F
 use Rattle.sievesyntax.specs.Meaning.{Outcome as OutcomeSpec}
 use Rattle.sievesyntax.specs.Meaning as M
 use Rattle.sievecode.specs.Jumps.{Run}
-use Rattle.sieveexec.specs.Mailboxes.{without_repeats}
 use Rattle.sieveexec.specs.declared.machine.Turn.{Turn}
 use Rattle.sieveexec.specs.declared.machine.Turn.TheVariants.{Next, Stopped}
 use Rattle.sieveexec.specs.declared.machine.Turn.TheVariants as turn
@@ -17,7 +16,7 @@ use Rattle.sieveexec.specs.declared.outcome.Outcome.TheVariants.{Done, Failed}
 
 -- what was done so far
 abbrev pub run_state_of : RunState → RunStateSpec
-run_state_of state = record { filed = without_repeats state.named; sent = state.sent; reply = state.reply; cancelled = state.cancelled }
+run_state_of state = record { filed = state.filed; flags = state.flags; sent = state.sent; reply = state.reply; cancelled = state.cancelled }
 
 -- why a run failed
 abbrev pub failure_view : Failure → FailureSpec

@@ -1,4 +1,4 @@
--- The truth of tests at a mail: true exactly where the test holds (`truth_of_a_check` of laws.rt).
+-- The truth of tests at a mail and at what the run has done: true exactly where the test holds (`truth_of_a_check` of laws.rt).
 use Rattle.std.specs.Prelude.{◌==◌, ℕ, Bool, true, false, cond, not, ◌&&◌, ◌||◌, ◌/◌, ◌%◌, nat_lt, length, decimal, List, [], ◌∷◌, Option, Some, None, unwrap_or}
 use Rattle.std.specs.List.{list_any, list_all}
 use Rattle.std.specs.Str.{is_utf8}
@@ -9,16 +9,19 @@ use Rattle.sievesyntax.specs.declared.tree.checks.Address.{Address as AddressTes
 use Rattle.sievesyntax.specs.declared.tree.checks.EnvelopeTest.{EnvelopeTest}
 use Rattle.sievesyntax.specs.declared.tree.checks.DateTest.{DateTest}
 use Rattle.sievesyntax.specs.declared.tree.checks.CurrentDate.{CurrentDate}
+use Rattle.sievesyntax.specs.declared.tree.checks.HasFlag.{HasFlag}
 use Rattle.sievesyntax.specs.declared.tree.checks.Collation.{Collation}
 use Rattle.sievesyntax.specs.declared.tree.checks.Matching.{Matching}
 use Rattle.sievesyntax.specs.declared.tree.checks.Check.{Check}
 use Rattle.sievesyntax.specs.declared.tree.checks.Check.TheVariants.{Size, Exists, Header, Address, Envelope, MailboxExists, Date}
 use Rattle.sievesyntax.specs.declared.tree.checks.Check.TheVariants as Q
+use Rattle.sievesyntax.specs.RunState.{RunState}
 use Rattle.addrparts.specs.declared.address.Addr.{Addr}
 use Rattle.maildates.specs.declared.date_time.DateTime.{DateTime}
 use Rattle.maildates.specs.declared.part.DatePart.{DatePart}
 use Rattle.maildates.specs.Finding.{moment_passes}
 use Rattle.maildates.specs.Parts.{part_text}
+use Rattle.sieveexec.specs.FlagKeys.{flag_keys}
 use Rattle.sieveexec.specs.Dates.{field_date, date_count, found_passes}
 use Rattle.sieveexec.specs.Mails.{MailSpec, values_of, texts_of, addresses_of}
 use Rattle.sieveexec.specs.Matches.{matches_some}
@@ -116,13 +119,29 @@ current_holds mail test =
     (count_matches test.comparator test.matching test.keys 1)
     (moment_passes (mail.moment / 60) (mail.moment % 60) (unwrap_or test.zone mail.zone) (date_matches test.comparator test.matching test.keys test.part))
 
--- whether a test that looks at the message or its envelope holds
-abbrev pub truth_at : MailSpec → Check → Bool
-truth_at mail (Size size) = is_beyond size.bound mail.size size.limit
-truth_at mail (Exists names) = all_exist mail names
-truth_at mail (Header header) = header_holds mail header
-truth_at mail (Address address) = address_holds mail address
-truth_at mail (Envelope test) = envelope_holds mail test
-truth_at mail (MailboxExists names) = list_all is_mailbox names
-truth_at mail (Date test) = date_holds mail test
-truth_at mail (Q.CurrentDate test) = current_holds mail test
+-- whether some flag matches a key of `hasflag`
+abbrev pub some_flag_matches : List (List ℕ) → HasFlag → Bool
+some_flag_matches flags test = list_any (matches_some test.comparator test.matching (flag_keys test.matching test.keys)) flags
+
+-- whether `hasflag` holds of these flags
+abbrev pub flag_holds : List (List ℕ) → HasFlag → Bool
+flag_holds flags test =
+    cond (is_count test.matching)
+    (count_matches test.comparator test.matching test.keys (length flags))
+    (some_flag_matches flags test)
+
+-- whether a test that looks at the message, its envelope or the flags holds
+abbrev pub truth_by : MailSpec → (flags : List (List ℕ)) → Check → Bool
+truth_by mail flags (Size size) = is_beyond size.bound mail.size size.limit
+truth_by mail flags (Exists names) = all_exist mail names
+truth_by mail flags (Header header) = header_holds mail header
+truth_by mail flags (Address address) = address_holds mail address
+truth_by mail flags (Envelope test) = envelope_holds mail test
+truth_by mail flags (MailboxExists names) = list_all is_mailbox names
+truth_by mail flags (Date test) = date_holds mail test
+truth_by mail flags (Q.CurrentDate test) = current_holds mail test
+truth_by mail flags (Q.HasFlag test) = flag_holds flags test
+
+-- the same, of a run that has done this so far
+abbrev pub truth_at : MailSpec → RunState → Check → Bool
+truth_at mail so_far check = truth_by mail so_far.flags check

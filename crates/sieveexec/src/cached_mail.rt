@@ -2,14 +2,16 @@
 ghost use Rattle.std.specs.Prelude.{◌≡◌, ◌↔◌, ◌≤◌, ◌&&◌, All, IsTrue, IfOk, cond};
 ghost use Rattle.sievesyntax.specs.Valid.{IsMailbox};
 ghost use Rattle.sieveexec.specs.Counts.{is_counted, envelope_counted};
-ghost use Rattle.sieveexec.specs.Truth.{truth_at, is_beyond, header_holds, address_holds, envelope_holds, some_named_matches, envelope_matches};
+ghost use Rattle.sieveexec.specs.Truth.{truth_by, is_beyond, header_holds, address_holds, envelope_holds, some_named_matches, envelope_matches};
 
 use crate::date::{current_holds, date_holds};
 use crate::envelope::part_in;
 use crate::field_cache::FieldCache;
+use crate::flags::flag_holds;
 use crate::joined_address::JoinedAddress;
 use crate::mail::Mail;
 use crate::matching::{count_matches, is_count, matches_some};
+use mailflags::Flags;
 use octets::{List, Octets, Texts};
 use sievesyntax::{Address, AddressPart, Bound, Check, EnvelopeTest, Header, Size, is_mailbox};
 use std::alloc::{AllocError, Global};
@@ -51,14 +53,19 @@ impl<'m, 'a> CachedMail<'m, 'a> {
         }
     }
 
-    /// Whether a test that looks at the message or its envelope holds (RFC 5228, 5.1, 5.4, 5.5, 5.7, 5.9; RFC 5231; RFC 5260, 4 and 5;
-    /// RFC 5490, 3.1).
+    /// Whether a test that looks at the message, its envelope or the flags of the run holds (RFC 5228, 5.1, 5.4, 5.5, 5.7, 5.9;
+    /// RFC 5231; RFC 5232, 4; RFC 5260, 4 and 5; RFC 5490, 3.1).
     ///
     /// A value is compared with each key: the time is that of `is`, `contains` or `matches` or one pass over both for each pair, and
     /// where a test is the first to ask for a field, linear in the field's values besides. Each
-    /// `date` reads the one value that it looks at.
-    pub fn evaluate(&mut self, alloc: Global, check: &Check) -> Result<bool, AllocError>
-        ensures truth { IfOk result (λ holds. holds ≡ truth_at self.old check.now) }
+    /// `date` reads the one value that it looks at, and `hasflag` looks at the flags alone.
+    pub fn evaluate(
+        &mut self,
+        alloc: Global,
+        check: &Check,
+        flags: &Flags,
+    ) -> Result<bool, AllocError>
+        ensures truth { IfOk result (λ holds. holds ≡ truth_by self.old flags.now check.now) }
         ensures kept { self.new ≡ self.old }
     {
         match check {
@@ -70,6 +77,7 @@ impl<'m, 'a> CachedMail<'m, 'a> {
             Check::MailboxExists(names) => Ok(are_mailboxes(names.as_slice())),
             Check::Date(test) => date_holds(alloc, self.mail, test),
             Check::CurrentDate(test) => current_holds(alloc, self.mail, test),
+            Check::HasFlag(test) => Ok(flag_holds(flags.names(), test)),
         }
     }
 

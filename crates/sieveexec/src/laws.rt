@@ -4,6 +4,10 @@ ghost use Rattle.std.specs.List.{list_all};
 ghost use Rattle.mailhead.specs.Fields.{is_name};
 ghost use Rattle.mailhead.specs.Heads.{fields_of, size_of};
 ghost use Rattle.mailfronts.specs.Fronts.{HasHeaderOf};
+ghost use Rattle.sievesyntax.specs.Before.{outcome_in, IsUnflaggedCheck};
+ghost use Rattle.sievesyntax.specs.Languages.{unflagged};
+ghost use Rattle.sievesyntax.specs.Means.{MeansIn};
+ghost use Rattle.sievesyntax.specs.RunState.{RunState};
 ghost use Rattle.sievesyntax.specs.Tree.{Commands};
 ghost use Rattle.sievesyntax.specs.declared.tree.checks.Check.{Check};
 ghost use Rattle.sieveexec.specs.declared.envelope.Envelope.{Envelope};
@@ -12,11 +16,22 @@ ghost use Rattle.sieveexec.specs.Mails.{MailSpec, mail_of, values_of, with_size}
 ghost use Rattle.sieveexec.specs.Outcomes.{outcome_at};
 ghost use Rattle.sieveexec.specs.Parts.{IsUser, IsDetail, user_of, detail_of, Cuts, local_of, domain_of};
 ghost use Rattle.sieveexec.specs.Holding.{TestHolds};
-ghost use Rattle.sieveexec.specs.Truth.{truth_at};
+ghost use Rattle.sieveexec.specs.Truth.{truth_at, truth_by};
 
-/// A test that looks at the message or its envelope is true exactly where it holds.
+/// A test that looks at the message, its envelope or the flags is true exactly where it holds.
 pub fn truth_of_a_check()
-    ensures { (mail : MailSpec) (check : Check) → IsTrue (truth_at mail check) ↔ TestHolds mail check }
+    ensures { (mail : MailSpec) (so_far : RunState) (check : Check) → IsTrue (truth_at mail so_far check) ↔ TestHolds mail so_far.flags check }
+{}
+
+/// A test that the language before `imap4flags` (RFC 5232) had doesn't look at the flags.
+pub fn truth_without_flags()
+    ensures { (mail : MailSpec) (one other : List (List ℕ)) (check : Check) → IsUnflaggedCheck check → truth_by mail one check ≡ truth_by mail other check }
+{}
+
+/// So a text that meant a tree in that language comes on every mail to what it came to then, when tests asked the mail alone.
+pub fn outcome_without_flags()
+    ensures { (mail : MailSpec) (text : List ℕ) (tree : Commands) → MeansIn unflagged text tree
+        → outcome_at mail tree ≡ outcome_in unflagged (λ so_far. truth_by mail []) tree }
 {}
 
 /// What a script comes to on a message depends on the message's fields and its size alone.

@@ -79,7 +79,9 @@ impl<'m, 'a> Machine<'m, 'a> {
         let next = place + 1;
         match instr {
             Instr::Set(value) => self.flag = *value,
-            Instr::Look(check) => self.flag = self.cached.evaluate(alloc, check)?,
+            Instr::Look(check) => self.flag = self
+                .cached
+                .evaluate(alloc, check, &self.state.flags)?,
             Instr::Flip => self.flag = !self.flag,
             Instr::Jump(target) => return Ok(Turn::Next(*target)),
             Instr::JumpIf(target) => return Ok(Turn::Next(if self.flag { *target } else { next })),

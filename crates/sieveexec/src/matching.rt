@@ -50,7 +50,13 @@ pub(crate) fn matches_some(
     false
 }
 
-fn matches_key(collation: Collation, matching: Matching, key: &[u8], value: &[u8]) -> bool
+/// Whether a value matches a key.
+pub(crate) fn matches_key(
+    collation: Collation,
+    matching: Matching,
+    key: &[u8],
+    value: &[u8],
+) -> bool
     ensures { result ≡ matches_key collation matching key.now value.now }
 {
     match collation {

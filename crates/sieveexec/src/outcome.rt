@@ -1,6 +1,7 @@
 //! What a script comes to.
 use addrparts::Addr;
-use octets::{List, Texts};
+use mailflags::Placement;
+use octets::List;
 use sievesyntax::VacArgs;
 
 /// What a script comes to on a message.
@@ -8,9 +9,9 @@ use sievesyntax::VacArgs;
 pub enum Outcome {
     /// The script was run to its end or to a `stop`.
     Done {
-        /// The mailboxes that the message goes into, each once, in the order of the first command that says so; the
-        /// implicit keep comes last (RFC 5228, 2.10.2 and 2.10.3).
-        filed: Texts,
+        /// The mailboxes that the message goes into, each once, in the order of the first command that says so, and with the
+        /// flags that this command gives the copy; the implicit keep comes last (RFC 5228, 2.10.2 and 2.10.3; RFC 5232, 5).
+        filed: List<Placement>,
         /// The addresses that the message is sent to, each once, in the order of the first command that says so.
         sent: List<Addr>,
         /// What the sender is answered, if `vacation` was executed (RFC 5230).

@@ -1,20 +1,17 @@
 //! What a run has done so far.
 ghost use Rattle.std.specs.Prelude.{◌≡◌, Bool, true, not, [], ◌∷◌, ◌++◌, None, IfOk, OnOk};
 ghost use Rattle.std.specs.List.{list_any};
-ghost use Rattle.std.specs.BTreeSet.{contains, Updates};
-ghost use Rattle.std.specs.Cmp.Lexicographic.{slice_cmp};
-ghost use Rattle.std.specs.Ordering.{nat_cmp};
-ghost use Rattle.sieveexec.specs.Mailboxes.{without_repeats as without_repeats_of};
-ghost use Rattle.sievesyntax.specs.RunState.{performed, at_first, filed_into, mailbox_named as mailbox_of, with_mailbox, inbox, same_target as same_target_of, sent_to, replied_by};
+ghost use Rattle.sievesyntax.specs.RunState.{performed, at_first, filed_into, flags_given as flags_given_of, mailbox_named as mailbox_of, same_target as same_target_of, sent_to, replied_by};
 ghost use Rattle.sievesyntax.specs.Meaning.{Done, actions_of};
 
 use crate::copies::{copied_address, copied_args};
+use crate::mailboxes::Mailboxes;
 use crate::outcome::{Failure, Outcome};
 use addrparts::Addr;
+use mailflags::{Flags, Placement};
 use octets::{List, Octets, Texts};
 use sievesyntax::{Action, FileInto, Redirect, VacArgs};
 use std::alloc::{AllocError, Global};
-use std::collections::BTreeSet;
 
 /// The mailbox of `keep`, of the implicit keep, and of a message that no script files.
 pub const INBOX: &[u8] = b"INBOX";
@@ -25,8 +22,11 @@ const MAX_TARGETS: usize = 16;
 /// What a run has done so far.
 #[derive(Drop)]
 pub struct RunState {
-    /// The mailboxes that the message goes into, in the order of the commands that say so.
-    pub named: Texts,
+    /// The mailboxes that the message goes into, each once, in the order of the first command that says so, with the flags that
+    /// this command gives the copy.
+    pub filed: Mailboxes,
+    /// The flags as they stand (RFC 5232, 3).
+    pub flags: Flags,
     /// The addresses that the message is sent to, each once, in the order of the first command that says so.
     pub sent: List<Addr>,
     /// The arguments of the `vacation` that was run, if one was.
@@ -43,14 +43,15 @@ impl RunState {
         ensures { run_state_of result ≡ at_first }
     {
         RunState {
-            named: Texts::new(alloc),
+            filed: Mailboxes::new(alloc),
+            flags: Flags::new(alloc),
             sent: List::new(alloc),
             reply: None,
             cancelled: false,
         }
     }
 
-    /// Carries out an action, or says why the run fails (RFC 5228, 4; RFC 5230).
+    /// Carries out an action, or says why the run fails (RFC 5228, 4; RFC 5230; RFC 5232, 3 and 5).
     pub(crate) fn act(
         &mut self,
         alloc: Global,
@@ -59,54 +60,94 @@ impl RunState {
         ensures { IfOk result (λ failed. flow_of failed (run_state_of self.new) ≡ performed action.now (run_state_of self.old)) }
     {
         match action {
-            Action::Keep => self.file_into(alloc, INBOX, false),
+            Action::Keep(given) => self.file_into(alloc, INBOX, given, false),
             Action::Discard => {
                 self.cancelled = true;
                 Ok(None)
             }
-            Action::FileInto(FileInto { mailbox, copy, .. }) => {
-                self.file_into(alloc, mailbox_named(mailbox.as_slice()), *copy)
-            }
+            Action::FileInto(
+                FileInto {
+                    mailbox,
+                    copy,
+                    flags,
+                    ..
+                },
+            ) => self.file_into(alloc, mailbox_named(mailbox.as_slice()), flags, *copy),
             Action::Redirect(Redirect { target, copy }) => self.send_to(alloc, target, *copy),
             Action::Vacation(reply) => self.reply_by(alloc, reply.args()),
+            Action::SetFlag(texts) => {
+                self.flags.set(alloc, texts.as_slice())?;
+                Ok(None)
+            }
+            Action::AddFlag(texts) => {
+                self.flags.add(alloc, texts.as_slice())?;
+                Ok(None)
+            }
+            Action::RemoveFlag(texts) => {
+                self.flags.remove(texts.as_slice());
+                Ok(None)
+            }
         }
     }
 
-    /// The outcome of a run that is over: the implicit keep comes last.
+    /// The outcome of a run that is over: the implicit keep comes last, with the flags as they stand.
     pub(crate) fn finish(mut self, alloc: Global) -> Result<Outcome, AllocError>
         ensures { IfOk result (λ done. outcome_view done ≡ Done (actions_of (run_state_of self))) }
     {
-        let filed = self.filed(alloc)?;
+        if !self.cancelled {
+            self.place(alloc, INBOX, &None)?;
+        }
         Ok(Outcome::Done {
-            filed,
+            filed: self.filed.into_list(),
             sent: self.sent,
             reply: self.reply,
         })
-    }
-
-    /// The mailboxes of a run that is over, each once: the implicit keep comes last.
-    fn filed(&mut self, alloc: Global) -> Result<Texts, AllocError>
-        ensures filed { IfOk result (λ filed. filed ≡ (actions_of (run_state_of self.old)).filed) }
-        ensures sent { self.new.sent ≡ self.old.sent }
-        ensures reply { self.new.reply ≡ self.old.reply }
-    {
-        if !self.cancelled {
-            self.named.push(Octets::from_slice(alloc, INBOX)?)?;
-        }
-        without_repeats(alloc, self.named.as_slice())
     }
 
     fn file_into(
         &mut self,
         alloc: Global,
         mailbox: &[u8],
+        given: &Option<Texts>,
         copy: bool,
     ) -> Result<Option<Failure>, AllocError>
-        ensures { IfOk result (λ failed. flow_of failed (run_state_of self.new) ≡ flow_of None (filed_into mailbox.now copy (run_state_of self.old))) }
+        ensures { IfOk result (λ failed. flow_of failed (run_state_of self.new)
+            ≡ flow_of None (filed_into mailbox.now (flags_given_of given.now (run_state_of self.old)) copy (run_state_of self.old))) }
     {
-        self.named.push(Octets::from_slice(alloc, mailbox)?)?;
+        self.place(alloc, mailbox, given)?;
         self.cancelled = self.cancelled || !copy;
         Ok(None)
+    }
+
+    /// One mailbox more, unless it is there, with the flags that a command gives the copy; the implicit keep stays as it is.
+    fn place(
+        &mut self,
+        alloc: Global,
+        mailbox: &[u8],
+        given: &Option<Texts>,
+    ) -> Result<(), AllocError>
+        ensures { OnOk result (run_state_of self.new ≡ filed_into mailbox.now (flags_given_of given.now (run_state_of self.old)) true (run_state_of self.old)) }
+    {
+        let mailbox = Octets::from_slice(alloc, mailbox)?;
+        if !self.filed.has(&mailbox) {
+            let flags = self.flags_given(alloc, given)?;
+            self.filed.add(alloc, Placement { mailbox, flags })?;
+        }
+        Ok(())
+    }
+
+    /// The text of the flags that a command gives a copy: those of its `:flags`, and else as they stand (RFC 5232, 5).
+    fn flags_given(&self, alloc: Global, given: &Option<Texts>) -> Result<Octets, AllocError>
+        ensures { IfOk result (λ text. text ≡ flags_given_of given.now (run_state_of self.now)) }
+    {
+        match given {
+            Some(texts) => {
+                let mut named = Flags::new(alloc);
+                named.add(alloc, texts.as_slice())?;
+                named.write(alloc)
+            }
+            None => self.flags.write(alloc),
+        }
     }
 
     fn send_to(
@@ -151,32 +192,6 @@ fn is_same(there: &Addr, target: &Addr) -> bool
 {
     there.local.as_slice() == target.local.as_slice()
         && there.domain.as_slice() == target.domain.as_slice()
-}
-
-/// Each of these mailboxes once, in the order of the first places. For n of them n log n comparisons.
-fn without_repeats(alloc: Global, named: &[Octets]) -> Result<Texts, AllocError>
-    ensures { IfOk result (λ filed. filed ≡ without_repeats_of named.now) }
-{
-    let mut known = BTreeSet::new(alloc);
-    let mut filed = Texts::new(alloc);
-    for mailbox in named {
-        if is_first(alloc, &mut known, mailbox)? {
-            filed.push(mailbox.try_clone(alloc)?)?;
-        }
-    }
-    Ok(filed)
-}
-
-/// Whether a mailbox is named for the first time; it is known from then on.
-fn is_first(
-    alloc: Global,
-    known: &mut BTreeSet<Octets>,
-    mailbox: &Octets,
-) -> Result<bool, AllocError>
-    ensures first { IfOk result (λ first. first ≡ not (contains (slice_cmp nat_cmp) known.old mailbox.now)) }
-    ensures known { OnOk result (Updates (slice_cmp nat_cmp) known.old known.new mailbox.now true) }
-{
-    Ok(known.insert(mailbox.try_clone(alloc)?)?)
 }
 
 /// The mailbox that a name means: `INBOX` in any ASCII case is `INBOX`, others are taken as they are.

@@ -1,17 +1,18 @@
 -- The token that comes next.
-use Rattle.std.proofs.Common.{◌≡◌, ℕ, ◌+◌, ◌-◌, ◌<◌, ◌≤◌, cond, inl, inr, List, [], ◌∷◌, Some, None, length, take, drop, ap, sym, ◌∙◌, subst, arith}
+use Rattle.std.proofs.Common.{◌≡◌, ℕ, ◌+◌, ◌-◌, ◌<◌, ◌≤◌, inl, inr, List, [], ◌∷◌, Some, None, length, take, drop, ap, sym, ◌∙◌, subst, arith}
 use Rattle.std.proofs.lemmas.Bool.{cases_lt}
 use Rattle.std.proofs.lemmas.List.{length-drop, drop-drop, nil_from_length}
-use Rattle.std.proofs.lemmas.List.Sums.{sum_by-append, sum_by-take-le}
+use Rattle.std.proofs.lemmas.List.Sums.{sum_by-append}
 use Rattle.octets.proofs.Lists.{some_is}
 use Rattle.sievelex.specs.declared.space.Place.TheVariants.{Between}
 use Rattle.sievelex.specs.declared.token.Token.{Token}
 use Rattle.sievelex.specs.declared.front.Front.{Front}
-use Rattle.sievelex.specs.Text.{line_ends, is_line_feed}
+use Rattle.sievelex.specs.Text.{line_ends}
 use Rattle.sievelex.specs.Front.{IsFront}
 use Rattle.sievelex.specs.Space.{IsTail}
 use Rattle.sievelex.specs.Skip.{space_from}
-use Rattle.sievelex.specs.Spelling.{IsToken, IsNext, IsPlaced, SpellsFrom}
+use Rattle.sievelex.specs.declared.scanner.Piece.{Piece}
+use Rattle.sievelex.specs.Spelling.{IsToken, IsNext, IsPlaced, SpellsFrom, placed}
 use Rattle.sievelex.specs.Shape.{IsShape}
 use Rattle.sievelex.proofs.Prefixes.{take_sum}
 use Rattle.sievelex.proofs.Gaps.{gap_is, gap_only, tail_is, tail_all, empty_none, shape_some}
@@ -43,9 +44,9 @@ line_is text ahead gap at w line feeds ae ge le fe =
     let gaps : line_ends gap ≡ line_ends (take w (drop at text)) = ap line_ends (ge ∙ ap (take w) ae) in
     omega (arith, lines_on text at w)
 
--- a line within the text
-pub line_within : (text : List ℕ) (n line : ℕ) → line ≡ 1 + line_ends (take n text) → (m : ℕ) → m ≡ line → (1 ≤ m) × (m ≤ 1 + line_ends text)
-line_within text n line le m e = (omega arith, omega (arith, sum_by-take-le (λ b. cond (is_line_feed b) 1 0) text n))
+-- the same up to a place after the gap
+pub gap_line : (text ahead gap : List ℕ) (at start line feeds : ℕ) → at ≤ start → ahead ≡ drop at text → gap ≡ take (start - at) ahead → line ≡ 1 + line_ends (take at text) → feeds ≡ line_ends gap → line + feeds ≡ 1 + line_ends (take start text)
+gap_line text ahead gap at start line feeds order ae ge le fe = line_is text ahead gap at (start - at) line feeds ae ge le fe ∙ ap (λ i. 1 + line_ends (take i text)) (omega arith)
 
 -- the next token stands within the text
 pub next_inside : (text : List ℕ) (at : ℕ) (t : Token) → IsNext text at t → t.start < length text
@@ -147,3 +148,8 @@ line_after text rest spelled feeds t h re se fe =
     let forward : t.start ≤ t.end = h.forward in
     let e : line_ends (take (t.start + (t.end - t.start)) text) ≡ line_ends (take t.end text) = ap (λ i. line_ends (take i text)) (omega arith) in
     omega (arith, lines_on text t.start (t.end - t.start))
+
+-- a token with its line
+pub lined : (text : List ℕ) (at line : ℕ) (p : Piece) → line ≡ 1 + line_ends (take p.start text) → IsNext text at (placed text p)
+    → IsNext text at (record { content = p.content; start = p.start; end = p.end; line = line })
+lined text at line p le h = record { ahead = h.ahead; gap = h.gap; forward = h.forward; token = h.token; line = le }

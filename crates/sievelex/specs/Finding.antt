@@ -12,6 +12,11 @@ abbrev pub OnFaultLine : ScriptError → (ℕ → Type 0) → Type 0
 OnFaultLine Memory p = Unit {0}
 OnFaultLine (Fault f) p = p f.line
 
+-- the error on this line, where it is a fault of the script
+abbrev pub on_line : ℕ → ScriptError → ScriptError
+on_line line Memory = Memory
+on_line line (Fault f) = Fault (record { line = line; kind = f.kind })
+
 -- this holds where a fault is answered
 abbrev pub IfFault : {X : Type 0} → Result X ScriptError → Type 0 → Type 0
 IfFault (Ok _) p = Unit {0}

@@ -4,6 +4,7 @@ use Rattle.octets.specs.Ascii.{lowered}
 use Rattle.sievelex.specs.declared.token.Content.{Content}
 use Rattle.sievelex.specs.declared.token.Content.TheVariants.{Identifier, Number}
 use Rattle.sievelex.specs.declared.token.Token.{Token}
+use Rattle.sievelex.specs.declared.scanner.Piece.{Piece}
 use Rattle.sievelex.specs.Shape.{IsShape}
 use Rattle.sievelex.specs.Space.{IsGap, IsTail}
 use Rattle.sievelex.specs.Text.{IsText, line_ends}
@@ -39,6 +40,10 @@ pub record IsPlaced (text : List ℕ) (t : Token) : Type 0 where
   pub forward : t.start ≤ t.end
   pub inside : t.end ≤ length text
   pub line : t.line ≡ 1 + line_ends (take t.start text)
+
+-- a token of the text with its line
+abbrev pub placed : List ℕ → Piece → Token
+placed text p = record { content = p.content; start = p.start; end = p.end; line = 1 + line_ends (take p.start text) }
 
 -- from this place on the text is these tokens with white space between and around them
 abbrev pub SpellsFrom : List ℕ → ℕ → List Token → Type 0

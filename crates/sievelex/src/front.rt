@@ -25,6 +25,7 @@ pub(crate) struct Front<'a> {
 
 /// The token that begins with the text's first octet. Looks at its octets alone, and at those that make
 /// it no token.
+#[inline(always)]
 pub(crate) fn read_front<'a>(
     alloc: Global,
     octets: &'a [u8],
@@ -62,6 +63,7 @@ pub(crate) fn read_front<'a>(
 }
 
 /// The identifier that begins with the text's first octet.
+#[inline(always)]
 fn read_identifier<'a>(alloc: Global, octets: &'a [u8], line: u64) -> Result<Front<'a>, ScriptError>
     requires { IsTrue (is_name_start (slice_index octets.now 0)) }
     ensures found { Finds (IsFront octets.now) result }
@@ -99,6 +101,7 @@ fn opens_text(name: &[u8], rest: &[u8]) -> bool
 }
 
 /// The tag after whose colon this text stands.
+#[inline(always)]
 fn read_tag<'a>(octets: &'a [u8], line: u64) -> Result<Front<'a>, ScriptError>
     ensures found { Finds (IsFront (58 ∷ octets.now)) result }
     ensures lines { IfFaultLine result (λ n. n ≡ line) }
@@ -117,6 +120,7 @@ fn read_tag<'a>(octets: &'a [u8], line: u64) -> Result<Front<'a>, ScriptError>
 }
 
 /// The number that begins with the text's first octet.
+#[inline(always)]
 fn read_number<'a>(octets: &'a [u8], line: u64) -> Result<Front<'a>, ScriptError>
     requires { IsTrue (is_digit (slice_index octets.now 0)) }
     ensures found { Finds (IsFront octets.now) result }
@@ -137,6 +141,7 @@ fn read_number<'a>(octets: &'a [u8], line: u64) -> Result<Front<'a>, ScriptError
 }
 
 /// The quoted string after whose opening quotation mark this text stands.
+#[inline(always)]
 fn read_string<'a>(alloc: Global, octets: &'a [u8], line: u64) -> Result<Front<'a>, ScriptError>
     ensures found { Finds (IsFront (34 ∷ octets.now)) result }
     ensures lines { IfFaultLine result (λ n. n ≡ line) }

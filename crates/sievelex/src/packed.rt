@@ -7,7 +7,7 @@ ghost use Rattle.sievelex.specs.Text.{line_ends};
 ghost use Rattle.sievelex.specs.Contents.{contents, contents_of, content_of, line_at, Appends};
 
 use crate::fault::ScriptError;
-use crate::scanner::{end_line, next};
+use crate::scanner::{end_line, next, next_piece};
 use crate::text::text_fault;
 use crate::token::{Content, Mark, Token};
 use std::alloc::{AllocError, Global};
@@ -135,6 +135,7 @@ impl<'a> Cursor<'a> {
     }
 
     /// The next token, and what follows it; none at the end. Copies nothing.
+    #[inline(always)]
     pub fn split_first(&self) -> Option<(ContentRef<'a>, Cursor<'a>)>
         ensures { MatchOption result (self.now ≡ []) (λ found. self.now ≡ content_of found.0 ∷ found.1) }
     {
@@ -190,11 +191,9 @@ fn pack_tokens(alloc: Global, text: &[u8]) -> Result<Packed, ScriptError>
         octets: Vec::new(alloc),
     };
     let mut at = 0;
-    let mut line = 1;
-    'tokens: while let Some(token) = next(alloc, text, at, line)? {
-        line = end_line(text, &token);
-        at = token.end;
-        append(&mut packed, token.content)?;
+    'tokens: while let Some(piece) = next_piece(alloc, text, at)? {
+        at = piece.end;
+        append(&mut packed, piece.content)?;
     }
     Ok(packed)
 }

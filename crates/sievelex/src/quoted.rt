@@ -23,6 +23,7 @@ pub(crate) enum Mode {
 
 /// What the string after whose opening quotation mark this text stands stands for, each line end as CRLF,
 /// and how many octets there are up to its closing quotation mark and with it. One without line ends and backslashes isn't copied.
+#[inline(always)]
 pub(crate) fn read_quoted<'a>(
     alloc: Global,
     octets: &'a [u8],

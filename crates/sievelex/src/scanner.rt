@@ -1,7 +1,7 @@
 //! The tokens of a text.
 ghost use Rattle.std.specs.Prelude.{◌≡◌, ◌+◌, ◌<◌, ◌≤◌, List, [], Some, length, take, IfOk, MatchOption};
-ghost use Rattle.sievelex.specs.Finding.{IfFault, IfFaultLine};
-ghost use Rattle.sievelex.specs.Spelling.{IsNext, IsPlaced, SpellsFrom, Spells};
+ghost use Rattle.sievelex.specs.Finding.{IfFault, IfFaultLine, on_line};
+ghost use Rattle.sievelex.specs.Spelling.{IsNext, IsPlaced, SpellsFrom, Spells, placed};
 ghost use Rattle.sievelex.specs.Text.{line_ends};
 ghost use Rattle.sievelex.specs.declared.token.Token.{Token};
 
@@ -9,7 +9,7 @@ use crate::fault::{FaultKind, ScriptError, ScriptFault};
 use crate::front::read_front;
 use crate::space::space_len;
 use crate::text::{line_feeds, text_fault};
-use crate::token::Token;
+use crate::token::{Content, Token};
 use std::alloc::Global;
 
 /// The tokens of a script, in order (RFC 5228, 8.1), each with its place and line.
@@ -48,8 +48,18 @@ fn read_tokens<'a>(alloc: Global, text: &'a [u8]) -> Result<Vec<Token<'a>>, Scri
     Ok(tokens)
 }
 
+/// A token of a text, without its line.
+#[derive(Drop)]
+pub(crate) struct Piece<'a> {
+    /// What it is and says.
+    pub(crate) content: Content<'a>,
+    /// The place of its first octet in the text, counted from 0.
+    pub(crate) start: usize,
+    /// The place after its last octet.
+    pub(crate) end: usize,
+}
+
 /// The token that comes next from a place of the text on, or none where only white space is left.
-#[inline(always)]
 pub(crate) fn next<'a>(
     alloc: Global,
     text: &'a [u8],
@@ -64,31 +74,85 @@ pub(crate) fn next<'a>(
     ensures fault { IfFault result ((ts : List Token) → SpellsFrom text.now at ts → ⊥) }
     ensures lines { IfFaultLine result (λ n. (1 ≤ n) × (n ≤ 1 + line_ends text.now)) }
 {
+    let Some(piece) = next_piece(alloc, text, at)? else {
+        return Ok(None);
+    };
+    let Piece {
+        content,
+        start,
+        end,
+    } = piece;
+    let (_, ahead) = text.split_at(at);
+    let (gap, _) = ahead.split_at(start - at);
+    Ok(Some(Token {
+        content,
+        start,
+        end,
+        line: line + line_feeds(gap),
+    }))
+}
+
+/// The same without its line: lines are counted where there is a fault, and not token by token.
+#[inline(always)]
+pub(crate) fn next_piece<'a>(
+    alloc: Global,
+    text: &'a [u8],
+    at: usize,
+) -> Result<Option<Piece<'a>>, ScriptError>
+    requires { at ≤ length text.now }
+    ensures found { IfOk result (λ o. MatchOption o (SpellsFrom text.now at []) (λ p. IsNext text.now at (placed text.now p))) }
+    ensures only { IfOk result (λ o. (t : Token) → IsNext text.now at t → MatchOption o ⊥ (λ p. Some (placed text.now p) ≡ Some t)) }
+    ensures further { IfOk result (λ o. MatchOption o (Unit {0}) (λ p. (at ≤ p.start) × (p.start ≤ p.end) × (at < p.end) × (p.end ≤ length text.now))) }
+    ensures fault { IfFault result ((ts : List Token) → SpellsFrom text.now at ts → ⊥) }
+    ensures lines { IfFaultLine result (λ n. (1 ≤ n) × (n ≤ 1 + line_ends text.now)) }
+{
     let (_, ahead) = text.split_at(at);
     let white = match space_len(ahead) {
         Ok(white) => white,
         Err(opened) => {
-            let (before, _) = ahead.split_at(opened);
-            let line = line + line_feeds(before);
             return Err(ScriptError::Fault(ScriptFault {
-                line,
+                line: line_at(text, at + opened),
                 kind: FaultKind::OpenComment,
             }));
         }
     };
-    let (gap, octets) = ahead.split_at(white);
+    let (_, octets) = ahead.split_at(white);
     if octets.is_empty() {
         return Ok(None);
     }
-    let line = line + line_feeds(gap);
-    let front = read_front(alloc, octets, line)?;
     let start = at + white;
-    Ok(Some(Token {
-        content: front.content,
-        start,
-        end: start + front.len,
-        line,
-    }))
+    match read_front(alloc, octets, 1) {
+        Ok(front) => Ok(Some(Piece {
+            content: front.content,
+            start,
+            end: start + front.len,
+        })),
+        Err(error) => Err(at_line(error, line_at(text, start))),
+    }
+}
+
+/// The same error, on this line where it is a fault of the script.
+#[cold]
+fn at_line(error: ScriptError, line: u64) -> ScriptError
+    ensures { result ≡ on_line line error }
+{
+    match error {
+        ScriptError::Memory => ScriptError::Memory,
+        ScriptError::Fault(fault) => ScriptError::Fault(ScriptFault {
+            line,
+            kind: fault.kind,
+        }),
+    }
+}
+
+/// The line of a place of the text.
+#[cold]
+fn line_at(text: &[u8], place: usize) -> u64
+    requires { place ≤ length text.now }
+    ensures { result ≡ 1 + line_ends (take place text.now) }
+{
+    let (before, _) = text.split_at(place);
+    1 + line_feeds(before)
 }
 
 /// The line on which this token of the text ends.

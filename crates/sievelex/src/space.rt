@@ -77,6 +77,7 @@ fn comment_len(octets: &[u8]) -> usize
 }
 
 /// How many octets of white space stand at the front, or where the comment begins that is not closed.
+#[inline(always)]
 pub(crate) fn space_len(octets: &[u8]) -> Result<usize, usize>
     ensures { MatchResult result
         (λ n. (n ≤ length octets.now) × (space_from Between octets.now ≡ Some (drop n octets.now)))

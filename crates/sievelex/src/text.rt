@@ -38,11 +38,15 @@ fn broken_at(text: &[u8]) -> Option<usize>
     }
 }
 
-/// Whether all octets are ASCII: such a text is UTF-8, and most scripts are.
+/// Whether all octets are ASCII: such a text is UTF-8, and most scripts are. It has no early end, so it becomes vector code.
 fn is_ascii(text: &[u8]) -> bool
     ensures { result ≡ list_all is_ascii text.now }
 {
-    text.iter().all(|octet| octet.is_ascii())
+    let mut all = true;
+    for octet in text {
+        all &= octet.is_ascii();
+    }
+    all
 }
 
 /// The place of the first NUL or lone CR.

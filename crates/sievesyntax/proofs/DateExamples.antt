@@ -1,5 +1,5 @@
 -- What `date` and `currentdate` say, and near misses.
-use Rattle.std.proofs.Common.{◌≡◌, ◌∙◌, ◌∷◌, ℕ, ℤ, pos, List, [], Some, None, true, false, refl, sym, ap, inl, inr, lit<}
+use Rattle.std.proofs.Common.{◌≡◌, ◌∙◌, ◌∷◌, ℤ, pos, List, [], Some, None, true, false, refl, sym, ap, inl, lit<}
 use Rattle.std.specs.Prelude.{codes}
 use Rattle.maildates.specs.declared.part.DatePart.TheVariants as E
 use Rattle.maildates.specs.Parts.{part_named}

@@ -1,5 +1,5 @@
 -- Where no `require` names `encoded-character`, each string is read as it is written.
-use Rattle.std.proofs.Common.{◌≡◌, ◌||◌, ℕ, zero, suc, Bool, true, false, cond, List, [], ◌∷◌, ◌++◌, length, Some, refl, sym, ap, ◌∙◌, subst}
+use Rattle.std.proofs.Common.{◌≡◌, ◌||◌, ℕ, suc, Bool, true, false, cond, List, [], ◌∷◌, ◌++◌, length, Some, refl, sym, ap, ◌∙◌, subst}
 use Rattle.std.specs.List.{list_any}
 use Rattle.std.proofs.lemmas.List.Folds.{list_any-append}
 use Rattle.octets.proofs.Lists.{some_is}
@@ -11,14 +11,13 @@ use Rattle.sievesyntax.specs.declared.table.keyword.Keyword.TheVariants as W
 use Rattle.sievesyntax.specs.declared.parser.argument.Argument.{Argument}
 use Rattle.sievesyntax.specs.declared.parser.argument.Argument.TheVariants as A
 use Rattle.sievesyntax.specs.declared.parser.decoding.Decoding.TheVariants.{Open, Named, Off}
-use Rattle.sievesyntax.specs.declared.table.capability.Capabilities.{Capabilities}
-use Rattle.sievesyntax.specs.Arguments.{IsOther, AreStrings, IsArgument, AreArguments}
+use Rattle.sievesyntax.specs.Arguments.{IsOther, AreStrings, IsArgument}
 use Rattle.sievesyntax.specs.Chains.{Chain}
 use Rattle.sievesyntax.specs.Decoding.{is_encoded_character, decoding_after, seen_from, as_read}
 use Rattle.sievesyntax.specs.Grammar.{IsStatement, AreCommands, ReadsCommand, ReadsScript}
 use Rattle.sievesyntax.specs.Lexemes.{Lexeme, keyword, text, mark, lexeme_of, lexemes_of}
 use Rattle.sievesyntax.specs.Steps.{TakesRequire, IsPastRequires, all_names}
-use Rattle.sievesyntax.specs.Table.{IsList, IsPlainCommand}
+use Rattle.sievesyntax.specs.Table.{IsList}
 use Rattle.sievesyntax.specs.Positional.{one_list}
 use Rattle.sievesyntax.specs.declared.table.tag_group.TagValue.{TagValue}
 use Rattle.sievesyntax.specs.Tags.{IsAllowed, strings_of}
@@ -138,6 +137,10 @@ past_word W.Exists after past = refl
 past_word W.MailboxExists after past = refl
 past_word W.Date after past = refl
 past_word W.CurrentDate after past = refl
+past_word W.SetFlag after past = refl
+past_word W.AddFlag after past = refl
+past_word W.RemoveFlag after past = refl
+past_word W.HasFlag after past = refl
 past_word W.Header after past = refl
 past_word W.Address after past = refl
 past_word W.Envelope after past = refl

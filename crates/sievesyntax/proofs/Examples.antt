@@ -1,8 +1,9 @@
 -- Examples of the definitions: a right one and a near miss each.
-use Rattle.std.proofs.Common.{◌≡◌, ℕ, Bool, true, false, List, [], ◌∷◌, Some, None, refl, sym, ap, get_or, arith, subst, inl, inr}
+use Rattle.std.proofs.Common.{◌≡◌, ℕ, Bool, true, false, List, [], ◌∷◌, Some, None, refl, sym, ap, ◌∙◌, get_or, arith, subst, inl, inr}
 use Rattle.std.specs.Prelude.{codes}
 use Rattle.std.specs.List.{list_all}
 use Rattle.octets.proofs.Lists.{some_pair}
+use Rattle.mailflags.specs.declared.placement.Placement.{Placement}
 use Rattle.sievelex.specs.declared.token.Mark.TheVariants as K
 use Rattle.sievesyntax.specs.declared.table.keyword.Keyword.TheVariants as W
 use Rattle.sievesyntax.specs.declared.table.tag.Tag.TheVariants as T
@@ -28,16 +29,21 @@ use Rattle.sievesyntax.specs.declared.tree.action.Action.TheVariants as D
 use Rattle.sievesyntax.specs.Lexemes.{Lexeme, keyword, tag, number, text, mark}
 use Rattle.sievesyntax.specs.Arguments.{AreStrings, AreArguments}
 use Rattle.std.proofs.lemmas.List.Elements.{Contains-push, Contains-push_cases}
-use Rattle.sievesyntax.proofs.TagLemmas.{none_there, first_there}
-use Rattle.sievesyntax.specs.Tags.{group_of, relation_name, IsTagValue, IsPlain, IsSplit}
+use Rattle.sievesyntax.proofs.TagLemmas.{none_there, first_there, plain_none}
+use Rattle.sievesyntax.specs.Chains.{Chain}
+use Rattle.sievesyntax.specs.Tags.{group_of, relation_name, IsTagValue, IsAllowed, IsPlain, IsSplit}
 use Rattle.sievesyntax.specs.Table.{SaysSize, SaysAddress, SaysEnvelope, NamesParts, is_part, IsPlainTest, IsPlainCommand}
 use Rattle.sievesyntax.specs.Tests.{IsTest, ReadsTest}
 use Rattle.sievesyntax.specs.Grammar.{ReadsScript}
 use Rattle.sievesyntax.specs.Tree.{TestTree, yes, looks, not_of, all_of, any_of, no_tests, test, list_depth, not_depth, CommandTree, choose, stop, act, no_branches, branch, Commands, no_commands, command, depth}
 use Rattle.sievesyntax.specs.Valid.{IsMailbox, IsValid, is_capability}
 use Rattle.sievesyntax.specs.Means.{Means}
-use Rattle.sievesyntax.specs.RunState.{TwoVacations}
+use Rattle.sievesyntax.specs.RunState.{RunState, TwoVacations}
 use Rattle.sievesyntax.specs.Meaning.{outcome, Done, Failed}
+
+-- a copy without flags in a mailbox
+abbrev pub into : List ℕ → Placement
+into mailbox = record { mailbox = mailbox; flags = [] }
 
 -- `:over 5` and no more before a semicolon
 arguments : AreArguments (A.Tag T.Over ∷ (A.Number 5 ∷ [])) (tag T.Over ∷ (number 5 ∷ (mark K.Semicolon ∷ []))) (mark K.Semicolon ∷ [])
@@ -83,7 +89,11 @@ no_size size says = let e : None ≡ Some size.bound = says.bound in absurd (cc 
 
 -- `keep "a"`
 no_keep : (tree : CommandTree) → IsPlainCommand W.Keep (A.Text (codes "a") ∷ []) tree → ⊥
-no_keep tree is = let e : A.Text (codes "a") ∷ [] ≡ [] = is.none in absurd (cc e)
+no_keep tree is = step is.is.tag_values is.is.split_tags.written
+  where
+    step : (tag_values : List TagValue) → Chain (IsAllowed (P.Flags ∷ [])) tag_values (A.Text (codes "a") ∷ []) is.is.positional → ⊥
+    step [] e = let bad : A.Text (codes "a") ∷ [] ≡ [] = e ∙ is.is.says.none in absurd (cc bad)
+    step (s ∷ more) (middle, (first, others)) = plain_none s (A.Text (codes "a") ∷ []) middle first.0 tt
 
 -- `FROM` is a part of the envelope, `auth` isn't one
 parts : NamesParts (codes "FROM" ∷ []) (record { from = true; to = false })
@@ -115,9 +125,22 @@ not_true = (W.Not, (keyword W.True ∷ (mark K.Semicolon ∷ []), (refl, (refl, 
 not_nothing : (inner : TestTree) (to : List Lexeme) → IsTest (not_of inner) W.Not (mark K.Semicolon ∷ []) to → ⊥
 not_nothing inner to is = let e : mark K.Semicolon ∷ [] ≡ keyword is.1.0 ∷ is.1.1.0 = is.1.1.1.0 in absurd (cc e)
 
+-- `keep` without arguments
+pub keep_bare : IsPlainCommand W.Keep [] (act (D.Keep None))
+keep_bare = record {
+  value = None;
+  is = record {
+    tag_values = [];
+    positional = [];
+    split_tags = record { written = refl; plain = tt; once = tt };
+    says = record { none = refl; flags = refl };
+  };
+  tree_is = refl;
+}
+
 -- `keep;` is a `keep` and no `stop`
-keep : ReadsScript (command (act D.Keep) no_commands) (keyword W.Keep ∷ (mark K.Semicolon ∷ []))
-keep = ([], ((W.Keep, (mark K.Semicolon ∷ [], (refl, ([], (record { spelled = refl; all = tt }, record { none = refl; tree_is = refl }))))), refl))
+keep : ReadsScript (command (act (D.Keep None)) no_commands) (keyword W.Keep ∷ (mark K.Semicolon ∷ []))
+keep = ([], ((W.Keep, (mark K.Semicolon ∷ [], (refl, ([], (record { spelled = refl; all = tt }, keep_bare))))), refl))
 
 -- a name of one octet is a mailbox, the empty one isn't
 no_mailbox : IsMailbox [] → ⊥
@@ -127,7 +150,7 @@ no_mailbox is = is.some refl
 stop_valid : IsValid (command stop no_commands)
 stop_valid = record { known = λ k d below. absurd (omega (arith, below)); stand = (tt, tt); shallow = omega arith }
 
-fileinto_bare : IsValid (command (act (D.FileInto (record { mailbox = codes "a"; copy = false; create = false }))) no_commands) → ⊥
+fileinto_bare : IsValid (command (act (D.FileInto (record { mailbox = codes "a"; copy = false; create = false; flags = None }))) no_commands) → ⊥
 fileinto_bare valid = let e : false ≡ true = valid.stand.0.0 in absurd (cc e)
 
 -- capabilities are compared by octets
@@ -148,35 +171,35 @@ block_depths : depth (command (choose (branch yes (command (choose (branch yes n
 block_depths = refl
 
 -- `fileinto "inbox"; keep; discard;` files into INBOX once; `Inbox ` is another mailbox
-inbox_once : (truth : Check → Bool) → outcome truth (command (act (D.FileInto (record { mailbox = codes "inbox"; copy = false; create = false }))) (command (act D.Keep) (command (act D.Discard) no_commands))) ≡ Done (record { filed = codes "INBOX" ∷ []; sent = []; reply = None })
+inbox_once : (truth : RunState → Check → Bool) → outcome truth (command (act (D.FileInto (record { mailbox = codes "inbox"; copy = false; create = false; flags = None }))) (command (act (D.Keep None)) (command (act D.Discard) no_commands))) ≡ Done (record { filed = into (codes "INBOX") ∷ []; sent = []; reply = None })
 inbox_once truth = refl
 
-inbox_twice : (truth : Check → Bool) → outcome truth (command (act (D.FileInto (record { mailbox = codes "Inbox "; copy = false; create = false }))) (command (act D.Keep) no_commands)) ≡ Done (record { filed = codes "Inbox " ∷ (codes "INBOX" ∷ []); sent = []; reply = None })
+inbox_twice : (truth : RunState → Check → Bool) → outcome truth (command (act (D.FileInto (record { mailbox = codes "Inbox "; copy = false; create = false; flags = None }))) (command (act (D.Keep None)) no_commands)) ≡ Done (record { filed = into (codes "Inbox ") ∷ (into (codes "INBOX") ∷ []); sent = []; reply = None })
 inbox_twice truth = refl
 
 -- `redirect` of one address twice sends once, and nothing is kept
-once : (truth : Check → Bool) → outcome truth (command (act (D.Redirect (record { target = record { local = codes "c"; domain = codes "d" }; copy = false }))) (command (act (D.Redirect (record { target = record { local = codes "c"; domain = codes "d" }; copy = false }))) no_commands)) ≡ Done (record { filed = []; sent = record { local = codes "c"; domain = codes "d" } ∷ []; reply = None })
+once : (truth : RunState → Check → Bool) → outcome truth (command (act (D.Redirect (record { target = record { local = codes "c"; domain = codes "d" }; copy = false }))) (command (act (D.Redirect (record { target = record { local = codes "c"; domain = codes "d" }; copy = false }))) no_commands)) ≡ Done (record { filed = []; sent = record { local = codes "c"; domain = codes "d" } ∷ []; reply = None })
 once truth = refl
 
 -- `fileinto :copy "x";` keeps the message too (RFC 3894, 3.1); `fileinto "x";` doesn't
-copied : (truth : Check → Bool) → outcome truth (command (act (D.FileInto (record { mailbox = codes "x"; copy = true; create = false }))) no_commands) ≡ Done (record { filed = codes "x" ∷ (codes "INBOX" ∷ []); sent = []; reply = None })
+copied : (truth : RunState → Check → Bool) → outcome truth (command (act (D.FileInto (record { mailbox = codes "x"; copy = true; create = false; flags = None }))) no_commands) ≡ Done (record { filed = into (codes "x") ∷ (into (codes "INBOX") ∷ []); sent = []; reply = None })
 copied truth = refl
 
-filed_alone : (truth : Check → Bool) → outcome truth (command (act (D.FileInto (record { mailbox = codes "x"; copy = false; create = false }))) no_commands) ≡ Done (record { filed = codes "x" ∷ []; sent = []; reply = None })
+filed_alone : (truth : RunState → Check → Bool) → outcome truth (command (act (D.FileInto (record { mailbox = codes "x"; copy = false; create = false; flags = None }))) no_commands) ≡ Done (record { filed = into (codes "x") ∷ []; sent = []; reply = None })
 filed_alone truth = refl
 
 -- `redirect :copy "c@d"; discard;` keeps nothing: what is cancelled stays cancelled
-copied_and_discarded : (truth : Check → Bool) → outcome truth (command (act (D.Redirect (record { target = record { local = codes "c"; domain = codes "d" }; copy = true }))) (command (act D.Discard) no_commands)) ≡ Done (record { filed = []; sent = record { local = codes "c"; domain = codes "d" } ∷ []; reply = None })
+copied_and_discarded : (truth : RunState → Check → Bool) → outcome truth (command (act (D.Redirect (record { target = record { local = codes "c"; domain = codes "d" }; copy = true }))) (command (act D.Discard) no_commands)) ≡ Done (record { filed = []; sent = record { local = codes "c"; domain = codes "d" } ∷ []; reply = None })
 copied_and_discarded truth = refl
 
-discarded_and_copied : (truth : Check → Bool) → outcome truth (command (act D.Discard) (command (act (D.FileInto (record { mailbox = codes "x"; copy = true; create = false }))) no_commands)) ≡ Done (record { filed = codes "x" ∷ []; sent = []; reply = None })
+discarded_and_copied : (truth : RunState → Check → Bool) → outcome truth (command (act D.Discard) (command (act (D.FileInto (record { mailbox = codes "x"; copy = true; create = false; flags = None }))) no_commands)) ≡ Done (record { filed = into (codes "x") ∷ []; sent = []; reply = None })
 discarded_and_copied truth = refl
 
 -- `vacation` keeps the message; a second one fails, after a `discard` too
-answered : (truth : Check → Bool) (args : VacArgs) → outcome truth (command (act (D.Vacation args)) no_commands) ≡ Done (record { filed = codes "INBOX" ∷ []; sent = []; reply = Some args })
+answered : (truth : RunState → Check → Bool) (args : VacArgs) → outcome truth (command (act (D.Vacation args)) no_commands) ≡ Done (record { filed = into (codes "INBOX") ∷ []; sent = []; reply = Some args })
 answered truth args = refl
 
-twice : (truth : Check → Bool) (args other : VacArgs) → outcome truth (command (act D.Discard) (command (act (D.Vacation args)) (command (act (D.Vacation other)) no_commands))) ≡ Failed TwoVacations
+twice : (truth : RunState → Check → Bool) (args other : VacArgs) → outcome truth (command (act D.Discard) (command (act (D.Vacation args)) (command (act (D.Vacation other)) no_commands))) ≡ Failed TwoVacations
 twice truth args other = refl
 
 apart : (a b : ℕ) → a ≡ 0 → b ≡ 10 → a ≡ b → ⊥

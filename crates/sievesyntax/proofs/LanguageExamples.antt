@@ -42,10 +42,12 @@ use Rattle.sievesyntax.specs.Grammar.{IsStatement, IsCommand, ReadsScript}
 use Rattle.sievesyntax.specs.Languages.{lexeme_in, lexemes_in, read_in, is_capability_before, today, before, former}
 use Rattle.sievesyntax.specs.Lexemes.{Lexeme, keyword, tag, number, text, mark, misfit, lexemes_of}
 use Rattle.sievesyntax.specs.Meaning.{Done}
+use Rattle.sievesyntax.specs.RunState.{RunState}
 use Rattle.sievesyntax.specs.Means.{MeansIn, Means}
 use Rattle.sievesyntax.specs.Tree.{looks, CommandTree, require, choose, act, no_branches, branch, Commands, no_commands, command}
 use Rattle.sievesyntax.specs.Vacations.{IsNamedAs}
 use Rattle.sievesyntax.specs.Valid.{is_capability, IsValidIn}
+use Rattle.sievesyntax.proofs.Examples.{into}
 use Rattle.sievesyntax.proofs.LanguageLaws.{still_means}
 use Rattle.sievesyntax.proofs.LanguageLemmas.{AreKnownLexemes, script_known}
 use Rattle.sievesyntax.proofs.MeansLaws.{means_only}
@@ -113,7 +115,7 @@ abbrev target : Addr
 target = record { local = codes "c"; domain = codes "d" }
 
 abbrev filing : Bool → Commands
-filing copy = command (act (D.FileInto (record { mailbox = codes "x"; copy = copy; create = false }))) no_commands
+filing copy = command (act (D.FileInto (record { mailbox = codes "x"; copy = copy; create = false; flags = None }))) no_commands
 
 abbrev redirecting : Bool → Commands
 redirecting copy = command (act (D.Redirect (record { target = target; copy = copy }))) no_commands
@@ -125,24 +127,24 @@ abbrev answering : Option ℕ → Commands
 answering seconds = command (act (D.Vacation (answer seconds))) no_commands
 
 -- a filing cancelled the implicit keep, whatever it says, and a `vacation` didn't
-filed_before : (truth : Check → Bool) (copy : Bool) → outcome_in before truth (filing copy) ≡ Done (record { filed = codes "x" ∷ []; sent = []; reply = None })
+filed_before : (truth : RunState → Check → Bool) (copy : Bool) → outcome_in before truth (filing copy) ≡ Done (record { filed = into (codes "x") ∷ []; sent = []; reply = None })
 filed_before truth copy = refl
 
-filed_today : (truth : Check → Bool) → outcome_in today truth (filing true) ≡ Done (record { filed = codes "x" ∷ (codes "INBOX" ∷ []); sent = []; reply = None })
+filed_today : (truth : RunState → Check → Bool) → outcome_in today truth (filing true) ≡ Done (record { filed = into (codes "x") ∷ (into (codes "INBOX") ∷ []); sent = []; reply = None })
 filed_today truth = refl
 
-sent_before : (truth : Check → Bool) (copy : Bool) → outcome_in before truth (redirecting copy) ≡ Done (record { filed = []; sent = target ∷ []; reply = None })
+sent_before : (truth : RunState → Check → Bool) (copy : Bool) → outcome_in before truth (redirecting copy) ≡ Done (record { filed = []; sent = target ∷ []; reply = None })
 sent_before truth copy = refl
 
-answered_before : (truth : Check → Bool) (seconds : Option ℕ) → outcome_in before truth (answering seconds) ≡ Done (record { filed = codes "INBOX" ∷ []; sent = []; reply = Some (answer seconds) })
+answered_before : (truth : RunState → Check → Bool) (seconds : Option ℕ) → outcome_in before truth (answering seconds) ≡ Done (record { filed = into (codes "INBOX") ∷ []; sent = []; reply = Some (answer seconds) })
 answered_before truth seconds = refl
 
 -- trees of the language before, one with `:copy` and one with seconds
 of_before : EachIn IsOfBefore (filing false) × EachIn IsOfBefore (answering None)
-of_before = ((refl, tt), (refl, tt))
+of_before = (((refl, refl), tt), (refl, tt))
 
 no_copy : EachIn IsOfBefore (filing true) → ⊥
-no_copy each = let e : true ≡ false = each.0 in absurd (cc e)
+no_copy each = let e : true ≡ false = each.0.0 in absurd (cc e)
 
 no_seconds : EachIn IsOfBefore (answering (Some 0)) → ⊥
 no_seconds each = let e : Some 0 ≡ None = each.0 in absurd (cc e)
@@ -174,7 +176,7 @@ nothing : IsTail []
 nothing = record { pieces = []; last = []; each = tt; comment = tt; spelled = refl }
 
 -- what `require` knows: a name alone, and no name
-one_known : (knows : List ℕ → Bool) (name : List ℕ) → knows name ≡ true → All (λ x. knows x ≡ true) (name ∷ [])
+pub one_known : (knows : List ℕ → Bool) (name : List ℕ) → knows name ≡ true → All (λ x. knows x ≡ true) (name ∷ [])
 one_known knows name is zero d within = is
 one_known knows name is (suc k) d within = absurd (omega (arith, within))
 

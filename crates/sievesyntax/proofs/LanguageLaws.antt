@@ -1,5 +1,5 @@
 -- A text of the language before keeps its meaning.
-use Rattle.std.proofs.Common.{◌≡◌, ◌||◌, ℕ, suc, Bool, true, false, cond, List, [], ◌∷◌, ◌++◌, length, Option, Some, None, refl, sym, ap, ◌∙◌, arith}
+use Rattle.std.proofs.Common.{◌≡◌, ◌||◌, ℕ, zero, suc, Bool, true, false, cond, List, [], ◌∷◌, ◌++◌, length, Option, Some, None, refl, sym, ap, ◌∙◌, arith}
 use Rattle.std.specs.Prelude.{All, slice_index_or, codes, is_some, nat_eq, nat_lt, not}
 use Rattle.std.specs.List.{list_any}
 use Rattle.std.specs.Cmp.Lexicographic.{pointwise}
@@ -8,24 +8,25 @@ use Rattle.addrparts.specs.declared.address.Addr.{Addr}
 use Rattle.sievelex.specs.Contents.{contents_of}
 use Rattle.sievesyntax.specs.declared.table.capability.Capabilities.{Capabilities}
 use Rattle.sievesyntax.specs.declared.tree.action.Action.{Action}
-use Rattle.sievesyntax.specs.declared.tree.action.Action.TheVariants.{Keep, Discard, FileInto, Redirect, Vacation}
+use Rattle.sievesyntax.specs.declared.tree.action.Action.TheVariants.{Keep, Discard, FileInto, Redirect, Vacation, SetFlag, AddFlag, RemoveFlag}
 use Rattle.sievesyntax.specs.declared.tree.checks.AddressPart.{AddressPart}
 use Rattle.sievesyntax.specs.declared.tree.checks.Collation.{Collation}
 use Rattle.sievesyntax.specs.declared.tree.checks.Matching.{Matching}
 use Rattle.sievesyntax.specs.declared.tree.checks.Check.{Check}
-use Rattle.sievesyntax.specs.declared.tree.checks.Check.TheVariants.{Size, Exists, Header, Address, Envelope, MailboxExists, Date, CurrentDate}
+use Rattle.sievesyntax.specs.declared.tree.checks.Check.TheVariants.{Size, Exists, Header, Address, Envelope, MailboxExists, Date, CurrentDate, HasFlag}
 use Rattle.sievesyntax.specs.declared.tree.vacation.VacArgs.{VacArgs}
-use Rattle.sievesyntax.specs.Before.{with_cancelled, performed_in, outcome_in, IsOfBefore, EachAction, EachInBranches, EachIn, StillMeans, IsFormerMatch, IsFormerCheck, IsFormerAction, IsUndatedCheck, EachCheck, EachCheckOf, EachAsks, EachAsksInBranches, EachAsksIn, MeansFormerly, MeansUndated}
-use Rattle.sievesyntax.specs.Languages.{Language, is_capability_before, is_former_capability, is_undated_capability, today, before, former, undated}
+use Rattle.sievesyntax.specs.Before.{with_cancelled, performed_in, outcome_in, IsOfBefore, EachAction, EachInBranches, EachIn, StillMeans, IsFormerMatch, IsFormerCheck, IsFormerAction, IsUndatedCheck, IsUnflaggedCheck, IsUnflaggedAction, EachCheck, EachCheckOf, EachAsks, EachAsksInBranches, EachAsksIn, MeansFormerly, MeansUndated, MeansUnflagged}
+use Rattle.sievesyntax.specs.Languages.{Language, is_capability_before, is_former_capability, is_undated_capability, is_unflagged_capability, today, before, former, undated, unflagged}
 use Rattle.sievesyntax.specs.Lexemes.{lexemes_of}
 use Rattle.sievesyntax.specs.Meaning.{holds, ended, outcome}
 use Rattle.sievesyntax.specs.Means.{MeansIn}
 use Rattle.sievesyntax.specs.RunState.{RunState, at_first, max_targets, TwoVacations, Flow, Going, Stopped, Failed, and_then, cancelled_after, same_target, sent_to, replied_by, performed}
-use Rattle.sievesyntax.specs.Trace.{Trace, then_runs, runs, runs_branch, runs_all, actions_run, in_turn_by, in_turn}
+use Rattle.sievesyntax.specs.Trace.{Trace, then_runs, runs_at, runs_by, runs_branch_by, runs_all_by, actions_run, in_turn_by, in_turn}
 use Rattle.sievesyntax.specs.Tree.{TestTree, yes, no, looks, not_of, all_of, any_of, Tests, no_tests, test, CommandTree, require, choose, stop, act, Branches, no_branches, branch, Commands, no_commands, command}
 use Rattle.sievesyntax.specs.Valid.{is_named, is_capability, granted_by, is_subaddress, is_relational, is_numeric, MayPart, MayMatch, MayCheck, MayTest, MayAllTest, MayAct, MayStand, MayBranch, MayAllStand, required, after_requires, IsValid, IsValidIn}
 use Rattle.sievesyntax.proofs.DecodingLemmas.{read_as_written}
 use Rattle.sievesyntax.proofs.LanguageLemmas.{read_today, decoded_today}
+use Rattle.sievesyntax.proofs.OutcomeLemmas.{unflagged_bare}
 use Rattle.sievesyntax.proofs.TraceLemmas.{outcome_in_turn}
 
 -- ---- what `require` knew
@@ -84,12 +85,26 @@ twelve_more false false false false false true g h i j k l m is = refl
 twelve_more false false false false false false true h i j k l m is = refl
 twelve_more false false false false false false false h i j k l m is = five_more h i j k l m is
 
+thirteen_more : (a b c d e f g h i j k l m n : Bool) → (a || (b || (c || (d || (e || (f || (g || (h || (i || (j || (k || (l || m)))))))))))) ≡ true
+    → (a || (b || (c || (d || (e || (f || (g || (h || (i || (j || (k || (l || (m || n))))))))))))) ≡ true
+thirteen_more true b c d e f g h i j k l m n is = refl
+thirteen_more false b c d e f g h i j k l m n is = twelve_more b c d e f g h i j k l m n is
+
 -- what was known is known
-known_undated : (name : List ℕ) → is_undated_capability name ≡ true → is_capability name ≡ true
-known_undated name =
+known_unflagged : (name : List ℕ) → is_unflagged_capability name ≡ true → is_capability name ≡ true
+known_unflagged name =
+    thirteen_more (is_named (codes "fileinto") name) (is_named (codes "envelope") name) (is_named (codes "vacation") name) (is_named (codes "comparator-i;octet") name) (is_named (codes "comparator-i;ascii-casemap") name)
+    (is_named (codes "copy") name) (is_named (codes "vacation-seconds") name) (is_named (codes "subaddress") name) (is_named (codes "relational") name) (is_named (codes "comparator-i;ascii-numeric") name)
+    (is_named (codes "encoded-character") name) (is_named (codes "mailbox") name) (is_named (codes "date") name) (is_named (codes "imap4flags") name)
+
+unflagged_then : (name : List ℕ) → is_undated_capability name ≡ true → is_unflagged_capability name ≡ true
+unflagged_then name =
     twelve_more (is_named (codes "fileinto") name) (is_named (codes "envelope") name) (is_named (codes "vacation") name) (is_named (codes "comparator-i;octet") name) (is_named (codes "comparator-i;ascii-casemap") name)
     (is_named (codes "copy") name) (is_named (codes "vacation-seconds") name) (is_named (codes "subaddress") name) (is_named (codes "relational") name) (is_named (codes "comparator-i;ascii-numeric") name)
     (is_named (codes "encoded-character") name) (is_named (codes "mailbox") name) (is_named (codes "date") name)
+
+known_undated : (name : List ℕ) → is_undated_capability name ≡ true → is_capability name ≡ true
+known_undated name is = known_unflagged name (unflagged_then name is)
 
 known_formerly : (name : List ℕ) → is_former_capability name ≡ true → is_capability name ≡ true
 known_formerly name is =
@@ -119,7 +134,7 @@ not_true : (b : Bool) → (b ≡ true → ⊥) → b ≡ false
 not_true true none = absurd (none refl)
 not_true false none = refl
 
-none_given : (seconds : Option ℕ) → (is_some seconds ≡ true → ⊥) → seconds ≡ None
+none_given : {X : Type 0} (given : Option X) → (is_some given ≡ true → ⊥) → given ≡ None
 none_given None none = refl
 none_given (Some n) none = absurd (none refl)
 
@@ -127,14 +142,21 @@ none_given (Some n) none = absurd (none refl)
 unused : (granted used : Bool) → granted ≡ false → (used ≡ true → granted ≡ true) → used ≡ true → ⊥
 unused granted used none permits is = let bad : false ≡ true = sym none ∙ permits is in absurd (cc bad)
 
--- where neither `copy` nor `vacation-seconds` is granted
-module _ (granted : Capabilities) (copy : granted.copy ≡ false) (seconds : granted.seconds ≡ false) where
+-- what isn't granted isn't asked for
+ungranted : {X : Type 0} (granted : Bool) → granted ≡ false → granted ≡ true → X
+ungranted granted none may = let bad : false ≡ true = sym none ∙ may in absurd (cc bad)
+
+-- where neither `copy` nor `vacation-seconds` nor `imap4flags` is granted
+module _ (granted : Capabilities) (copy : granted.copy ≡ false) (seconds : granted.seconds ≡ false) (flags : granted.flags ≡ false) where
   plain_action : (action : Action) → MayAct granted action → IsOfBefore action
-  plain_action Keep may = tt
+  plain_action (Keep given) may = none_given given (unused granted.flags (is_some given) flags may)
   plain_action Discard may = tt
-  plain_action (FileInto filing) may = not_true filing.copy (unused granted.copy filing.copy copy may.1)
+  plain_action (FileInto filing) may = (not_true filing.copy (unused granted.copy filing.copy copy may.1), none_given filing.flags (unused granted.flags (is_some filing.flags) flags may.3))
   plain_action (Redirect redirect) may = not_true redirect.copy (unused granted.copy redirect.copy copy may)
   plain_action (Vacation args) may = none_given args.seconds (unused granted.seconds (is_some args.seconds) seconds may.1)
+  plain_action (SetFlag texts) may = ungranted granted.flags flags may
+  plain_action (AddFlag texts) may = ungranted granted.flags flags may
+  plain_action (RemoveFlag texts) may = ungranted granted.flags flags may
 
 -- what is so of each action that may stand is so of each in a tree that may
 module _ (P : Action → Type 0) (granted : Capabilities) (each : (action : Action) → MayAct granted action → P action) where
@@ -160,13 +182,6 @@ after_each P (command (require names) more) each = (tt, after_each P more each)
 after_each P (command (choose choice) more) each = each
 after_each P (command stop more) each = each
 after_each P (command (act action) more) each = each
-
-valid_plain : (tree : Commands) → IsValidIn is_capability_before tree → EachIn IsOfBefore tree
-valid_plain tree valid =
-    let names = required tree in
-    let copy = none_named (codes "copy") names (of_all _ _ no_copy names valid.known) in
-    let seconds = none_named (codes "vacation-seconds") names (of_all _ _ no_seconds names valid.known) in
-    after_each IsOfBefore tree (each_act IsOfBefore (granted_by names) (plain_action (granted_by names) copy seconds) (after_requires tree) valid.stand)
 
 -- ---- trees that were valid in the former language have nothing new
 
@@ -201,12 +216,43 @@ no_mailbox name = apart_formerly (codes "mailbox") name refl refl refl refl refl
 no_date : (name : List ℕ) → is_former_capability name ≡ true → is_named (codes "date") name ≡ false
 no_date name = apart_formerly (codes "date") name refl refl refl refl refl refl refl
 
--- what isn't granted isn't asked for
-ungranted : {X : Type 0} (granted : Bool) → granted ≡ false → granted ≡ true → X
-ungranted granted none may = let bad : false ≡ true = sym none ∙ may in absurd (cc bad)
+no_flags : (name : List ℕ) → is_former_capability name ≡ true → is_named (codes "imap4flags") name ≡ false
+no_flags name = apart_formerly (codes "imap4flags") name refl refl refl refl refl refl refl
+
+valid_plain : (tree : Commands) → IsValidIn is_capability_before tree → EachIn IsOfBefore tree
+valid_plain tree valid =
+    let names = required tree in
+    let copy = none_named (codes "copy") names (of_all _ _ no_copy names valid.known) in
+    let seconds = none_named (codes "vacation-seconds") names (of_all _ _ no_seconds names valid.known) in
+    let flags = none_named (codes "imap4flags") names (of_all _ _ (λ name was. no_flags name (still_former name was)) names valid.known) in
+    after_each IsOfBefore tree (each_act IsOfBefore (granted_by names) (plain_action (granted_by names) copy seconds flags) (after_requires tree) valid.stand)
+
+-- where `imap4flags` isn't granted
+module _ (granted : Capabilities) (no_flag : granted.flags ≡ false) where
+  unflagged_check : (check : Check) → MayCheck granted check → IsUnflaggedCheck check
+  unflagged_check (HasFlag flag) may = ungranted granted.flags no_flag may.0
+  unflagged_check (Size size) may = tt
+  unflagged_check (Exists fields) may = tt
+  unflagged_check (Header header) may = tt
+  unflagged_check (Address address) may = tt
+  unflagged_check (Envelope envelope) may = tt
+  unflagged_check (MailboxExists names) may = tt
+  unflagged_check (Date date) may = tt
+  unflagged_check (CurrentDate current) may = tt
+
+  unflagged_action : (action : Action) → MayAct granted action → IsUnflaggedAction action
+  unflagged_action (Keep given) may = none_given given (unused granted.flags (is_some given) no_flag may)
+  unflagged_action Discard may = tt
+  unflagged_action (FileInto filing) may = none_given filing.flags (unused granted.flags (is_some filing.flags) no_flag may.3)
+  unflagged_action (Redirect redirect) may = tt
+  unflagged_action (Vacation args) may = tt
+  unflagged_action (SetFlag texts) may = ungranted granted.flags no_flag may
+  unflagged_action (AddFlag texts) may = ungranted granted.flags no_flag may
+  unflagged_action (RemoveFlag texts) may = ungranted granted.flags no_flag may
 
 -- where none of the new ones is granted
-module _ (granted : Capabilities) (none : granted.subaddress ≡ false) (no_relation : granted.relational ≡ false) (no_number : granted.numeric ≡ false) (no_box : granted.mailbox ≡ false) (no_day : granted.date ≡ false) where
+module _ (granted : Capabilities) (none : granted.subaddress ≡ false) (no_relation : granted.relational ≡ false) (no_number : granted.numeric ≡ false) (no_box : granted.mailbox ≡ false) (no_day : granted.date ≡ false)
+    (no_flag : granted.flags ≡ false) where
   former_part : (part : AddressPart) → MayPart granted part → is_subaddress part ≡ false
   former_part part may = not_true (is_subaddress part) (unused granted.subaddress (is_subaddress part) none may)
 
@@ -225,16 +271,21 @@ module _ (granted : Capabilities) (none : granted.subaddress ≡ false) (no_rela
   former_check (MailboxExists names) may = ungranted granted.mailbox no_box may
   former_check (Date date) may = ungranted granted.date no_day may.0
   former_check (CurrentDate current) may = ungranted granted.date no_day may.0
+  former_check (HasFlag flag) may = ungranted granted.flags no_flag may.0
 
   former_action : (action : Action) → MayAct granted action → IsFormerAction action
-  former_action Keep may = tt
+  former_action (Keep given) may = unflagged_action granted no_flag (Keep given) may
   former_action Discard may = tt
-  former_action (FileInto filing) may = not_true filing.create (unused granted.mailbox filing.create no_box may.2)
+  former_action (FileInto filing) may =
+      (not_true filing.create (unused granted.mailbox filing.create no_box may.2), unflagged_action granted no_flag (FileInto filing) may)
   former_action (Redirect redirect) may = tt
   former_action (Vacation args) may = tt
+  former_action (SetFlag texts) may = unflagged_action granted no_flag (SetFlag texts) may
+  former_action (AddFlag texts) may = unflagged_action granted no_flag (AddFlag texts) may
+  former_action (RemoveFlag texts) may = unflagged_action granted no_flag (RemoveFlag texts) may
 
--- where `date` isn't granted
-module _ (granted : Capabilities) (no_day : granted.date ≡ false) where
+-- where neither `date` nor `imap4flags` is granted
+module _ (granted : Capabilities) (no_day : granted.date ≡ false) (no_flag : granted.flags ≡ false) where
   undated_check : (check : Check) → MayCheck granted check → IsUndatedCheck check
   undated_check (Size size) may = tt
   undated_check (Exists fields) may = tt
@@ -244,6 +295,7 @@ module _ (granted : Capabilities) (no_day : granted.date ≡ false) where
   undated_check (MailboxExists names) may = tt
   undated_check (Date date) may = ungranted granted.date no_day may.0
   undated_check (CurrentDate current) may = ungranted granted.date no_day may.0
+  undated_check (HasFlag flag) may = ungranted granted.flags no_flag may.0
 
 -- what is so of each test that may stand is so of each in a tree that may
 module _ (P : Check → Type 0) (granted : Capabilities) (each : (check : Check) → MayCheck granted check → P check) where
@@ -291,14 +343,15 @@ valid_former tree valid =
     let no_relation = none_named (codes "relational") names (of_all _ _ no_relational names valid.known) in
     let no_number = none_named (codes "comparator-i;ascii-numeric") names (of_all _ _ no_numeric names valid.known) in
     let no_box = none_named (codes "mailbox") names (of_all _ _ no_mailbox names valid.known) in
-    let no_day = none_named (codes "date") names (of_all _ _ no_date names valid.known) in (
-      after_asks IsFormerCheck tree (each_asks IsFormerCheck granted (former_check granted none no_relation no_number no_box no_day) (after_requires tree) valid.stand),
-      after_each IsFormerAction tree (each_act IsFormerAction granted (former_action granted none no_relation no_number no_box no_day) (after_requires tree) valid.stand),
+    let no_day = none_named (codes "date") names (of_all _ _ no_date names valid.known) in
+    let no_flag = none_named (codes "imap4flags") names (of_all _ _ no_flags names valid.known) in (
+      after_asks IsFormerCheck tree (each_asks IsFormerCheck granted (former_check granted none no_relation no_number no_box no_day no_flag) (after_requires tree) valid.stand),
+      after_each IsFormerAction tree (each_act IsFormerAction granted (former_action granted none no_relation no_number no_box no_day no_flag) (after_requires tree) valid.stand),
     )
 
 -- ---- trees that were valid before `date` have no test of a date
 
--- a name that was known is none of `date`
+-- a name that was known is none of another word
 module _ (word name : List ℕ)
     (fileinto : pointwise nat_eq (codes "fileinto") word ≡ false) (envelope : pointwise nat_eq (codes "envelope") word ≡ false) (vacation : pointwise nat_eq (codes "vacation") word ≡ false)
     (octet : pointwise nat_eq (codes "comparator-i;octet") word ≡ false) (casemap : pointwise nat_eq (codes "comparator-i;ascii-casemap") word ≡ false)
@@ -318,21 +371,52 @@ module _ (word name : List ℕ)
 not_date : (name : List ℕ) → is_undated_capability name ≡ true → is_named (codes "date") name ≡ false
 not_date name = apart_undated (codes "date") name refl refl refl refl refl refl refl refl refl refl refl refl
 
-valid_undated : (tree : Commands) → IsValidIn is_undated_capability tree → EachAsksIn IsUndatedCheck tree
+undated_unflagged : (name : List ℕ) → is_undated_capability name ≡ true → is_named (codes "imap4flags") name ≡ false
+undated_unflagged name = apart_undated (codes "imap4flags") name refl refl refl refl refl refl refl refl refl refl refl refl
+
+valid_undated : (tree : Commands) → IsValidIn is_undated_capability tree → EachAsksIn IsUndatedCheck tree × EachIn IsUnflaggedAction tree
 valid_undated tree valid =
     let names = required tree in
     let no_day = none_named (codes "date") names (of_all _ _ not_date names valid.known) in
-    after_asks IsUndatedCheck tree (each_asks IsUndatedCheck (granted_by names) (undated_check (granted_by names) no_day) (after_requires tree) valid.stand)
+    let no_flag = none_named (codes "imap4flags") names (of_all _ _ undated_unflagged names valid.known) in (
+      after_asks IsUndatedCheck tree (each_asks IsUndatedCheck (granted_by names) (undated_check (granted_by names) no_day no_flag) (after_requires tree) valid.stand),
+      after_each IsUnflaggedAction tree (each_act IsUnflaggedAction (granted_by names) (unflagged_action (granted_by names) no_flag) (after_requires tree) valid.stand),
+    )
+
+-- ---- trees that were valid before `imap4flags` ask for no flag and set none
+
+not_flags : (name : List ℕ) → is_unflagged_capability name ≡ true → is_named (codes "imap4flags") name ≡ false
+not_flags name =
+    let P = is_named (codes "imap4flags") name ≡ false in
+    let flags = codes "imap4flags" in
+    either P _ _ (apart (codes "fileinto") flags name refl) (either P _ _ (apart (codes "envelope") flags name refl)
+    (either P _ _ (apart (codes "vacation") flags name refl) (either P _ _ (apart (codes "comparator-i;octet") flags name refl)
+    (either P _ _ (apart (codes "comparator-i;ascii-casemap") flags name refl) (either P _ _ (apart (codes "copy") flags name refl)
+    (either P _ _ (apart (codes "vacation-seconds") flags name refl) (either P _ _ (apart (codes "subaddress") flags name refl)
+    (either P _ _ (apart (codes "relational") flags name refl) (either P _ _ (apart (codes "comparator-i;ascii-numeric") flags name refl)
+    (either P _ _ (apart (codes "encoded-character") flags name refl) (either P _ _ (apart (codes "mailbox") flags name refl)
+    (apart (codes "date") flags name refl))))))))))))
+
+valid_unflagged : (tree : Commands) → IsValidIn is_unflagged_capability tree → EachAsksIn IsUnflaggedCheck tree × EachIn IsUnflaggedAction tree
+valid_unflagged tree valid =
+    let names = required tree in
+    let no_flag = none_named (codes "imap4flags") names (of_all _ _ not_flags names valid.known) in (
+      after_asks IsUnflaggedCheck tree (each_asks IsUnflaggedCheck (granted_by names) (unflagged_check (granted_by names) no_flag) (after_requires tree) valid.stand),
+      after_each IsUnflaggedAction tree (each_act IsUnflaggedAction (granted_by names) (unflagged_action (granted_by names) no_flag) (after_requires tree) valid.stand),
+    )
 
 -- ---- the outcome
 
 -- whether the implicit keep is cancelled after an action
 abbrev cancelled_by : Action → RunState → Bool
-cancelled_by Keep state = true
+cancelled_by (Keep given) state = true
 cancelled_by Discard state = true
 cancelled_by (FileInto filing) state = cancelled_after filing.copy state
 cancelled_by (Redirect redirect) state = cancelled_after redirect.copy state
 cancelled_by (Vacation args) state = state.cancelled
+cancelled_by (SetFlag texts) state = state.cancelled
+cancelled_by (AddFlag texts) state = state.cancelled
+cancelled_by (RemoveFlag texts) state = state.cancelled
 
 picked : (cancelled a b : Bool) (one two three : Flow) → with_cancelled cancelled one ≡ one → with_cancelled cancelled two ≡ two → with_cancelled cancelled three ≡ three
     → with_cancelled cancelled (cond a one (cond b two three)) ≡ cond a one (cond b two three)
@@ -353,11 +437,14 @@ replied_cancelled args state = step state.reply
     step (Some _) = refl
 
 cancelled_is : (action : Action) (state : RunState) → with_cancelled (cancelled_by action state) (performed action state) ≡ performed action state
-cancelled_is Keep state = refl
+cancelled_is (Keep given) state = refl
 cancelled_is Discard state = refl
 cancelled_is (FileInto filing) state = refl
 cancelled_is (Redirect redirect) state = sent_cancelled redirect.target redirect.copy state
 cancelled_is (Vacation args) state = replied_cancelled args state
+cancelled_is (SetFlag texts) state = refl
+cancelled_is (AddFlag texts) state = refl
+cancelled_is (RemoveFlag texts) state = refl
 
 or_false : (a : Bool) → (a || false) ≡ a
 or_false true = refl
@@ -369,44 +456,38 @@ copy_cancels false was = or_true was
 
 -- what cancels today and what cancelled before come to the same where there is no `:copy`
 cancels_now : (action : Action) (state : RunState) → (state.cancelled || today.cancels action) ≡ cancelled_by action state
-cancels_now Keep state = or_true state.cancelled
+cancels_now (Keep given) state = or_true state.cancelled
 cancels_now Discard state = or_true state.cancelled
 cancels_now (FileInto filing) state = copy_cancels filing.copy state.cancelled
 cancels_now (Redirect redirect) state = copy_cancels redirect.copy state.cancelled
 cancels_now (Vacation args) state = or_false state.cancelled
+cancels_now (SetFlag texts) state = or_false state.cancelled
+cancels_now (AddFlag texts) state = or_false state.cancelled
+cancels_now (RemoveFlag texts) state = or_false state.cancelled
 
 plain_cancels : (copy was : Bool) → copy ≡ false → (was || true) ≡ cond copy was true
 plain_cancels true was e = absurd (cc e)
 plain_cancels false was e = or_true was
 
 cancelled_then : (action : Action) (state : RunState) → IsOfBefore action → (state.cancelled || before.cancels action) ≡ cancelled_by action state
-cancelled_then Keep state plain = or_true state.cancelled
+cancelled_then (Keep given) state plain = or_true state.cancelled
 cancelled_then Discard state plain = or_true state.cancelled
-cancelled_then (FileInto filing) state plain = plain_cancels filing.copy state.cancelled plain
+cancelled_then (FileInto filing) state plain = plain_cancels filing.copy state.cancelled plain.0
 cancelled_then (Redirect redirect) state plain = plain_cancels redirect.copy state.cancelled plain
 cancelled_then (Vacation args) state plain = or_false state.cancelled
+cancelled_then (SetFlag texts) state plain = absurd plain
+cancelled_then (AddFlag texts) state plain = absurd plain
+cancelled_then (RemoveFlag texts) state plain = absurd plain
 
 -- each of these actions is so
 abbrev Every : (Action → Type 0) → List Action → Type 0
 Every P [] = Unit {0}
 Every P (action ∷ more) = P action × Every P more
 
--- actions that do the same in a language come to the same there
-module _ (language : Language) (P : Action → Type 0)
-    (same : (action : Action) (state : RunState) → P action → (state.cancelled || language.cancels action) ≡ cancelled_by action state) where
-  in_turn_same : (actions : List Action) → Every P actions → (state : RunState) → in_turn actions state ≡ in_turn_by (performed_in language) actions state
-  in_turn_same [] every state = refl
-  in_turn_same (action ∷ more) every state =
-      step (performed action state) (in_turn_same more every.1)
-      ∙ ap (λ flow. and_then flow (in_turn_by (performed_in language) more)) (sym (ap (λ b. with_cancelled b (performed action state)) (same action state every.0) ∙ cancelled_is action state))
-    where
-      step : (flow : Flow) → ((next : RunState) → in_turn more next ≡ in_turn_by (performed_in language) more next) → and_then flow (in_turn more) ≡ and_then flow (in_turn_by (performed_in language) more)
-      step (Going next) later = later next
-      step (Stopped next) later = refl
-      step (Failed failure) later = refl
-
-  outcome_same : (truth : Check → Bool) (tree : Commands) → Every P (actions_run truth tree) → outcome truth tree ≡ outcome_in language truth tree
-  outcome_same truth tree every = outcome_in_turn truth tree ∙ ap ended (in_turn_same (actions_run truth tree) every at_first)
+every_all : (P : Action → Type 0) (actions : List Action) → Every P actions → All P actions
+every_all P [] every k d within = absurd (omega (arith, within))
+every_all P (action ∷ more) every zero d within = every.0
+every_all P (action ∷ more) every (suc k) d within = every_all P more every.1 k d (omega (arith, within))
 
 -- what is so of each action in a tree is so of those that are run
 module _ (P : Action → Type 0) where
@@ -418,34 +499,96 @@ module _ (P : Action → Type 0) where
   then_every (actions, true) two a b = a
   then_every (actions, false) two a b = every_append actions two.0 a b
 
+  at_every : (flow : Flow) (more : RunState → Trace) → ((next : RunState) → Every P (more next).0) → Every P (runs_at flow more).0
+  at_every (Going next) more each = each next
+  at_every (Stopped next) more each = tt
+  at_every (Failed failure) more each = tt
+
   pick_every : (b : Bool) (one two : Trace) → Every P one.0 → Every P two.0 → Every P (cond b one two).0
   pick_every true one two x y = x
   pick_every false one two x y = y
 
   mutual
-    command_runs : (truth : Check → Bool) (tree : CommandTree) → EachAction P tree → Every P (runs truth tree).0
-    command_runs truth (require names) each = tt
-    command_runs truth (choose branches) each = branches_run truth branches each
-    command_runs truth stop each = tt
-    command_runs truth (act action) each = (each, tt)
+    command_runs : (truth : RunState → Check → Bool) (tree : CommandTree) → EachAction P tree → (state : RunState) → Every P (runs_by performed truth tree state).0
+    command_runs truth (require names) each state = tt
+    command_runs truth (choose branches) each state = branches_run truth branches each state
+    command_runs truth stop each state = tt
+    command_runs truth (act action) each state = (each, tt)
 
-    branches_run : (truth : Check → Bool) (branches : Branches) → EachInBranches P branches → Every P (runs_branch truth branches).0
-    branches_run truth no_branches each = tt
-    branches_run truth (branch condition block more) each =
-        pick_every (holds truth condition) (runs_all truth block) (runs_branch truth more) (commands_run truth block each.0) (branches_run truth more each.1)
+    branches_run : (truth : RunState → Check → Bool) (branches : Branches) → EachInBranches P branches → (state : RunState) → Every P (runs_branch_by performed truth branches state).0
+    branches_run truth no_branches each state = tt
+    branches_run truth (branch condition block more) each state =
+        pick_every (holds (truth state) condition) (runs_all_by performed truth block state) (runs_branch_by performed truth more state) (commands_run truth block each.0 state) (branches_run truth more each.1 state)
 
-    commands_run : (truth : Check → Bool) (commands : Commands) → EachIn P commands → Every P (runs_all truth commands).0
-    commands_run truth no_commands each = tt
-    commands_run truth (command first more) each = then_every (runs truth first) (runs_all truth more) (command_runs truth first each.0) (commands_run truth more each.1)
+    commands_run : (truth : RunState → Check → Bool) (commands : Commands) → EachIn P commands → (state : RunState) → Every P (runs_all_by performed truth commands state).0
+    commands_run truth no_commands each state = tt
+    commands_run truth (command first more) each state =
+        let one = runs_by performed truth first state in
+        let flow = in_turn one.0 state in
+        then_every one (runs_at flow (runs_all_by performed truth more)) (command_runs truth first each.0 state) (at_every flow (runs_all_by performed truth more) (λ next. commands_run truth more each.1 next))
+
+-- actions that do the same in a language come to the same there
+module _ (language : Language) (P : Action → Type 0)
+    (same : (action : Action) (state : RunState) → P action → (state.cancelled || language.cancels action) ≡ cancelled_by action state) where
+  performed_same : (action : Action) (state : RunState) → P action → performed action state ≡ performed_in language action state
+  performed_same action state so = sym (ap (λ b. with_cancelled b (performed action state)) (same action state so) ∙ cancelled_is action state)
+
+  in_turn_same : (actions : List Action) → Every P actions → (state : RunState) → in_turn actions state ≡ in_turn_by (performed_in language) actions state
+  in_turn_same [] every state = refl
+  in_turn_same (action ∷ more) every state =
+      step (performed action state) (in_turn_same more every.1)
+      ∙ ap (λ flow. and_then flow (in_turn_by (performed_in language) more)) (performed_same action state every.0)
+    where
+      step : (flow : Flow) → ((next : RunState) → in_turn more next ≡ in_turn_by (performed_in language) more next) → and_then flow (in_turn more) ≡ and_then flow (in_turn_by (performed_in language) more)
+      step (Going next) later = later next
+      step (Stopped next) later = refl
+      step (Failed failure) later = refl
+
+  -- and so they are the same actions, whatever the tests ask of the state
+  mutual
+    command_same : (truth : RunState → Check → Bool) (tree : CommandTree) → EachAction P tree → (state : RunState) → runs_by performed truth tree state ≡ runs_by (performed_in language) truth tree state
+    command_same truth (require names) each state = refl
+    command_same truth (choose branches) each state = branches_same truth branches each state
+    command_same truth stop each state = refl
+    command_same truth (act action) each state = refl
+
+    branches_same : (truth : RunState → Check → Bool) (branches : Branches) → EachInBranches P branches → (state : RunState) → runs_branch_by performed truth branches state ≡ runs_branch_by (performed_in language) truth branches state
+    branches_same truth no_branches each state = refl
+    branches_same truth (branch condition block more) each state = λ i. cond (holds (truth state) condition) (commands_same truth block each.0 state i) (branches_same truth more each.1 state i)
+
+    commands_same : (truth : RunState → Check → Bool) (commands : Commands) → EachIn P commands → (state : RunState) → runs_all_by performed truth commands state ≡ runs_all_by (performed_in language) truth commands state
+    commands_same truth no_commands each state = refl
+    commands_same truth (command first more) each state =
+        let one : runs_by performed truth first state ≡ runs_by (performed_in language) truth first state = command_same truth first each.0 state in
+        let flow : in_turn (runs_by performed truth first state).0 state ≡ in_turn_by (performed_in language) (runs_by (performed_in language) truth first state).0 state =
+        in_turn_same (runs_by performed truth first state).0 (command_runs P truth first each.0 state) state ∙ ap (λ (trace : Trace). in_turn_by (performed_in language) trace.0 state) one in
+        λ i. then_runs (one i) (runs_at (flow i) (λ next. commands_same truth more each.1 next i))
+
+  outcome_same : (truth : RunState → Check → Bool) (tree : Commands) → EachIn P tree → outcome truth tree ≡ outcome_in language truth tree
+  outcome_same truth tree each =
+      outcome_in_turn truth tree
+      ∙ ap ended (in_turn_same (actions_run truth tree) (commands_run P truth tree each at_first) at_first ∙ ap (λ (trace : Trace). in_turn_by (performed_in language) trace.0 at_first) (commands_same truth tree each at_first))
 
 -- ---- the law
 
-pub todays_outcome : (truth : Check → Bool) (tree : Commands) → outcome truth tree ≡ outcome_in today truth tree
-todays_outcome truth tree = outcome_same today (λ action. Unit {0}) (λ action state any. cancels_now action state) truth tree (all (actions_run truth tree))
-  where
-    all : (actions : List Action) → Every (λ action. Unit {0}) actions
-    all [] = tt
-    all (action ∷ more) = (tt, all more)
+-- all actions are actions
+mutual
+  any_command : (tree : CommandTree) → EachAction (λ action. Unit {0}) tree
+  any_command (require names) = tt
+  any_command (choose branches) = any_branches branches
+  any_command stop = tt
+  any_command (act action) = tt
+
+  any_branches : (branches : Branches) → EachInBranches (λ action. Unit {0}) branches
+  any_branches no_branches = tt
+  any_branches (branch condition block more) = (any_commands block, any_branches more)
+
+  any_commands : (commands : Commands) → EachIn (λ action. Unit {0}) commands
+  any_commands no_commands = tt
+  any_commands (command first more) = (any_command first, any_commands more)
+
+pub todays_outcome : (truth : RunState → Check → Bool) (tree : Commands) → outcome truth tree ≡ outcome_in today truth tree
+todays_outcome truth tree = outcome_same today (λ action. Unit {0}) (λ action state any. cancels_now action state) truth tree (any_commands tree)
 
 still_valid : (tree : Commands) → IsValidIn is_capability_before tree → IsValid tree
 still_valid tree valid = record { known = of_all _ _ still_known (required tree) valid.known; stand = valid.stand; shallow = valid.shallow }
@@ -462,7 +605,7 @@ still_means text tree means =
         valid = still_valid tree means.valid;
       };
       actions = plain;
-      same = λ truth. outcome_same before IsOfBefore cancelled_then truth tree (commands_run IsOfBefore truth tree plain);
+      same = λ truth. outcome_same before IsOfBefore cancelled_then truth tree plain;
     }
 
 pub means_formerly : (text : List ℕ) (tree : Commands) → MeansIn former text tree → MeansFormerly text tree
@@ -490,6 +633,21 @@ means_undated text tree means = record {
     read = decoded_today undated (contents_of means.tokens) tree means.read;
     valid = record { known = of_all _ _ known_undated (required tree) means.valid.known; stand = means.valid.stand; shallow = means.valid.shallow };
   };
-  checks = valid_undated tree means.valid;
+  checks = (valid_undated tree means.valid).0;
+  actions = (valid_undated tree means.valid).1;
   same = λ truth. todays_outcome truth tree;
+}
+
+pub means_unflagged : (text : List ℕ) (tree : Commands) → MeansIn unflagged text tree → MeansUnflagged text tree
+means_unflagged text tree means = record {
+  means = record {
+    tokens = means.tokens;
+    spelled = means.spelled;
+    read = decoded_today unflagged (contents_of means.tokens) tree means.read;
+    valid = record { known = of_all _ _ known_unflagged (required tree) means.valid.known; stand = means.valid.stand; shallow = means.valid.shallow };
+  };
+  checks = (valid_unflagged tree means.valid).0;
+  actions = (valid_unflagged tree means.valid).1;
+  same = λ truth. todays_outcome truth tree;
+  bare = λ truth. unflagged_bare truth tree (every_all IsUnflaggedAction (actions_run truth tree) (commands_run IsUnflaggedAction truth tree (valid_unflagged tree means.valid).1 at_first));
 }

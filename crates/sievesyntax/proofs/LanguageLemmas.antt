@@ -90,6 +90,7 @@ tag_value_known S.Copy from to e so = first_known _ from to e tt so
 tag_value_known S.Create from to e so = first_known _ from to e tt so
 tag_value_known (S.Zone zone) from to (string, (e, is)) so = first_known _ from _ e tt (tt, so)
 tag_value_known S.OriginalZone from to e so = first_known _ from to e tt so
+tag_value_known (S.Flags texts) from to (value, (e, strings)) so = first_known _ from _ e tt (strings_known value texts strings, so)
 
 tag_values_known : (allowed : List TagGroup) (tag_values : List TagValue) (from to : List Argument) → Chain (IsAllowed allowed) tag_values from to → AreKnown to → AreKnown from
 tag_values_known allowed [] from to e so = subst AreKnown (sym e) so
@@ -177,17 +178,21 @@ test_known W.Address args tree is = row_known _ _ _ (λ s p address says. lists_
 test_known W.MailboxExists args tree is = row_known _ _ _ (λ s p names says. list_known p names says) args tree is
 test_known W.Date args tree is = row_known _ _ _ (λ s p date says. three_known p (date.field, (says.name, date.keys)) says.arguments) args tree is
 test_known W.CurrentDate args tree is = row_known _ _ _ (λ s p current says. two_known p (says.name, current.keys) says.arguments) args tree is
+test_known W.HasFlag args tree is = row_known _ _ _ (λ s p flag says. list_known p flag.keys says.keys) args tree is
 test_known W.Envelope args tree is = row_known _ _ _ (λ s p envelope says. lists_known p (says.names, envelope.keys) says.lists) args tree is
 test_known _ args tree is = absurd is
 
 command_known : (name : Keyword) (args : List Argument) (tree : CommandTree) → IsPlainCommand name args tree → AreKnown args
 command_known W.Require args tree is = row_known _ _ _ (λ s p names says. list_known p names says) args tree is
 command_known W.Stop args tree is = none_known args is.none
-command_known W.Keep args tree is = none_known args is.none
+command_known W.Keep args tree is = row_known _ _ _ (λ s p given says. none_known p says.none) args tree is
 command_known W.Discard args tree is = none_known args is.none
 command_known W.FileInto args tree is = row_known _ _ _ (λ s p filing says. text_known p filing.mailbox says.mailbox) args tree is
 command_known W.Redirect args tree is = row_known _ _ _ (λ s p redirect says. text_known p says.text says.is_text) args tree is
 command_known W.Vacation args tree is = row_known _ _ _ (λ s p vacation says. text_known p vacation.reason says.reason) args tree is
+command_known W.SetFlag args tree is = row_known _ _ _ (λ s p texts says. list_known p texts says) args tree is
+command_known W.AddFlag args tree is = row_known _ _ _ (λ s p texts says. list_known p texts says) args tree is
+command_known W.RemoveFlag args tree is = row_known _ _ _ (λ s p texts says. list_known p texts says) args tree is
 command_known _ args tree is = absurd is
 
 -- ---- lexemes that are read: where those after it are known, so are those of it

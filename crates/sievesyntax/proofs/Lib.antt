@@ -23,3 +23,4 @@ pub mod DecodingLemmas
 pub mod LanguageLemmas
 pub mod LanguageLaws
 pub mod LanguageExamples
+pub mod FlagExamples

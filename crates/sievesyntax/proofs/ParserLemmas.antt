@@ -35,6 +35,10 @@ not_choose W.Exists args chosen is = is
 not_choose W.MailboxExists args chosen is = is
 not_choose W.Date args chosen is = is
 not_choose W.CurrentDate args chosen is = is
+not_choose W.SetFlag args chosen is = let e = is.tree_is in cc
+not_choose W.AddFlag args chosen is = let e = is.tree_is in cc
+not_choose W.RemoveFlag args chosen is = let e = is.tree_is in cc
+not_choose W.HasFlag args chosen is = is
 not_choose W.Header args chosen is = is
 not_choose W.Address args chosen is = is
 not_choose W.Envelope args chosen is = is

@@ -21,7 +21,7 @@ use Rattle.sievesyntax.specs.Tree.{TestTree, yes, no, looks, not_of, all_of, any
 use Rattle.sievesyntax.proofs.ArgumentLemmas.{IsMarked, end_none}
 use Rattle.sievesyntax.proofs.TagLemmas.{tag_value_only, plain_none}
 use Rattle.sievesyntax.proofs.TestLemmas.{is_plain}
-use Rattle.sievesyntax.proofs.TableLemmas.{size_same, header_same, address_same, envelope_same, date_same, current_date_same}
+use Rattle.sievesyntax.proofs.TableLemmas.{size_same, header_same, address_same, envelope_same, date_same, current_date_same, has_flag_same, keep_same}
 use Rattle.sievesyntax.proofs.VacationLemmas.{file_into_same, redirect_same, vacation_same}
 
 -- things one after another, up to where they are done, are one list
@@ -103,6 +103,7 @@ plain_test_same W.Exists args t u a b = row_same _ _ args (list_same args) t u a
 plain_test_same W.MailboxExists args t u a b = row_same _ _ args (list_same args) t u a b
 plain_test_same W.Date args t u a b = row_same _ _ args (call_same _ _ date_same args) t u a b
 plain_test_same W.CurrentDate args t u a b = row_same _ _ args (call_same _ _ current_date_same args) t u a b
+plain_test_same W.HasFlag args t u a b = row_same _ _ args (call_same _ _ has_flag_same args) t u a b
 plain_test_same W.Header args t u a b = row_same _ _ args (call_same _ _ header_same args) t u a b
 plain_test_same W.Address args t u a b = row_same _ _ args (call_same _ _ address_same args) t u a b
 plain_test_same W.Envelope args t u a b = row_same _ _ args (call_same _ _ envelope_same args) t u a b
@@ -111,11 +112,14 @@ plain_test_same _ args t u a b = absurd a
 plain_command_same : (name : Keyword) (args : List Argument) (t u : CommandTree) → IsPlainCommand name args t → IsPlainCommand name args u → t ≡ u
 plain_command_same W.Require args t u a b = row_same _ _ args (list_same args) t u a b
 plain_command_same W.Stop args t u a b = a.tree_is ∙ sym b.tree_is
-plain_command_same W.Keep args t u a b = a.tree_is ∙ sym b.tree_is
+plain_command_same W.Keep args t u a b = row_same _ _ args (call_same _ _ keep_same args) t u a b
 plain_command_same W.Discard args t u a b = a.tree_is ∙ sym b.tree_is
 plain_command_same W.FileInto args t u a b = row_same _ _ args (call_same _ _ file_into_same args) t u a b
 plain_command_same W.Redirect args t u a b = row_same _ _ args (call_same _ _ redirect_same args) t u a b
 plain_command_same W.Vacation args t u a b = row_same _ _ args (call_same _ _ vacation_same args) t u a b
+plain_command_same W.SetFlag args t u a b = row_same _ _ args (list_same args) t u a b
+plain_command_same W.AddFlag args t u a b = row_same _ _ args (list_same args) t u a b
+plain_command_same W.RemoveFlag args t u a b = row_same _ _ args (list_same args) t u a b
 plain_command_same _ args t u a b = absurd a
 
 -- what stands after a name or a mark that is known

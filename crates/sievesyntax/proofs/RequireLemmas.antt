@@ -64,6 +64,10 @@ require_keyword W.Exists args names is = absurd is
 require_keyword W.MailboxExists args names is = absurd is
 require_keyword W.Date args names is = absurd is
 require_keyword W.CurrentDate args names is = absurd is
+require_keyword W.SetFlag args names is = let e = is.tree_is in cc
+require_keyword W.AddFlag args names is = let e = is.tree_is in cc
+require_keyword W.RemoveFlag args names is = let e = is.tree_is in cc
+require_keyword W.HasFlag args names is = absurd is
 require_keyword W.Header args names is = absurd is
 require_keyword W.Address args names is = absurd is
 require_keyword W.Envelope args names is = absurd is
@@ -91,6 +95,10 @@ past_keyword W.Exists after other = tt
 past_keyword W.MailboxExists after other = tt
 past_keyword W.Date after other = tt
 past_keyword W.CurrentDate after other = tt
+past_keyword W.SetFlag after other = tt
+past_keyword W.AddFlag after other = tt
+past_keyword W.RemoveFlag after other = tt
+past_keyword W.HasFlag after other = tt
 past_keyword W.Header after other = tt
 past_keyword W.Address after other = tt
 past_keyword W.Envelope after other = tt
@@ -121,7 +129,7 @@ granted_push old new each names was made =
     let also : (keyword : List ℕ) → list_any (is_named keyword) (all_names each) || list_any (is_named keyword) names ≡ list_any (is_named keyword) (all_names (each ++ names ∷ [])) =
     λ keyword. sym (list_any-append (is_named keyword) (all_names each) names) ∙ ap (list_any (is_named keyword)) (sym (all_names-push each names)) in
     let now : granted_too (granted_by (all_names each)) names ≡ granted_by (all_names (each ++ names ∷ [])) =
-    λ i. record { fileinto = also (codes "fileinto") i; envelope = also (codes "envelope") i; vacation = also (codes "vacation") i; copy = also (codes "copy") i; seconds = also (codes "vacation-seconds") i; subaddress = also (codes "subaddress") i; relational = also (codes "relational") i; numeric = also (codes "comparator-i;ascii-numeric") i; mailbox = also (codes "mailbox") i; date = also (codes "date") i } in
+    λ i. record { fileinto = also (codes "fileinto") i; envelope = also (codes "envelope") i; vacation = also (codes "vacation") i; copy = also (codes "copy") i; seconds = also (codes "vacation-seconds") i; subaddress = also (codes "subaddress") i; relational = also (codes "relational") i; numeric = also (codes "comparator-i;ascii-numeric") i; mailbox = also (codes "mailbox") i; date = also (codes "date") i; flags = also (codes "imap4flags") i } in
     made ∙ ap (λ g. granted_too g names) was ∙ now
 
 module _ (whole : List Lexeme) (each : List (List (List ℕ))) (rest : List Lexeme) (so : IsSoFar TakesRequire IsPastRequires whole each rest) where

@@ -1,5 +1,5 @@
 -- Examples of what whole texts mean: a right one and a near miss.
-use Rattle.std.proofs.Common.{◌≡◌, ℕ, ◌<◌, zero, suc, Bool, true, false, List, [], ◌∷◌, length, get_or, Some, refl, ap, sym, subst, arith, lit<, lit≤}
+use Rattle.std.proofs.Common.{◌≡◌, ℕ, ◌<◌, zero, suc, Bool, true, false, List, [], ◌∷◌, length, get_or, Some, None, refl, ap, sym, subst, arith, lit<, lit≤}
 use Rattle.std.specs.Prelude.{codes, nat_lt}
 use Rattle.std.specs.List.{list_all}
 use Rattle.std.specs.Str.{IsAscii}
@@ -32,6 +32,7 @@ use Rattle.sievesyntax.specs.Tree.{CommandTree, require, choose, stop, act, no_b
 use Rattle.sievesyntax.specs.Decoding.{as_read}
 use Rattle.sievesyntax.specs.Grammar.{IsStatement, IsCommand, ReadsScript}
 use Rattle.sievesyntax.specs.Means.{Means}
+use Rattle.sievesyntax.proofs.Examples.{keep_bare}
 
 -- what no octet of a text is stands at no place of it
 no_octet : (p : ℕ → Bool) (n : ℕ) (s : List ℕ) → list_all p s ≡ true → p n ≡ false → (i : ℕ) → i < length s → get_or s i 0 ≡ n → ⊥
@@ -87,7 +88,7 @@ last : IsTail (codes " # a")
 last = record { pieces = White 32 ∷ []; last = codes "# a"; each = (refl, tt); comment = (refl, refl); spelled = refl }
 
 -- `keep; # a` means a `keep`
-keeps : Means (codes "keep; # a") (command (act D.Keep) no_commands)
+keeps : Means (codes "keep; # a") (command (act (D.Keep None)) no_commands)
 keeps = record {
   tokens = keep_token ∷ (semicolon ∷ []);
   spelled = record {
@@ -97,8 +98,8 @@ keeps = record {
       (next_found (codes "keep; # a") (codes "; # a") 4 4 1 (record { content = C.Mark K.Semicolon; len = 1 }) second_ahead (some_octets 4) refl semicolon_found.0, last),
     );
   };
-  read = ([], ((W.Keep, (mark K.Semicolon ∷ [], (refl, ([], (record { spelled = refl; all = tt }, record { none = refl; tree_is = refl }))))), refl));
-  valid = record { known = λ k d below. absurd (omega (arith, below)); stand = (tt, tt); shallow = omega arith };
+  read = ([], ((W.Keep, (mark K.Semicolon ∷ [], (refl, ([], (record { spelled = refl; all = tt }, keep_bare))))), refl));
+  valid = record { known = λ k d below. absurd (omega (arith, below)); stand = (λ used. absurd (cc used), tt); shallow = omega arith };
 }
 
 -- no command is a word alone

@@ -1,5 +1,5 @@
 -- Lemmas on the rows of the table.
-use Rattle.std.proofs.Common.{◌≡◌, ℕ, List, [], Some, None, Result, Ok, Err, sym, ap, ◌∙◌, subst}
+use Rattle.std.proofs.Common.{◌≡◌, ℕ, List, [], Option, Some, None, Result, Ok, Err, sym, ap, ◌∙◌, subst}
 use Rattle.octets.proofs.Lists.{some_is, some_pair}
 use Rattle.maildates.specs.Parts.{part_named}
 use Rattle.sievesyntax.specs.declared.error.ReadError.{ReadError}
@@ -10,13 +10,14 @@ use Rattle.sievesyntax.specs.declared.tree.checks.EnvelopeTest.{EnvelopeTest}
 use Rattle.sievesyntax.specs.declared.tree.checks.EnvelopeParts.{EnvelopeParts}
 use Rattle.sievesyntax.specs.declared.tree.checks.DateTest.{DateTest}
 use Rattle.sievesyntax.specs.declared.tree.checks.CurrentDate.{CurrentDate}
+use Rattle.sievesyntax.specs.declared.tree.checks.HasFlag.{HasFlag}
 use Rattle.sievesyntax.specs.declared.parser.argument.Argument.{Argument}
 use Rattle.sievesyntax.specs.declared.table.tag_group.TagValue.{TagValue}
 use Rattle.sievesyntax.specs.declared.table.tag_group.TagGroup.{TagGroup}
 use Rattle.sievesyntax.specs.Parsing.{Finds, OnFault}
 use Rattle.sievesyntax.specs.Tags.{IsSplit, IsSplitAlone, IsCall}
 use Rattle.sievesyntax.specs.Positional.{two_lists, text_and_list, two_texts_and_list}
-use Rattle.sievesyntax.specs.Table.{SaysSize, SaysHeader, SaysAddress, SaysEnvelope, SaysDate, SaysCurrentDate, NamesParts, IsRow, IsBare}
+use Rattle.sievesyntax.specs.Table.{SaysSize, SaysHeader, SaysAddress, SaysEnvelope, SaysDate, SaysCurrentDate, SaysHasFlag, SaysKeep, NamesParts, IsRow, IsBare}
 use Rattle.sievesyntax.proofs.FaultLemmas.{fault_on}
 
 -- the rows of words with arguments
@@ -118,6 +119,19 @@ module _ (tag_values : List TagValue) (positional : List Argument) where
       let both = some_pair (a.name, x.keys) (b.name, y.keys) (sym a.arguments ∙ b.arguments) in
       let part : x.part ≡ y.part = some_is x.part y.part (sym a.part ∙ (ap part_named both.0 ∙ b.part)) in
       λ i. record { zone = zone i; comparator = comparator i; matching = matching i; part = part i; keys = both.1 i }
+
+  pub has_flag_same : (x y : HasFlag) → SaysHasFlag tag_values positional x → SaysHasFlag tag_values positional y → x ≡ y
+  has_flag_same x y a b =
+      let comparator : x.comparator ≡ y.comparator = a.comparator ∙ sym b.comparator in
+      let matching : x.matching ≡ y.matching = a.matching ∙ sym b.matching in
+      let keys : x.keys ≡ y.keys = some_is x.keys y.keys (sym a.keys ∙ b.keys) in
+      λ i. record { comparator = comparator i; matching = matching i; keys = keys i }
+
+  pub keep_same : (x y : Option (List (List ℕ))) → SaysKeep tag_values positional x → SaysKeep tag_values positional y → x ≡ y
+  keep_same x y a b = a.flags ∙ sym b.flags
+
+  pub keep_extra : (positional ≡ [] → ⊥) → (x : Option (List (List ℕ))) → SaysKeep tag_values positional x → ⊥
+  keep_extra some x says = some says.none
 
   -- what names no part of a date
   pub date_no_part : (field name : List ℕ) (keys : List (List ℕ)) → two_texts_and_list positional ≡ Some (field, (name, keys)) → part_named name ≡ None → (x : DateTest) → SaysDate tag_values positional x → ⊥

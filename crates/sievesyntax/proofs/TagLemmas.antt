@@ -1,6 +1,7 @@
 -- Lemmas on tags.
-use Rattle.std.proofs.Common.{◌≡◌, ℕ, ℤ, List, [], ◌∷◌, ◌++◌, map, Option, Some, None, option_map, cond, codes, nat_eq, refl, sym, ap, ◌∙◌, subst, arith, inl, inr}
+use Rattle.std.proofs.Common.{◌≡◌, ℕ, ℤ, List, [], ◌∷◌, ◌++◌, map, Option, Some, None, option_map, cond, codes, nat_eq, refl, sym, ap, ◌∙◌, subst, length, get_or, ◌<◌, arith, inl, inr}
 use Rattle.std.specs.List.{Contains}
+use Rattle.std.proofs.lemmas.List.{get_or-map, length-map}
 use Rattle.std.proofs.lemmas.List.Elements.{Contains-append_left, Contains-append_right, Contains-append_cases, Contains-push, Contains-push_cases}
 use Rattle.std.specs.Cmp.Lexicographic.{pointwise}
 use Rattle.octets.proofs.Lists.{some_pair}
@@ -62,6 +63,7 @@ tag_value_read (A.Tag T.Subject ∷ (A.Text s ∷ to)) = Some (S.Subject s, to)
 tag_value_read (A.Tag T.From ∷ (A.Text s ∷ to)) = Some (S.From s, to)
 tag_value_read (A.Tag T.Handle ∷ (A.Text s ∷ to)) = Some (S.Handle s, to)
 tag_value_read (A.Tag T.Addresses ∷ (a ∷ to)) = option_map (λ xs. (S.Addresses xs, to)) (strings_of a)
+tag_value_read (A.Tag T.Flags ∷ (a ∷ to)) = option_map (λ xs. (S.Flags xs, to)) (strings_of a)
 tag_value_read _ = None
 
 tag_value_again : (s : TagValue) (from to : List Argument) → IsTagValue s from to → tag_value_read from ≡ Some (s, to)
@@ -101,6 +103,7 @@ tag_value_again S.Copy from to at = ap tag_value_read at
 tag_value_again S.Create from to at = ap tag_value_read at
 tag_value_again (S.Zone zone) from to (string, (at, is)) = ap tag_value_read at ∙ ap (option_map (λ z. (S.Zone z, to))) (numeric_again string zone is)
 tag_value_again S.OriginalZone from to at = ap tag_value_read at
+tag_value_again (S.Flags xs) from to at = ap tag_value_read at.1.0 ∙ ap (option_map (λ ys. (S.Flags ys, to))) at.1.1
 
 -- where no zone follows, no tag stands at the front
 pub zone_nowhere : (args : List Argument) → ((s : List ℕ) (zone : ℤ) (to : List Argument) → args ≡ A.Text s ∷ to → IsOffset s zone → ⊥) → (s : TagValue) (to : List Argument) → IsTagValue s (A.Tag T.Zone ∷ args) to → ⊥
@@ -116,6 +119,16 @@ zone_nowhere args none s to at = step args none (tag_value_again s (A.Tag T.Zone
 -- at most one tag stands at the front
 pub tag_value_only : (s t : TagValue) (from to end : List Argument) → IsTagValue s from to → IsTagValue t from end → (t ≡ s) × (end ≡ to)
 tag_value_only s t from to end at also = some_pair (t, end) (s, to) (sym (tag_value_again t from end also) ∙ tag_value_again s from to at)
+
+-- a group is that of a tag
+pub group_there : (tags : List TagValue) (k : ℕ) (d : TagValue) (group : TagGroup) → k < length tags → group_of (get_or tags k d) ≡ group → Contains (map group_of tags) group
+group_there tags k d group short is = (k, omega (arith, length-map tags group_of, short), get_or-map group_of tags k d group short ∙ is)
+
+-- and it is that of none
+pub group_absent : (tags : List TagValue) (group : TagGroup) → ((k : ℕ) (d : TagValue) → k < length tags → group_of (get_or tags k d) ≡ group → ⊥) → Contains (map group_of tags) group → ⊥
+group_absent tags group none (k, within, at) =
+    let short : k < length tags = omega (arith, length-map tags group_of, within) in
+    none k S.Mime short (sym (get_or-map group_of tags k S.Mime group short) ∙ at)
 
 -- a tag of no allowed group, or of a group that is taken, stands first: no other does
 pub not_allowed : (allowed taken : List TagGroup) (t : TagValue) (from end : List Argument) → IsTagValue t from end → (Contains allowed (group_of t) → ⊥) → HasNoTag allowed taken from
@@ -148,6 +161,7 @@ plain_none S.Copy from to at plain = subst IsPlain at plain
 plain_none S.Create from to at plain = subst IsPlain at plain
 plain_none (S.Zone zone) from to at plain = subst IsPlain at.1.0 plain
 plain_none S.OriginalZone from to at plain = subst IsPlain at plain
+plain_none (S.Flags xs) from to at plain = subst IsPlain at.1.0 plain
 
 -- nothing is among none
 pub none_there : (x : TagGroup) → Contains [] x → ⊥
@@ -190,6 +204,10 @@ module _ (allowed : List TagGroup) (args : List Argument) where
     taken_is = ap (λ l. l ++ group_of s ∷ []) kept.taken_is ∙ sym (map_middle tag_values s []);
     apart = apart_push taken (group_of s) kept.apart free;
   }
+
+  -- the same of the groups of the tags so far
+  pub settled_more : (tag_values : List TagValue) (rest : List Argument) → IsTaken allowed args tag_values (map group_of tag_values) rest → (s : TagValue) (after : List Argument) → IsAllowed allowed s rest after → (Contains (map group_of tag_values) (group_of s) → ⊥) → IsTaken allowed args (tag_values ++ s ∷ []) (map group_of (tag_values ++ s ∷ [])) after
+  settled_more tag_values rest kept s after at free = subst (λ l. IsTaken allowed args (tag_values ++ s ∷ []) l after) (sym (map_middle tag_values s [])) (taken_more tag_values (map group_of tag_values) rest kept s after at free)
 
   -- no tag stands there: the tags are all
   pub taken_ends : (tag_values : List TagValue) (taken : List TagGroup) (rest : List Argument) → IsTaken allowed args tag_values taken rest → IsPlain rest → IsSplit allowed args tag_values rest × ((others : List TagValue) (positional : List Argument) → IsSplit allowed args others positional → (others ≡ tag_values) × (positional ≡ rest))

@@ -2,9 +2,9 @@
 use Rattle.std.proofs.Common.{◌≡◌, Bool, true, false, cond, List, [], ◌∷◌, ◌++◌, refl, sym, ap, ◌∙◌}
 use Rattle.sievesyntax.specs.declared.tree.action.Action.{Action}
 use Rattle.sievesyntax.specs.declared.tree.checks.Check.{Check}
-use Rattle.sievesyntax.specs.RunState.{RunState, at_first, Failure, Flow, Going, Stopped, Failed, and_then, performed}
+use Rattle.sievesyntax.specs.RunState.{RunState, at_first, Flow, Going, Stopped, Failed, and_then, performed}
 use Rattle.sievesyntax.specs.Meaning.{holds, does, chooses, does_all, ended, outcome}
-use Rattle.sievesyntax.specs.Trace.{Trace, then_runs, runs, runs_branch, runs_all, actions_run, in_turn}
+use Rattle.sievesyntax.specs.Trace.{Trace, then_runs, runs_at, runs_by, runs_branch_by, runs_all_by, actions_run, in_turn}
 use Rattle.sievesyntax.specs.Tree.{CommandTree, require, choose, stop, act, Branches, no_branches, branch, Commands, no_commands, command}
 
 -- where a `stop` may end what was done
@@ -28,28 +28,22 @@ in_turn_append (x ∷ xs) ys state = step (performed x state) (in_turn_append xs
     step (Stopped next) more = refl
     step (Failed failure) more = refl
 
-stays_stopped : (stops : Bool) (state : RunState) → Stopped state ≡ stopping stops (Stopped state)
-stays_stopped true state = refl
-stays_stopped false state = refl
-
-stays_failed : (stops : Bool) (failure : Failure) → Failed failure ≡ stopping stops (Failed failure)
-stays_failed true failure = refl
-stays_failed false failure = refl
-
--- one trace and then another
-one_more : (trace more : Trace) (next : RunState → Flow) → ((state : RunState) → next state ≡ after more state) → (state : RunState) → and_then (after trace state) next ≡ after (then_runs trace more) state
+-- one trace and then another, which begins with what the first one does
+one_more : (trace : Trace) (more : RunState → Trace) (next : RunState → Flow) → ((state : RunState) → next state ≡ after (more state) state) → (state : RunState)
+    → and_then (after trace state) next ≡ after (then_runs trace (runs_at (in_turn trace.0 state) more)) state
 one_more (actions, true) more next same state = step (in_turn actions state)
   where
     step : (flow : Flow) → and_then (stopping true flow) next ≡ stopping true flow
-    step (Going next) = refl
-    step (Stopped next) = refl
+    step (Going later) = refl
+    step (Stopped later) = refl
     step (Failed failure) = refl
-one_more (actions, false) more next same state = step (in_turn actions state) ∙ ap (stopping more.1) (sym (in_turn_append actions more.0 state))
+one_more (actions, false) more next same state =
+    step (in_turn actions state) ∙ ap (stopping (runs_at (in_turn actions state) more).1) (sym (in_turn_append actions (runs_at (in_turn actions state) more).0 state))
   where
-    step : (flow : Flow) → and_then flow next ≡ stopping more.1 (and_then flow (in_turn more.0))
+    step : (flow : Flow) → and_then flow next ≡ stopping (runs_at flow more).1 (and_then flow (in_turn (runs_at flow more).0))
     step (Going later) = same later
-    step (Stopped later) = stays_stopped more.1 later
-    step (Failed failure) = stays_failed more.1 failure
+    step (Stopped later) = refl
+    step (Failed failure) = refl
 
 -- an action alone
 alone : (flow : Flow) → flow ≡ and_then flow (λ state. Going state)
@@ -63,22 +57,22 @@ either true one two f g state same other = same
 either false one two f g state same other = other
 
 mutual
-  command_does : (truth : Check → Bool) (tree : CommandTree) (state : RunState) → does truth tree state ≡ after (runs truth tree) state
+  command_does : (truth : RunState → Check → Bool) (tree : CommandTree) (state : RunState) → does truth tree state ≡ after (runs_by performed truth tree state) state
   command_does truth (require names) state = refl
   command_does truth (choose branches) state = branches_do truth branches state
   command_does truth stop state = refl
   command_does truth (act action) state = alone (performed action state)
 
-  branches_do : (truth : Check → Bool) (branches : Branches) (state : RunState) → chooses truth branches state ≡ after (runs_branch truth branches) state
+  branches_do : (truth : RunState → Check → Bool) (branches : Branches) (state : RunState) → chooses truth branches state ≡ after (runs_branch_by performed truth branches state) state
   branches_do truth no_branches state = refl
   branches_do truth (branch condition block more) state =
-      either (holds truth condition) (runs_all truth block) (runs_branch truth more) (does_all truth block) (chooses truth more) state (commands_do truth block state) (branches_do truth more state)
+      either (holds (truth state) condition) (runs_all_by performed truth block state) (runs_branch_by performed truth more state) (does_all truth block) (chooses truth more) state (commands_do truth block state) (branches_do truth more state)
 
-  commands_do : (truth : Check → Bool) (commands : Commands) (state : RunState) → does_all truth commands state ≡ after (runs_all truth commands) state
+  commands_do : (truth : RunState → Check → Bool) (commands : Commands) (state : RunState) → does_all truth commands state ≡ after (runs_all_by performed truth commands state) state
   commands_do truth no_commands state = refl
   commands_do truth (command first more) state =
       ap (λ flow. and_then flow (does_all truth more)) (command_does truth first state)
-      ∙ one_more (runs truth first) (runs_all truth more) (does_all truth more) (commands_do truth more) state
+      ∙ one_more (runs_by performed truth first state) (runs_all_by performed truth more) (does_all truth more) (λ next. commands_do truth more next) state
 
 -- a `stop` at the end changes nothing in the end
 ended_stopping : (stops : Bool) (flow : Flow) → ended (stopping stops flow) ≡ ended flow
@@ -87,5 +81,5 @@ ended_stopping true (Going state) = refl
 ended_stopping true (Stopped state) = refl
 ended_stopping true (Failed failure) = refl
 
-pub outcome_in_turn : (truth : Check → Bool) (commands : Commands) → outcome truth commands ≡ ended (in_turn (actions_run truth commands) at_first)
-outcome_in_turn truth commands = ap ended (commands_do truth commands at_first) ∙ ended_stopping (runs_all truth commands).1 (in_turn (actions_run truth commands) at_first)
+pub outcome_in_turn : (truth : RunState → Check → Bool) (commands : Commands) → outcome truth commands ≡ ended (in_turn (actions_run truth commands) at_first)
+outcome_in_turn truth commands = ap ended (commands_do truth commands at_first) ∙ ended_stopping (runs_all_by performed truth commands at_first).1 (in_turn (actions_run truth commands) at_first)

@@ -114,7 +114,8 @@ module _ (tag_values : List TagValue) (positional : List Argument) where
       let mailbox : x.mailbox ≡ y.mailbox = some_is x.mailbox y.mailbox (sym a.mailbox ∙ b.mailbox) in
       let copy : x.copy ≡ y.copy = a.copy ∙ sym b.copy in
       let create : x.create ≡ y.create = a.create ∙ sym b.create in
-      λ i. record { mailbox = mailbox i; copy = copy i; create = create i }
+      let flags : x.flags ≡ y.flags = a.flags ∙ sym b.flags in
+      λ i. record { mailbox = mailbox i; copy = copy i; create = create i; flags = flags i }
 
   pub file_into_no_text : one_text positional ≡ None → (y : FileInto) → SaysFileInto tag_values positional y → ⊥
   file_into_no_text none y is = let e : None ≡ Some y.mailbox = sym none ∙ is.mailbox in absurd (cc e)

@@ -1,16 +1,16 @@
 -- What a script comes to in a language, and that the scripts of the language before keep their meaning.
 use Rattle.std.specs.Prelude.{◌≡◌, ℕ, Bool, false, ◌||◌, List, None}
 use Rattle.sievesyntax.specs.declared.tree.action.Action.{Action}
-use Rattle.sievesyntax.specs.declared.tree.action.Action.TheVariants.{Keep, Discard, FileInto, Redirect, Vacation}
+use Rattle.sievesyntax.specs.declared.tree.action.Action.TheVariants.{Keep, Discard, FileInto, Redirect, Vacation, SetFlag, AddFlag, RemoveFlag}
 use Rattle.sievesyntax.specs.declared.tree.checks.Collation.{Collation}
 use Rattle.sievesyntax.specs.declared.tree.checks.Matching.{Matching}
 use Rattle.sievesyntax.specs.declared.tree.checks.Check.{Check}
-use Rattle.sievesyntax.specs.declared.tree.checks.Check.TheVariants.{Header, Address, Envelope, MailboxExists, Date, CurrentDate}
-use Rattle.sievesyntax.specs.Languages.{Language, before, former, undated}
+use Rattle.sievesyntax.specs.declared.tree.checks.Check.TheVariants.{Header, Address, Envelope, MailboxExists, Date, CurrentDate, HasFlag}
+use Rattle.sievesyntax.specs.Languages.{Language, before, former, undated, unflagged}
 use Rattle.sievesyntax.specs.Means.{Means}
 use Rattle.sievesyntax.specs.Meaning.{Outcome, ended, outcome}
 use Rattle.sievesyntax.specs.RunState.{RunState, at_first, Flow, Going, Stopped, Failed, performed}
-use Rattle.sievesyntax.specs.Trace.{actions_run, in_turn_by}
+use Rattle.sievesyntax.specs.Trace.{actions_run_by, in_turn_by, OnDone, FilesWithoutFlags}
 use Rattle.sievesyntax.specs.Tree.{TestTree, yes, no, looks, not_of, all_of, any_of, Tests, no_tests, test, CommandTree, require, choose, stop, act, Branches, no_branches, branch, Commands, no_commands, command}
 use Rattle.sievesyntax.specs.Valid.{is_subaddress, is_relational, is_numeric}
 
@@ -25,16 +25,19 @@ abbrev pub performed_in : Language → Action → RunState → Flow
 performed_in language action so_far = with_cancelled (so_far.cancelled || language.cancels action) (performed action so_far)
 
 -- the outcome of a script in a language: what the actions that it runs come to there, in turn
-abbrev pub outcome_in : Language → (Check → Bool) → Commands → Outcome
-outcome_in language truth tree = ended (in_turn_by (performed_in language) (actions_run truth tree) at_first)
+abbrev pub outcome_in : Language → (RunState → Check → Bool) → Commands → Outcome
+outcome_in language truth tree = ended (in_turn_by (performed_in language) (actions_run_by (performed_in language) truth tree) at_first)
 
--- an action that the language before had: without `:copy` and without seconds
+-- an action that the language before had: without `:copy`, seconds and flags
 abbrev pub IsOfBefore : Action → Type 0
-IsOfBefore Keep = Unit {0}
+IsOfBefore (Keep given) = given ≡ None
 IsOfBefore Discard = Unit {0}
-IsOfBefore (FileInto filing) = filing.copy ≡ false
+IsOfBefore (FileInto filing) = (filing.copy ≡ false) × (filing.flags ≡ None)
 IsOfBefore (Redirect redirect) = redirect.copy ≡ false
 IsOfBefore (Vacation args) = args.seconds ≡ None
+IsOfBefore (SetFlag texts) = ⊥
+IsOfBefore (AddFlag texts) = ⊥
+IsOfBefore (RemoveFlag texts) = ⊥
 
 -- each action in a tree is so
 abbrev mutual
@@ -56,8 +59,8 @@ abbrev mutual
 abbrev pub IsFormerMatch : Collation → Matching → Type 0
 IsFormerMatch comparator matching = (is_relational matching ≡ false) × (is_numeric comparator ≡ false)
 
--- a test that it had: it looks at no part of a local part (RFC 5233, 4), and asks for no mailbox (RFC 5490, 3.1)
--- and no date (RFC 5260)
+-- a test that it had: it looks at no part of a local part (RFC 5233, 4), and asks for no mailbox (RFC 5490, 3.1),
+-- no date (RFC 5260) and no flag (RFC 5232)
 abbrev pub IsFormerCheck : Check → Type 0
 IsFormerCheck (Header header) = IsFormerMatch header.comparator header.matching
 IsFormerCheck (Address address) = (is_subaddress address.part ≡ false) × IsFormerMatch address.comparator address.matching
@@ -65,18 +68,34 @@ IsFormerCheck (Envelope envelope) = (is_subaddress envelope.part ≡ false) × I
 IsFormerCheck (MailboxExists names) = ⊥
 IsFormerCheck (Date date) = ⊥
 IsFormerCheck (CurrentDate current) = ⊥
+IsFormerCheck (HasFlag flag) = ⊥
 IsFormerCheck _ = Unit {0}
 
--- a test that the language before `date` had: it asks for no date (RFC 5260)
+-- a test that the language before `date` had: it asks for no date (RFC 5260) and no flag (RFC 5232)
 abbrev pub IsUndatedCheck : Check → Type 0
 IsUndatedCheck (Date date) = ⊥
 IsUndatedCheck (CurrentDate current) = ⊥
+IsUndatedCheck (HasFlag flag) = ⊥
 IsUndatedCheck _ = Unit {0}
 
--- an action that the former language had: without `:create`
+-- a test that the language before `imap4flags` had: it asks for no flag (RFC 5232)
+abbrev pub IsUnflaggedCheck : Check → Type 0
+IsUnflaggedCheck (HasFlag flag) = ⊥
+IsUnflaggedCheck _ = Unit {0}
+
+-- an action that it had: it gives and sets no flags
+abbrev pub IsUnflaggedAction : Action → Type 0
+IsUnflaggedAction (Keep given) = given ≡ None
+IsUnflaggedAction (FileInto filing) = filing.flags ≡ None
+IsUnflaggedAction (SetFlag texts) = ⊥
+IsUnflaggedAction (AddFlag texts) = ⊥
+IsUnflaggedAction (RemoveFlag texts) = ⊥
+IsUnflaggedAction _ = Unit {0}
+
+-- an action that the former language had: without `:create` and flags
 abbrev pub IsFormerAction : Action → Type 0
-IsFormerAction (FileInto filing) = filing.create ≡ false
-IsFormerAction _ = Unit {0}
+IsFormerAction (FileInto filing) = (filing.create ≡ false) × (filing.flags ≡ None)
+IsFormerAction other = IsUnflaggedAction other
 
 -- each test in a tree that looks at a message or its envelope is so
 abbrev mutual
@@ -107,21 +126,32 @@ abbrev mutual
   EachAsksIn P no_commands = Unit {0}
   EachAsksIn P (command first more) = EachAsks P first × EachAsksIn P more
 
--- the text means this tree, which has neither `:copy` nor seconds, and on every mail it comes to what it came to before
+-- the text means this tree, which has neither `:copy` nor seconds nor flags, and on every mail it comes to what it came to before
 pub record StillMeans (text : List ℕ) (tree : Commands) : Type 0 where
   pub means : Means text tree
   pub actions : EachIn IsOfBefore tree
-  pub same : (truth : Check → Bool) → outcome truth tree ≡ outcome_in before truth tree
+  pub same : (truth : RunState → Check → Bool) → outcome truth tree ≡ outcome_in before truth tree
 
 -- the text means this tree, which has former tests and actions alone, and on every mail it comes to what it came to before
 pub record MeansFormerly (text : List ℕ) (tree : Commands) : Type 0 where
   pub means : Means text tree
   pub checks : EachAsksIn IsFormerCheck tree
   pub actions : EachIn IsFormerAction tree
-  pub same : (truth : Check → Bool) → outcome truth tree ≡ outcome_in former truth tree
+  pub same : (truth : RunState → Check → Bool) → outcome truth tree ≡ outcome_in former truth tree
 
--- the text means this tree, which asks for no date, and on every mail it comes to what it came to before
+-- the text means this tree, which asks for no date and no flag, and gives and sets no flags, and on every mail it comes to what it
+-- came to before
 pub record MeansUndated (text : List ℕ) (tree : Commands) : Type 0 where
   pub means : Means text tree
   pub checks : EachAsksIn IsUndatedCheck tree
-  pub same : (truth : Check → Bool) → outcome truth tree ≡ outcome_in undated truth tree
+  pub actions : EachIn IsUnflaggedAction tree
+  pub same : (truth : RunState → Check → Bool) → outcome truth tree ≡ outcome_in undated truth tree
+
+-- the text means this tree, which asks for no flag, and gives and sets no flags, and on every mail it comes to what it came to before,
+-- where no copy has flags
+pub record MeansUnflagged (text : List ℕ) (tree : Commands) : Type 0 where
+  pub means : Means text tree
+  pub checks : EachAsksIn IsUnflaggedCheck tree
+  pub actions : EachIn IsUnflaggedAction tree
+  pub same : (truth : RunState → Check → Bool) → outcome truth tree ≡ outcome_in unflagged truth tree
+  pub bare : (truth : RunState → Check → Bool) → OnDone FilesWithoutFlags (outcome truth tree)

@@ -5,7 +5,7 @@ use Rattle.sievelex.specs.declared.token.Mark.TheVariants as K
 use Rattle.sievesyntax.specs.declared.table.keyword.Keyword.TheVariants as W
 use Rattle.sievesyntax.specs.declared.parser.decoding.Decoding.{Decoding}
 use Rattle.sievesyntax.specs.declared.parser.decoding.Decoding.TheVariants.{Open, Named, On, Off}
-use Rattle.sievesyntax.specs.Lexemes.{Lexeme, keyword, tag, number, text, mark, misfit, decoded_lexeme}
+use Rattle.sievesyntax.specs.Lexemes.{Lexeme, keyword, text, mark, decoded_lexeme}
 
 -- the string that names the extension
 abbrev pub is_encoded_character : List ℕ → Bool

@@ -40,13 +40,17 @@ read_in language contents = cond language.decodes (as_read (lexemes_in language 
 
 -- ---- the language as it is
 
--- all but `vacation` cancel the implicit keep (RFC 5228, 2.10.2; RFC 5230, 4.7), and no `:copy` does (RFC 3894, 3)
+-- all but `vacation` and what sets flags cancel the implicit keep (RFC 5228, 2.10.2; RFC 5230, 4.7; RFC 5232, 3), and no `:copy`
+-- does (RFC 3894, 3)
 abbrev pub cancels_today : Action → Bool
-cancels_today D.Keep = true
+cancels_today (D.Keep given) = true
 cancels_today D.Discard = true
 cancels_today (D.FileInto filing) = not filing.copy
 cancels_today (D.Redirect redirect) = not redirect.copy
 cancels_today (D.Vacation args) = false
+cancels_today (D.SetFlag texts) = false
+cancels_today (D.AddFlag texts) = false
+cancels_today (D.RemoveFlag texts) = false
 
 -- all tags and all capabilities, and strings are decoded behind the `require` that asks for it (RFC 5228, 2.4.2.4)
 abbrev pub today : Language
@@ -80,13 +84,16 @@ is_capability_before name =
     || (is_named (codes "comparator-i;octet") name
     || is_named (codes "comparator-i;ascii-casemap") name)))
 
--- all but `vacation` cancelled the implicit keep (RFC 5228, 2.10.2)
+-- all but `vacation` cancelled the implicit keep (RFC 5228, 2.10.2); what sets flags is no action of that language
 abbrev pub cancels_before : Action → Bool
-cancels_before D.Keep = true
+cancels_before (D.Keep given) = true
 cancels_before D.Discard = true
 cancels_before (D.FileInto filing) = true
 cancels_before (D.Redirect redirect) = true
 cancels_before (D.Vacation args) = false
+cancels_before (D.SetFlag texts) = false
+cancels_before (D.AddFlag texts) = false
+cancels_before (D.RemoveFlag texts) = false
 
 abbrev pub before : Language
 before = record { has = is_tag_before; knows = is_capability_before; decodes = false; cancels = cancels_before }
@@ -102,6 +109,7 @@ is_former_tag T.Count = false
 is_former_tag T.Create = false
 is_former_tag T.Zone = false
 is_former_tag T.OriginalZone = false
+is_former_tag T.Flags = false
 is_former_tag _ = true
 
 abbrev pub is_former_capability : List ℕ → Bool
@@ -123,6 +131,7 @@ former = record { has = is_former_tag; knows = is_former_capability; decodes = f
 abbrev pub is_undated_tag : Tag → Bool
 is_undated_tag T.Zone = false
 is_undated_tag T.OriginalZone = false
+is_undated_tag T.Flags = false
 is_undated_tag _ = true
 
 abbrev pub is_undated_capability : List ℕ → Bool
@@ -143,3 +152,29 @@ is_undated_capability name =
 -- strings were decoded, and actions cancelled what they cancel today
 abbrev pub undated : Language
 undated = record { has = is_undated_tag; knows = is_undated_capability; decodes = true; cancels = cancels_today }
+
+-- ---- the language before `imap4flags` (RFC 5232)
+
+abbrev pub is_unflagged_tag : Tag → Bool
+is_unflagged_tag T.Flags = false
+is_unflagged_tag _ = true
+
+abbrev pub is_unflagged_capability : List ℕ → Bool
+is_unflagged_capability name =
+    is_named (codes "fileinto") name
+    || (is_named (codes "envelope") name
+    || (is_named (codes "vacation") name
+    || (is_named (codes "comparator-i;octet") name
+    || (is_named (codes "comparator-i;ascii-casemap") name
+    || (is_named (codes "copy") name
+    || (is_named (codes "vacation-seconds") name
+    || (is_named (codes "subaddress") name
+    || (is_named (codes "relational") name
+    || (is_named (codes "comparator-i;ascii-numeric") name
+    || (is_named (codes "encoded-character") name
+    || (is_named (codes "mailbox") name
+    || is_named (codes "date") name)))))))))))
+
+-- strings were decoded, and actions cancelled what they cancel today
+abbrev pub unflagged : Language
+unflagged = record { has = is_unflagged_tag; knows = is_unflagged_capability; decodes = true; cancels = cancels_today }

@@ -43,7 +43,11 @@ keyword_of name =
     (cond (same_name name (codes "mailboxexists")) W.MailboxExists
     (cond (same_name name (codes "date")) W.Date
     (cond (same_name name (codes "currentdate")) W.CurrentDate
-    W.Other))))))))))))))))))))))
+    (cond (same_name name (codes "setflag")) W.SetFlag
+    (cond (same_name name (codes "addflag")) W.AddFlag
+    (cond (same_name name (codes "removeflag")) W.RemoveFlag
+    (cond (same_name name (codes "hasflag")) W.HasFlag
+    W.Other))))))))))))))))))))))))))
 
 -- the tag of this name
 abbrev pub tag_of : List ℕ → Tag
@@ -72,7 +76,8 @@ tag_of name =
     (cond (same_name name (codes "create")) T.Create
     (cond (same_name name (codes "zone")) T.Zone
     (cond (same_name name (codes "originalzone")) T.OriginalZone
-    T.Other)))))))))))))))))))))))
+    (cond (same_name name (codes "flags")) T.Flags
+    T.Other))))))))))))))))))))))))
 
 -- a word of the grammar (RFC 5228, 8.2)
 pub data Lexeme : Type 0 where

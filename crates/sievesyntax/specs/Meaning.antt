@@ -1,9 +1,11 @@
--- What commands do, over any truth of the tests that look at the message (RFC 5228, 2.10, 3).
-use Rattle.std.specs.Prelude.{ℕ, Bool, true, false, not, cond, ◌&&◌, ◌||◌, List, Option}
+-- What commands do, over any truth of the tests that look at the message and at what was done so far (RFC 5228, 2.10, 3; RFC 5232, 4).
+use Rattle.std.specs.Prelude.{Bool, true, false, not, cond, ◌&&◌, ◌||◌, List, Option}
+use Rattle.mailflags.specs.Flags.{written}
+use Rattle.mailflags.specs.declared.placement.Placement.{Placement}
 use Rattle.addrparts.specs.declared.address.Addr.{Addr}
 use Rattle.sievesyntax.specs.declared.tree.checks.Check.{Check}
 use Rattle.sievesyntax.specs.declared.tree.vacation.VacArgs.{VacArgs}
-use Rattle.sievesyntax.specs.RunState.{RunState, at_first, Failure, Flow, and_then, inbox, with_mailbox, performed}
+use Rattle.sievesyntax.specs.RunState.{RunState, at_first, Failure, Flow, and_then, inbox, with_filed, performed}
 use Rattle.sievesyntax.specs.RunState as F
 use Rattle.sievesyntax.specs.Tree.{TestTree, yes, no, looks, not_of, all_of, any_of, Tests, no_tests, test, CommandTree, require, choose, stop, act, Branches, no_branches, branch, Commands, no_commands, command}
 
@@ -29,24 +31,25 @@ abbrev mutual
 
 -- what commands do, in turn (RFC 5228, 3)
 abbrev mutual
-  pub does : (Check → Bool) → CommandTree → RunState → Flow
+  pub does : (RunState → Check → Bool) → CommandTree → RunState → Flow
   does truth (require names) so_far = F.Going so_far
   does truth (choose branches) so_far = chooses truth branches so_far
   does truth stop so_far = F.Stopped so_far
   does truth (act action) so_far = performed action so_far
 
-  -- the first block whose test holds is run, and no other
-  pub chooses : (Check → Bool) → Branches → RunState → Flow
+  -- the first block whose test holds is run, and no other: a test changes nothing, so all are asked of one state
+  pub chooses : (RunState → Check → Bool) → Branches → RunState → Flow
   chooses truth no_branches so_far = F.Going so_far
-  chooses truth (branch condition block more) so_far = cond (holds truth condition) (does_all truth block so_far) (chooses truth more so_far)
+  chooses truth (branch condition block more) so_far = cond (holds (truth so_far) condition) (does_all truth block so_far) (chooses truth more so_far)
 
-  pub does_all : (Check → Bool) → Commands → RunState → Flow
+  pub does_all : (RunState → Check → Bool) → Commands → RunState → Flow
   does_all truth no_commands so_far = F.Going so_far
   does_all truth (command first more) so_far = and_then (does truth first so_far) (does_all truth more)
 
--- what is done in the end: the mailboxes and the addresses, in order, and the answer to the sender if there is one
+-- what is done in the end: the mailboxes, each with the flags of its copy, and the addresses, in order, and the answer to the
+-- sender if there is one
 pub record Actions : Type 0 where
-  pub filed : List (List ℕ)
+  pub filed : List Placement
   pub sent : List Addr
   pub reply : Option VacArgs
 
@@ -55,15 +58,15 @@ pub data Outcome : Type 0 where
   Done : Actions → Outcome
   Failed : Failure → Outcome
 
--- the implicit keep comes last, unless it is cancelled
+-- the implicit keep comes last, unless it is cancelled, with the flags that are set in the end
 abbrev pub actions_of : RunState → Actions
-actions_of so_far = record { filed = cond so_far.cancelled so_far.filed (with_mailbox so_far.filed inbox); sent = so_far.sent; reply = so_far.reply }
+actions_of so_far = record { filed = cond so_far.cancelled so_far.filed (with_filed so_far.filed (record { mailbox = inbox; flags = written so_far.flags })); sent = so_far.sent; reply = so_far.reply }
 
 abbrev pub ended : Flow → Outcome
 ended (F.Going so_far) = Done (actions_of so_far)
 ended (F.Stopped so_far) = Done (actions_of so_far)
 ended (F.Failed failure) = Failed failure
 
--- the outcome of a script, where the tests that look at the message have this truth
-abbrev pub outcome : (Check → Bool) → Commands → Outcome
+-- the outcome of a script, where the tests that look at the message and at what was done so far have this truth
+abbrev pub outcome : (RunState → Check → Bool) → Commands → Outcome
 outcome truth commands = ended (does_all truth commands at_first)

@@ -4,22 +4,26 @@ use Rattle.std.specs.List.{list_any}
 use Rattle.std.specs.Cmp.Lexicographic.{pointwise}
 use Rattle.octets.specs.Ascii.{lowered}
 use Rattle.addrparts.specs.declared.address.Addr.{Addr}
+use Rattle.mailflags.specs.Flags.{added, removed, written}
+use Rattle.mailflags.specs.declared.placement.Placement.{Placement}
 use Rattle.sievesyntax.specs.declared.tree.action.Action.{Action}
-use Rattle.sievesyntax.specs.declared.tree.action.Action.TheVariants.{Keep, Discard, FileInto, Redirect, Vacation}
+use Rattle.sievesyntax.specs.declared.tree.action.Action.TheVariants.{Keep, Discard, FileInto, Redirect, Vacation, SetFlag, AddFlag, RemoveFlag}
 use Rattle.sievesyntax.specs.declared.tree.vacation.VacArgs.{VacArgs}
 
--- what a script has done so far: the mailboxes that the message goes into and the addresses that it is sent
--- to, each in the order of the first command that says so; the answer to the sender, if there is one; and
--- whether the implicit keep is cancelled (RFC 5228, 2.10.2)
+-- what a script has done so far: the mailboxes that the message goes into, each with the flags of its copy, and the
+-- addresses that it is sent to, each in the order of the first command that says so; the flags that are set, which a
+-- copy gets that has none of its own (RFC 5232, 3); the answer to the sender, if there is one; and whether the implicit
+-- keep is cancelled (RFC 5228, 2.10.2)
 pub record RunState : Type 0 where
-  pub filed : List (List ℕ)
+  pub filed : List Placement
+  pub flags : List (List ℕ)
   pub sent : List Addr
   pub reply : Option VacArgs
   pub cancelled : Bool
 
 -- before the first command
 abbrev pub at_first : RunState
-at_first = record { filed = []; sent = []; reply = None; cancelled = false }
+at_first = record { filed = []; flags = []; sent = []; reply = None; cancelled = false }
 
 -- why a run fails (RFC 5228, 2.10.6): a second `vacation` is run (RFC 5230, 4.7), or the message would be
 -- sent to more than 16 addresses
@@ -47,17 +51,22 @@ inbox = codes "INBOX"
 abbrev pub mailbox_named : List ℕ → List ℕ
 mailbox_named name = cond (pointwise nat_eq (lowered name) (codes "inbox")) inbox name
 
--- one mailbox more, unless it is there: a message goes into a mailbox once (RFC 5228, 2.10.3)
-abbrev pub with_mailbox : List (List ℕ) → List ℕ → List (List ℕ)
-with_mailbox filed mailbox = cond (list_any (λ there. pointwise nat_eq there mailbox) filed) filed (filed ++ mailbox ∷ [])
+-- one copy more, unless its mailbox has one: a message goes into a mailbox once (RFC 5228, 2.10.3)
+abbrev pub with_filed : List Placement → Placement → List Placement
+with_filed filed new = cond (list_any (λ there. pointwise nat_eq there.mailbox new.mailbox) filed) filed (filed ++ new ∷ [])
+
+-- the text that names a copy's flags: those that its `:flags` names, or without one those that are set (RFC 5232, 5)
+abbrev pub flags_given : Option (List (List ℕ)) → RunState → List ℕ
+flags_given None so_far = written so_far.flags
+flags_given (Some texts) so_far = written (added [] texts)
 
 -- whether the implicit keep is cancelled after an action that cancels it, unless it has `:copy` (RFC 3894, 3)
 abbrev pub cancelled_after : (copy : Bool) → RunState → Bool
 cancelled_after copy so_far = cond copy so_far.cancelled true
 
--- filed into a mailbox
-abbrev pub filed_into : List ℕ → (copy : Bool) → RunState → RunState
-filed_into mailbox copy so_far = record so_far { filed = with_mailbox so_far.filed mailbox; cancelled = cancelled_after copy so_far }
+-- filed into a mailbox, with these flags
+abbrev pub filed_into : List ℕ → List ℕ → (copy : Bool) → RunState → RunState
+filed_into mailbox flags copy so_far = record so_far { filed = with_filed so_far.filed (record { mailbox = mailbox; flags = flags }); cancelled = cancelled_after copy so_far }
 
 -- the same local part and the same domain, by octets
 abbrev pub same_target : Addr → Addr → Bool
@@ -81,10 +90,13 @@ replied_by args so_far = elim so_far.reply [
   | Some _ ↦ Failed TwoVacations
 ]
 
--- what an action does (RFC 5228, 4; RFC 3894; RFC 5230)
+-- what an action does (RFC 5228, 4; RFC 3894; RFC 5230; RFC 5232)
 abbrev pub performed : Action → RunState → Flow
-performed Keep so_far = Going (filed_into inbox false so_far)
+performed (Keep given) so_far = Going (filed_into inbox (flags_given given so_far) false so_far)
 performed Discard so_far = Going (record so_far { cancelled = true })
-performed (FileInto filing) so_far = Going (filed_into (mailbox_named filing.mailbox) filing.copy so_far)
+performed (FileInto filing) so_far = Going (filed_into (mailbox_named filing.mailbox) (flags_given filing.flags so_far) filing.copy so_far)
 performed (Redirect redirect) so_far = sent_to redirect.target redirect.copy so_far
 performed (Vacation args) so_far = replied_by args so_far
+performed (SetFlag texts) so_far = Going (record so_far { flags = added [] texts })
+performed (AddFlag texts) so_far = Going (record so_far { flags = added so_far.flags texts })
+performed (RemoveFlag texts) so_far = Going (record so_far { flags = removed so_far.flags texts })

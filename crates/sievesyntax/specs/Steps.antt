@@ -110,6 +110,7 @@ granted_too granted names = record {
   numeric = granted.numeric || (granted_by names).numeric;
   mailbox = granted.mailbox || (granted_by names).mailbox;
   date = granted.date || (granted_by names).date;
+  flags = granted.flags || (granted_by names).flags;
 }
 
 -- requires at the front, up to another command or the end

@@ -10,6 +10,7 @@ use Rattle.sievesyntax.specs.declared.tree.checks.EnvelopeTest.{EnvelopeTest}
 use Rattle.sievesyntax.specs.declared.tree.checks.EnvelopeParts.{EnvelopeParts}
 use Rattle.sievesyntax.specs.declared.tree.checks.DateTest.{DateTest}
 use Rattle.sievesyntax.specs.declared.tree.checks.CurrentDate.{CurrentDate}
+use Rattle.sievesyntax.specs.declared.tree.checks.HasFlag.{HasFlag}
 use Rattle.sievesyntax.specs.declared.tree.checks.DateZone.{DateZone}
 use Rattle.sievesyntax.specs.declared.tree.checks.DateZone.TheVariants as Z
 use Rattle.sievesyntax.specs.declared.tree.checks.Check.TheVariants as C
@@ -23,7 +24,7 @@ use Rattle.maildates.specs.Parts.{part_named}
 use Rattle.sievesyntax.specs.Lexemes.{same_name}
 use Rattle.sievesyntax.specs.Tags.{IsCall}
 use Rattle.sievesyntax.specs.Positional.{one_number, one_text, one_list, two_lists, text_and_list, two_texts_and_list}
-use Rattle.sievesyntax.specs.TagValues.{bound_in, comparator_in, matching_in, part_in, copy_in, create_in, zone_in}
+use Rattle.sievesyntax.specs.TagValues.{bound_in, comparator_in, matching_in, part_in, copy_in, create_in, zone_in, flags_in}
 use Rattle.sievesyntax.specs.Vacations.{Names, IsVacation}
 use Rattle.sievesyntax.specs.Tree.{TestTree, yes, no, looks, CommandTree, require, stop, act}
 
@@ -109,19 +110,38 @@ pub record SaysCurrentDate (tag_values : List TagValue) (positional : List Argum
 abbrev pub IsCurrentDate : List Argument → CurrentDate → Type 0
 IsCurrentDate = IsCall (P.Zone ∷ (P.Comparator ∷ (P.Matching ∷ []))) SaysCurrentDate
 
--- require <capabilities: string-list>; exists <header-names: string-list>; mailboxexists <mailbox-names: string-list>
--- (RFC 5228, 3.2, 5.5; RFC 5490, 3.1)
+-- hasflag [MATCH-TYPE] [COMPARATOR] <list-of-flags: string-list> (RFC 5232, 4)
+pub record SaysHasFlag (tag_values : List TagValue) (positional : List Argument) (flag : HasFlag) : Type 0 where
+  pub comparator : flag.comparator ≡ comparator_in tag_values
+  pub matching : flag.matching ≡ matching_in tag_values
+  pub keys : one_list positional ≡ Some flag.keys
+
+abbrev pub IsHasFlag : List Argument → HasFlag → Type 0
+IsHasFlag = IsCall (P.Comparator ∷ (P.Matching ∷ [])) SaysHasFlag
+
+-- require <capabilities: string-list>; exists <header-names: string-list>; mailboxexists <mailbox-names: string-list>;
+-- setflag <list-of-flags: string-list>, and addflag and removeflag alike (RFC 5228, 3.2, 5.5; RFC 5490, 3.1; RFC 5232, 3.1 to 3.3)
 abbrev pub IsList : List Argument → List (List ℕ) → Type 0
 IsList = IsCall [] (λ tag_values positional texts. one_list positional ≡ Some texts)
 
--- fileinto [":copy"] [":create"] <mailbox: string> (RFC 5228, 4.1; RFC 3894, 3.1; RFC 5490, 3.2)
+-- keep [":flags" <list-of-flags: string-list>] (RFC 5228, 4.3; RFC 5232, 5)
+pub record SaysKeep (tag_values : List TagValue) (positional : List Argument) (given : Option (List (List ℕ))) : Type 0 where
+  pub none : positional ≡ []
+  pub flags : given ≡ flags_in tag_values
+
+abbrev pub IsKeep : List Argument → Option (List (List ℕ)) → Type 0
+IsKeep = IsCall (P.Flags ∷ []) SaysKeep
+
+-- fileinto [":copy"] [":create"] [":flags" <list-of-flags: string-list>] <mailbox: string> (RFC 5228, 4.1; RFC 3894, 3.1; RFC 5490, 3.2;
+-- RFC 5232, 5)
 pub record SaysFileInto (tag_values : List TagValue) (positional : List Argument) (filing : FileInto) : Type 0 where
   pub mailbox : one_text positional ≡ Some filing.mailbox
   pub copy : filing.copy ≡ copy_in tag_values
   pub create : filing.create ≡ create_in tag_values
+  pub flags : filing.flags ≡ flags_in tag_values
 
 abbrev pub IsFileInto : List Argument → FileInto → Type 0
-IsFileInto = IsCall (P.Copy ∷ (P.Create ∷ [])) SaysFileInto
+IsFileInto = IsCall (P.Copy ∷ (P.Create ∷ (P.Flags ∷ []))) SaysFileInto
 
 -- redirect [":copy"] <address: string> (RFC 5228, 4.2; RFC 3894, 3.2)
 pub record SaysRedirect (tag_values : List TagValue) (positional : List Argument) (redirect : Redirect) : Type 0 where
@@ -146,7 +166,7 @@ pub record IsBare {T : Type 0} (bare : T) (args : List Argument) (tree : T) : Ty
   pub none : args ≡ []
   pub tree_is : tree ≡ bare
 
--- the tests that have no test in them (RFC 5228, 5)
+-- the tests that have no test in them (RFC 5228, 5; RFC 5232, 4)
 abbrev pub IsPlainTest : Keyword → List Argument → TestTree → Type 0
 IsPlainTest W.True = IsBare yes
 IsPlainTest W.False = IsBare no
@@ -158,15 +178,19 @@ IsPlainTest W.Envelope = IsRow IsEnvelope (λ envelope. looks (C.Envelope envelo
 IsPlainTest W.MailboxExists = IsRow IsList (λ names. looks (C.MailboxExists names))
 IsPlainTest W.Date = IsRow IsDate (λ date. looks (C.Date date))
 IsPlainTest W.CurrentDate = IsRow IsCurrentDate (λ current. looks (C.CurrentDate current))
+IsPlainTest W.HasFlag = IsRow IsHasFlag (λ flag. looks (C.HasFlag flag))
 IsPlainTest _ = λ args condition. ⊥
 
--- the commands that end in a semicolon (RFC 5228, 3, 4)
+-- the commands that end in a semicolon (RFC 5228, 3, 4; RFC 5232, 3)
 abbrev pub IsPlainCommand : Keyword → List Argument → CommandTree → Type 0
 IsPlainCommand W.Require = IsRow IsList require
 IsPlainCommand W.Stop = IsBare stop
-IsPlainCommand W.Keep = IsBare (act D.Keep)
+IsPlainCommand W.Keep = IsRow IsKeep (λ given. act (D.Keep given))
 IsPlainCommand W.Discard = IsBare (act D.Discard)
 IsPlainCommand W.FileInto = IsRow IsFileInto (λ filing. act (D.FileInto filing))
 IsPlainCommand W.Redirect = IsRow IsRedirect (λ redirect. act (D.Redirect redirect))
 IsPlainCommand W.Vacation = IsRow IsVacation (λ vacation. act (D.Vacation vacation))
+IsPlainCommand W.SetFlag = IsRow IsList (λ texts. act (D.SetFlag texts))
+IsPlainCommand W.AddFlag = IsRow IsList (λ texts. act (D.AddFlag texts))
+IsPlainCommand W.RemoveFlag = IsRow IsList (λ texts. act (D.RemoveFlag texts))
 IsPlainCommand _ = λ args command. ⊥

@@ -96,3 +96,9 @@ zone_in [] = Z.Host
 zone_in (S.Zone zone ∷ _) = Z.Given zone
 zone_in (S.OriginalZone ∷ _) = Z.Original
 zone_in (_ ∷ more) = zone_in more
+
+-- the texts of `:flags`, if they are given (RFC 5232, 5)
+abbrev pub flags_in : List TagValue → Option (List (List ℕ))
+flags_in [] = None
+flags_in (S.Flags texts ∷ _) = Some texts
+flags_in (_ ∷ more) = flags_in more

@@ -81,6 +81,7 @@ IsTagValue S.Copy from to = from ≡ A.Tag T.Copy ∷ to
 IsTagValue S.Create from to = from ≡ A.Tag T.Create ∷ to
 IsTagValue (S.Zone zone) from to = (string : List ℕ) × ((from ≡ A.Tag T.Zone ∷ (A.Text string ∷ to)) × IsOffset string zone)
 IsTagValue S.OriginalZone from to = from ≡ A.Tag T.OriginalZone ∷ to
+IsTagValue (S.Flags texts) from to = (value : Argument) × ((from ≡ A.Tag T.Flags ∷ (value ∷ to)) × (strings_of value ≡ Some texts))
 
 -- the group of a tag: tags that exclude each other are one group
 abbrev pub group_of : TagValue → TagGroup
@@ -99,6 +100,7 @@ group_of S.Copy = P.Copy
 group_of S.Create = P.Create
 group_of (S.Zone _) = P.Zone
 group_of S.OriginalZone = P.Zone
+group_of (S.Flags _) = P.Flags
 
 -- no group stands twice
 abbrev pub AreApart : List TagGroup → Type 0

@@ -1,43 +1,20 @@
 -- The actions that a script runs, in turn, and what they come to (RFC 5228, 2.10, 3).
-use Rattle.std.specs.Prelude.{◌≡◌, ◌≤◌, Bool, true, false, cond, List, [], ◌∷◌, ◌++◌, length, nat_eq}
+use Rattle.std.specs.Prelude.{◌≡◌, ◌≤◌, ℕ, Bool, true, false, cond, List, [], ◌∷◌, ◌++◌, length, map, nat_eq, All}
 use Rattle.std.specs.List.{IsDistinct}
 use Rattle.std.specs.Cmp.Lexicographic.{pointwise}
+use Rattle.mailflags.specs.Flags.{AreFlags, written}
+use Rattle.mailflags.specs.declared.placement.Placement.{Placement}
 use Rattle.sievesyntax.specs.declared.tree.action.Action.{Action}
-use Rattle.sievesyntax.specs.declared.tree.action.Action.TheVariants.{Vacation}
+use Rattle.sievesyntax.specs.declared.tree.action.Action.TheVariants.{Vacation, SetFlag, AddFlag, RemoveFlag}
 use Rattle.sievesyntax.specs.declared.tree.checks.Check.{Check}
-use Rattle.sievesyntax.specs.RunState.{RunState, max_targets, Flow, Going, and_then, inbox, same_target, performed}
-use Rattle.sievesyntax.specs.Meaning.{holds, Actions, Outcome, Done, Failed}
+use Rattle.sievesyntax.specs.RunState.{RunState, at_first, max_targets, Flow, Going, Stopped, Failed, and_then, inbox, same_target, performed}
+use Rattle.sievesyntax.specs.Meaning.{holds, Actions, Outcome}
+use Rattle.sievesyntax.specs.Meaning as M
 use Rattle.sievesyntax.specs.Tree.{CommandTree, require, choose, stop, act, Branches, no_branches, branch, Commands, no_commands, command}
 
 -- actions in the order in which they are run, and whether a `stop` ends them
 abbrev pub Trace : Type 0
 Trace = List Action × Bool
-
--- one after the other, unless a `stop` ends the first
-abbrev pub then_runs : Trace → Trace → Trace
-then_runs (actions, true) next = (actions, true)
-then_runs (actions, false) next = (actions ++ next.0, next.1)
-
--- what commands run, where the tests that look at the message have this truth
-abbrev mutual
-  pub runs : (Check → Bool) → CommandTree → Trace
-  runs truth (require names) = ([], false)
-  runs truth (choose branches) = runs_branch truth branches
-  runs truth stop = ([], true)
-  runs truth (act action) = (action ∷ [], false)
-
-  -- the first block whose test holds, and no other
-  pub runs_branch : (Check → Bool) → Branches → Trace
-  runs_branch truth no_branches = ([], false)
-  runs_branch truth (branch condition block more) = cond (holds truth condition) (runs_all truth block) (runs_branch truth more)
-
-  pub runs_all : (Check → Bool) → Commands → Trace
-  runs_all truth no_commands = ([], false)
-  runs_all truth (command first more) = then_runs (runs truth first) (runs_all truth more)
-
--- the actions that a script runs, in turn
-abbrev pub actions_run : (Check → Bool) → Commands → List Action
-actions_run truth commands = (runs_all truth commands).0
 
 -- actions in turn, up to one that fails, where this says what one does
 abbrev pub in_turn_by : (Action → RunState → Flow) → List Action → RunState → Flow
@@ -48,23 +25,77 @@ in_turn_by performs (action ∷ more) state = and_then (performs action state) (
 abbrev pub in_turn : List Action → RunState → Flow
 in_turn = in_turn_by performed
 
+-- one after the other, unless a `stop` ends the first
+abbrev pub then_runs : Trace → Trace → Trace
+then_runs (actions, true) next = (actions, true)
+then_runs (actions, false) next = (actions ++ next.0, next.1)
+
+-- what is run at the state that a run has come to: nothing after a failure
+abbrev pub runs_at : Flow → (RunState → Trace) → Trace
+runs_at (Going so_far) next = next so_far
+runs_at (Stopped so_far) next = ([], true)
+runs_at (Failed failure) next = ([], false)
+
+-- what commands run from a state on, where the tests have this truth, and this says what an action does
+abbrev mutual
+  pub runs_by : (Action → RunState → Flow) → (RunState → Check → Bool) → CommandTree → RunState → Trace
+  runs_by performs truth (require names) so_far = ([], false)
+  runs_by performs truth (choose branches) so_far = runs_branch_by performs truth branches so_far
+  runs_by performs truth stop so_far = ([], true)
+  runs_by performs truth (act action) so_far = (action ∷ [], false)
+
+  -- the first block whose test holds, and no other
+  pub runs_branch_by : (Action → RunState → Flow) → (RunState → Check → Bool) → Branches → RunState → Trace
+  runs_branch_by performs truth no_branches so_far = ([], false)
+  runs_branch_by performs truth (branch condition block more) so_far =
+      cond (holds (truth so_far) condition) (runs_all_by performs truth block so_far) (runs_branch_by performs truth more so_far)
+
+  -- what comes after begins with what the actions before make of the state
+  pub runs_all_by : (Action → RunState → Flow) → (RunState → Check → Bool) → Commands → RunState → Trace
+  runs_all_by performs truth no_commands so_far = ([], false)
+  runs_all_by performs truth (command first more) so_far =
+      then_runs (runs_by performs truth first so_far) (runs_at (in_turn_by performs (runs_by performs truth first so_far).0 so_far) (runs_all_by performs truth more))
+
+-- the actions that a script runs, in turn, where this says what one does
+abbrev pub actions_run_by : (Action → RunState → Flow) → (RunState → Check → Bool) → Commands → List Action
+actions_run_by performs truth commands = (runs_all_by performs truth commands at_first).0
+
+-- the actions that a script runs, in turn
+abbrev pub actions_run : (RunState → Check → Bool) → Commands → List Action
+actions_run = actions_run_by performed
+
 -- an action that leaves the implicit keep and sends the message nowhere
 abbrev pub KeepsImplicitly : Action → Type 0
 KeepsImplicitly (Vacation args) = Unit {0}
+KeepsImplicitly (SetFlag texts) = Unit {0}
+KeepsImplicitly (AddFlag texts) = Unit {0}
+KeepsImplicitly (RemoveFlag texts) = Unit {0}
 KeepsImplicitly _ = ⊥
 
 -- this is so of what is done, where the script didn't fail
 abbrev pub OnDone : (Actions → Type 0) → Outcome → Type 0
-OnDone P (Done actions) = P actions
-OnDone P (Failed failure) = Unit {0}
+OnDone P (M.Done actions) = P actions
+OnDone P (M.Failed failure) = Unit {0}
 
 -- each mailbox and each address stands once, and there are no more addresses than there may be
 pub record NamesWithoutRepeats (actions : Actions) : Type 0 where
-  pub mailboxes : IsDistinct (pointwise nat_eq) actions.filed
+  pub mailboxes : IsDistinct (pointwise nat_eq) (map (λ (one : Placement). one.mailbox) actions.filed)
   pub addresses : IsDistinct same_target actions.sent
   pub few : length actions.sent ≤ max_targets
 
 -- the message goes into INBOX and nowhere else
 pub record FilesIntoInboxAlone (actions : Actions) : Type 0 where
-  pub filed : actions.filed ≡ inbox ∷ []
+  pub filed : map (λ (one : Placement). one.mailbox) actions.filed ≡ inbox ∷ []
   pub sent : actions.sent ≡ []
+
+-- no copy has flags
+pub record FilesWithoutFlags (actions : Actions) : Type 0 where
+  pub bare : All (λ (one : Placement). one.flags ≡ []) actions.filed
+
+-- the text of a copy names flags: names of flags, none twice, and no more than a message may have
+abbrev pub NamesFlags : Placement → Type 0
+NamesFlags one = (flags : List (List ℕ)) × AreFlags flags × (one.flags ≡ written flags)
+
+-- so does the text of each copy
+pub record FilesWithFlags (actions : Actions) : Type 0 where
+  pub named : All NamesFlags actions.filed

@@ -4,7 +4,7 @@ use Rattle.std.specs.List.{list_any}
 use Rattle.std.specs.Str.{IsUtf8}
 use Rattle.std.specs.Cmp.Lexicographic.{pointwise}
 use Rattle.sievesyntax.specs.declared.tree.action.Action.{Action}
-use Rattle.sievesyntax.specs.declared.tree.action.Action.TheVariants.{Keep, Discard, FileInto, Redirect, Vacation}
+use Rattle.sievesyntax.specs.declared.tree.action.Action.TheVariants.{Keep, Discard, FileInto, Redirect, Vacation, SetFlag, AddFlag, RemoveFlag}
 use Rattle.sievesyntax.specs.declared.tree.checks.AddressPart.{AddressPart}
 use Rattle.sievesyntax.specs.declared.tree.checks.AddressPart.TheVariants.{User, Detail}
 use Rattle.sievesyntax.specs.declared.tree.checks.Collation.{Collation}
@@ -12,7 +12,7 @@ use Rattle.sievesyntax.specs.declared.tree.checks.Collation.TheVariants.{AsciiNu
 use Rattle.sievesyntax.specs.declared.tree.checks.Matching.{Matching}
 use Rattle.sievesyntax.specs.declared.tree.checks.Matching.TheVariants.{Contains, Matches, Value, Count}
 use Rattle.sievesyntax.specs.declared.tree.checks.Check.{Check}
-use Rattle.sievesyntax.specs.declared.tree.checks.Check.TheVariants.{Size, Exists, Header, Address, Envelope, MailboxExists, Date, CurrentDate}
+use Rattle.sievesyntax.specs.declared.tree.checks.Check.TheVariants.{Size, Exists, Header, Address, Envelope, MailboxExists, Date, CurrentDate, HasFlag}
 use Rattle.sievesyntax.specs.declared.table.capability.Capabilities.{Capabilities}
 use Rattle.sievesyntax.specs.Reasons.{IsReason}
 use Rattle.sievesyntax.specs.Tree.{TestTree, yes, no, looks, not_of, all_of, any_of, Tests, no_tests, test, list_depth, not_depth, CommandTree, require, choose, stop, act, Branches, no_branches, branch, Commands, no_commands, command, depth}
@@ -43,7 +43,8 @@ is_capability name =
     || (is_named (codes "comparator-i;ascii-numeric") name
     || (is_named (codes "encoded-character") name
     || (is_named (codes "mailbox") name
-    || is_named (codes "date") name)))))))))))
+    || (is_named (codes "date") name
+    || is_named (codes "imap4flags") name))))))))))))
 
 abbrev pub IsCapability : List ℕ → Type 0
 IsCapability name = is_capability name ≡ true
@@ -61,6 +62,7 @@ granted_by names = record {
   numeric = list_any (is_named (codes "comparator-i;ascii-numeric")) names;
   mailbox = list_any (is_named (codes "mailbox")) names;
   date = list_any (is_named (codes "date")) names;
+  flags = list_any (is_named (codes "imap4flags")) names;
 }
 
 -- `vacation` may be used: `vacation-seconds` stands for it too (RFC 6131, 2)
@@ -106,13 +108,18 @@ MayMatch granted comparator matching =
 
 -- an action that may stand where this is granted
 abbrev pub MayAct : Capabilities → Action → Type 0
-MayAct granted Keep = Unit {0}
+MayAct granted (Keep given) = Permits granted.flags (is_some given)
 MayAct granted Discard = Unit {0}
-MayAct granted (FileInto filing) = (granted.fileinto ≡ true) × Permits granted.copy filing.copy × Permits granted.mailbox filing.create × IsMailbox filing.mailbox
+MayAct granted (FileInto filing) =
+    (granted.fileinto ≡ true) × Permits granted.copy filing.copy × Permits granted.mailbox filing.create × Permits granted.flags (is_some filing.flags)
+    × IsMailbox filing.mailbox
 MayAct granted (Redirect redirect) = Permits granted.copy redirect.copy
 MayAct granted (Vacation args) = (may_answer granted ≡ true) × Permits granted.seconds (is_some args.seconds) × IsReason args
+MayAct granted (SetFlag texts) = granted.flags ≡ true
+MayAct granted (AddFlag texts) = granted.flags ≡ true
+MayAct granted (RemoveFlag texts) = granted.flags ≡ true
 
--- a test of the message that may stand where this is granted
+-- a test of the message, or of the flags that are set, that may stand where this is granted
 abbrev pub MayCheck : Capabilities → Check → Type 0
 MayCheck granted (Size size) = Unit {0}
 MayCheck granted (Exists fields) = Unit {0}
@@ -123,6 +130,7 @@ MayCheck granted (Envelope envelope) =
 MayCheck granted (MailboxExists names) = granted.mailbox ≡ true
 MayCheck granted (Date date) = (granted.date ≡ true) × MayMatch granted date.comparator date.matching
 MayCheck granted (CurrentDate current) = (granted.date ≡ true) × MayMatch granted current.comparator current.matching
+MayCheck granted (HasFlag flag) = (granted.flags ≡ true) × MayMatch granted flag.comparator flag.matching
 
 -- a test that may stand where this is granted
 abbrev mutual

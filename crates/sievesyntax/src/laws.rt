@@ -1,13 +1,13 @@
 //! Laws of the definitions, each the contract of a function that does nothing.
 ghost use Rattle.std.specs.Prelude.{◌≡◌, ◌↔◌, ℕ, Bool, true, List, All};
 ghost use Rattle.sievesyntax.specs.declared.tree.checks.Check.{Check};
-ghost use Rattle.sievesyntax.specs.Before.{outcome_in, StillMeans, MeansFormerly, MeansUndated};
-ghost use Rattle.sievesyntax.specs.Languages.{today, before, former, undated};
+ghost use Rattle.sievesyntax.specs.Before.{outcome_in, StillMeans, MeansFormerly, MeansUndated, MeansUnflagged};
+ghost use Rattle.sievesyntax.specs.Languages.{today, before, former, undated, unflagged};
 ghost use Rattle.sievesyntax.specs.Meaning.{ended, outcome};
 ghost use Rattle.sievesyntax.specs.Means.{MeansIn, Means};
 ghost use Rattle.sievesyntax.specs.Reasons.{is_entity, IsEntity};
-ghost use Rattle.sievesyntax.specs.RunState.{at_first};
-ghost use Rattle.sievesyntax.specs.Trace.{actions_run, in_turn, KeepsImplicitly, OnDone, NamesWithoutRepeats, FilesIntoInboxAlone};
+ghost use Rattle.sievesyntax.specs.RunState.{RunState, at_first};
+ghost use Rattle.sievesyntax.specs.Trace.{actions_run, in_turn, KeepsImplicitly, OnDone, NamesWithoutRepeats, FilesIntoInboxAlone, FilesWithFlags};
 ghost use Rattle.sievesyntax.specs.Tree.{Commands};
 
 /// A text means one tree at most (RFC 5228, 8.2).
@@ -17,19 +17,25 @@ pub fn tree_of_a_text()
 
 /// A script comes to what the actions that it runs come to, one after the other.
 pub fn outcome_of_the_actions()
-    ensures { (truth : Check → Bool) (tree : Commands) → outcome truth tree ≡ ended (in_turn (actions_run truth tree) at_first) }
+    ensures { (truth : RunState → Check → Bool) (tree : Commands) → outcome truth tree ≡ ended (in_turn (actions_run truth tree) at_first) }
 {}
 
 /// Where a script doesn't fail, each mailbox and each address stands once, and no more than 16 addresses
 /// (RFC 5228, 2.10.3).
 pub fn without_repeats()
-    ensures { (truth : Check → Bool) (tree : Commands) → OnDone NamesWithoutRepeats (outcome truth tree) }
+    ensures { (truth : RunState → Check → Bool) (tree : Commands) → OnDone NamesWithoutRepeats (outcome truth tree) }
+{}
+
+/// Where a script doesn't fail, the flags of each copy are flags, whatever the texts of the script are: 100 names at most, of 128
+/// octets at most, and none twice (RFC 5232, 2; RFC 3501, 2.3.2).
+pub fn flags_of_copies()
+    ensures { (truth : RunState → Check → Bool) (tree : Commands) → OnDone FilesWithFlags (outcome truth tree) }
 {}
 
 /// A run without `keep`, `fileinto`, `redirect` and `discard` files the message into INBOX and does no more with it
 /// (RFC 5228, 2.10.2).
 pub fn implicit_keep()
-    ensures { (truth : Check → Bool) (tree : Commands) → All KeepsImplicitly (actions_run truth tree) → OnDone FilesIntoInboxAlone (outcome truth tree) }
+    ensures { (truth : RunState → Check → Bool) (tree : Commands) → All KeepsImplicitly (actions_run truth tree) → OnDone FilesIntoInboxAlone (outcome truth tree) }
 {}
 
 /// The reason of a `vacation` with `:mime` is taken exactly where it is a MIME entity (RFC 5230, 4.4).
@@ -44,15 +50,21 @@ pub fn scripts_of_former_language()
     ensures { (text : List ℕ) (tree : Commands) → MeansIn former text tree → MeansFormerly text tree }
 {}
 
-/// A text that meant a tree before `date` (RFC 5260) means the same tree now. None of its tests asks for a date, and on every mail it
-/// comes to what it came to before.
+/// A text that meant a tree before `date` (RFC 5260) means the same tree now. None of its tests asks for a date or a flag, none of its
+/// actions gives or sets flags, and on every mail it comes to what it came to before.
 pub fn scripts_of_undated_language()
     ensures { (text : List ℕ) (tree : Commands) → MeansIn undated text tree → MeansUndated text tree }
+{}
+
+/// A text that meant a tree before `imap4flags` (RFC 5232) means the same tree now. None of its tests asks for a flag, none of its
+/// actions gives or sets flags, and on every mail it comes to what it came to before, where no copy has flags.
+pub fn scripts_of_unflagged_language()
+    ensures { (text : List ℕ) (tree : Commands) → MeansIn unflagged text tree → MeansUnflagged text tree }
 {}
 
 /// A text that meant a tree before `:copy` (RFC 3894) and `:seconds` (RFC 6131) means the same tree now. The tree has neither, and
 /// on every mail it comes to what it came to before, when each filing and each redirect cancelled the implicit keep.
 pub fn scripts_of_before()
     ensures still { (text : List ℕ) (tree : Commands) → MeansIn before text tree → StillMeans text tree }
-    ensures today { (truth : Check → Bool) (tree : Commands) → outcome truth tree ≡ outcome_in today truth tree }
+    ensures today { (truth : RunState → Check → Bool) (tree : Commands) → outcome truth tree ≡ outcome_in today truth tree }
 {}

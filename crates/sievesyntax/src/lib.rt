@@ -15,7 +15,7 @@ pub use table::command::is_mailbox;
 pub use tree::action::{Action, FileInto, Redirect};
 pub use tree::checks::{
     Address, AddressPart, Bound, Check, Collation, CurrentDate, DateTest, DateZone, EnvelopeParts,
-    EnvelopeTest, Header, Matching, Relation, Size,
+    EnvelopeTest, HasFlag, Header, Matching, Relation, Size,
 };
 pub use tree::command::{Branch, Command};
 pub use tree::test::Test;

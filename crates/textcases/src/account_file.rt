@@ -38,7 +38,7 @@ fn written(alloc: Global, file: &AccountFile) -> Result<Octets, AllocError> {
         let line = writer.part(alloc, part)?;
         text.extend_from_slice(line.front.as_slice())?;
         text.extend_from_slice(line.last)?;
-        text.extend_from_slice(line.back)?;
+        text.extend_from_slice(line.back.as_slice())?;
     }
     let end = writer.end(alloc)?;
     text.extend_from_slice(end.as_slice())?;
@@ -83,21 +83,25 @@ fn add_part(out: &mut Octets, part: &Part) -> Result<(), AllocError> {
             number,
             folder,
             message,
+            flags,
         } => {
             out.extend_from_slice(b"mail")?;
             add_number(out, *number)?;
             add_text(out, folder.as_slice())?;
             add_text(out, message.as_slice())?;
+            add_flags(out, flags.as_slice())?;
         }
         Part::Copy {
             number,
             folder,
             first,
+            flags,
         } => {
             out.extend_from_slice(b"copy")?;
             add_number(out, *number)?;
             add_text(out, folder.as_slice())?;
             add_number(out, *first)?;
+            add_flags(out, flags.as_slice())?;
         }
         _ => add_late_part(out, part)?,
     }
@@ -140,6 +144,14 @@ fn add_late_part(out: &mut Octets, part: &Part) -> Result<(), AllocError> {
 fn add_number(out: &mut Octets, number: u64) -> Result<(), AllocError> {
     out.push(b' ')?;
     write_decimal(out, number)
+}
+
+/// The flags, where there are some.
+fn add_flags(out: &mut Octets, flags: &[u8]) -> Result<(), AllocError> {
+    if flags.is_empty() {
+        return Ok(());
+    }
+    add_text(out, flags)
 }
 
 /// The text, or the length of a long one.

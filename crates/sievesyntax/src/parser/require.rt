@@ -58,6 +58,7 @@ fn read_requires(
         numeric: false,
         mailbox: false,
         date: false,
+        flags: false,
     };
     'found: while take_require(reader) {
         let names = read_names(alloc, reader)?;

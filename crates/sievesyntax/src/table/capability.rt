@@ -33,6 +33,8 @@ pub struct Capabilities {
     pub mailbox: bool,
     /// `date` (RFC 5260, 4 and 5).
     pub date: bool,
+    /// `imap4flags` (RFC 5232).
+    pub flags: bool,
 }
 
 impl Capabilities {
@@ -75,6 +77,7 @@ pub(crate) fn grant(granted: Capabilities, names: &[Octets]) -> Result<Capabilit
         numeric: also(granted.numeric, names, b"comparator-i;ascii-numeric"),
         mailbox: also(granted.mailbox, names, b"mailbox"),
         date: also(granted.date, names, b"date"),
+        flags: also(granted.flags, names, b"imap4flags"),
     })
 }
 
@@ -114,4 +117,5 @@ fn is_capability(name: &[u8]) -> bool
         || name == b"encoded-character".as_slice()
         || name == b"mailbox".as_slice()
         || name == b"date".as_slice()
+        || name == b"imap4flags".as_slice()
 }

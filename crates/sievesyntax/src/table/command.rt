@@ -1,9 +1,9 @@
-//! The table of commands without a block: what may stand after each name (RFC 5228, 3 and 4; RFC 5230).
-ghost use Rattle.std.specs.Prelude.{◌≡◌, ◌↔◌, IsTrue, IfOk};
+//! The table of commands without a block: what may stand after each name (RFC 5228, 3 and 4; RFC 5230; RFC 5232).
+ghost use Rattle.std.specs.Prelude.{◌≡◌, ◌↔◌, true, IsTrue, IfOk};
 ghost use Rattle.sievesyntax.specs.Parsing.{IfFault, FindsFit};
 ghost use Rattle.sievesyntax.specs.Tree.{CommandTree};
 ghost use Rattle.sievesyntax.specs.View.{command_view};
-ghost use Rattle.sievesyntax.specs.Table.{IsPlainCommand, IsFileInto, IsRedirect};
+ghost use Rattle.sievesyntax.specs.Table.{IsPlainCommand, IsList, IsKeep, IsFileInto, IsRedirect};
 ghost use Rattle.sievesyntax.specs.Vacations.{IsVacation};
 ghost use Rattle.sievesyntax.specs.Valid.{IsMailbox, MayAct, MayStand};
 ghost use Rattle.sievesyntax.specs.declared.tree.action.Action.TheVariants as D;
@@ -12,8 +12,9 @@ use crate::error::ReadError;
 use crate::parser::argument::Argument;
 use crate::table::capability::{Capabilities, require};
 use crate::table::file_into::read_file_into;
+use crate::table::keep::read_keep;
 use crate::table::keyword::Keyword;
-use crate::table::positional::no_arguments;
+use crate::table::positional::{no_arguments, read_list};
 use crate::table::reason::check_reason;
 use crate::table::redirect::read_redirect;
 use crate::table::utf8::is_utf8;
@@ -21,6 +22,7 @@ use crate::table::vacation_arguments::read_vacation;
 use crate::tree::action::{Action, FileInto, Redirect};
 use crate::tree::command::Command;
 use crate::tree::vacation::Vacation;
+use octets::Texts;
 use sievelex::FaultKind;
 use std::alloc::Global;
 
@@ -44,18 +46,18 @@ pub(crate) fn plain_command(
             no_arguments(args)?;
             Ok(Command::Stop)
         }
-        // Syntax: keep (RFC 5228, 4.3)
+        // Syntax: keep [":flags" <list-of-flags: string-list>], where `imap4flags` is required with it (RFC 5228, 4.3; RFC 5232, 5)
         Keyword::Keep => {
-            no_arguments(args)?;
-            Ok(Command::Act(Action::Keep))
+            let given = permitted_keep(alloc, args, granted)?;
+            Ok(Command::Act(Action::Keep(given)))
         }
         // Syntax: discard (RFC 5228, 4.4)
         Keyword::Discard => {
             no_arguments(args)?;
             Ok(Command::Act(Action::Discard))
         }
-        // Syntax: fileinto [":copy"] [":create"] <mailbox: string>, where `fileinto` is required, and `copy` and `mailbox` with their
-        // tags (RFC 5228, 4.1; RFC 3894; RFC 5490, 3.2)
+        // Syntax: fileinto [":copy"] [":create"] [":flags" <list-of-flags: string-list>] <mailbox: string>, where `fileinto` is required,
+        // and `copy`, `mailbox` and `imap4flags` with their tags (RFC 5228, 4.1; RFC 3894; RFC 5490, 3.2; RFC 5232, 5)
         Keyword::FileInto => {
             let filing = permitted_filing(alloc, args, granted)?;
             Ok(Command::Act(Action::FileInto(filing)))
@@ -71,11 +73,52 @@ pub(crate) fn plain_command(
             let vacation = permitted_vacation(alloc, args, granted)?;
             Ok(Command::Act(Action::Vacation(vacation)))
         }
+        // Syntax: setflag <list-of-flags: string-list>, where `imap4flags` is required (RFC 5232, 3.1)
+        Keyword::SetFlag => {
+            let texts = permitted_flags(alloc, args, granted)?;
+            Ok(Command::Act(Action::SetFlag(texts)))
+        }
+        // Syntax: addflag <list-of-flags: string-list>, where `imap4flags` is required (RFC 5232, 3.2)
+        Keyword::AddFlag => {
+            let texts = permitted_flags(alloc, args, granted)?;
+            Ok(Command::Act(Action::AddFlag(texts)))
+        }
+        // Syntax: removeflag <list-of-flags: string-list>, where `imap4flags` is required (RFC 5232, 3.3)
+        Keyword::RemoveFlag => {
+            let texts = permitted_flags(alloc, args, granted)?;
+            Ok(Command::Act(Action::RemoveFlag(texts)))
+        }
         Keyword::Require => Err(ReadError::Fault(FaultKind::LateRequire)),
         Keyword::Elsif => Err(ReadError::Fault(FaultKind::StrayElse)),
         Keyword::Else => Err(ReadError::Fault(FaultKind::StrayElse)),
         _ => Err(ReadError::Fault(FaultKind::UnknownCommand)),
     }
+}
+
+/// The texts of the `:flags` of `keep`, where it may stand.
+fn permitted_keep(
+    alloc: Global,
+    args: &[Argument<'_>],
+    granted: Capabilities,
+) -> Result<Option<Texts>, ReadError>
+    ensures { FindsFit (IsKeep args.now) (λ given. MayAct granted (D.Keep given)) result }
+{
+    let given = read_keep(alloc, args)?;
+    require(granted.flags, given.is_some())?;
+    Ok(given)
+}
+
+/// The texts of `setflag`, `addflag` or `removeflag`, where it may stand.
+fn permitted_flags(
+    alloc: Global,
+    args: &[Argument<'_>],
+    granted: Capabilities,
+) -> Result<Texts, ReadError>
+    ensures { FindsFit (IsList args.now) (λ texts. granted.flags ≡ true) result }
+{
+    require(granted.flags, true)?;
+    let texts = read_list(alloc, args)?;
+    Ok(texts)
 }
 
 /// The arguments of `fileinto`, where it may stand.
@@ -90,6 +133,7 @@ fn permitted_filing(
     let filing = read_file_into(alloc, args)?;
     require(granted.copy, filing.copy)?;
     require(granted.mailbox, filing.create)?;
+    require(granted.flags, filing.flags.is_some())?;
     if !is_mailbox(filing.mailbox.as_slice()) {
         return Err(ReadError::Fault(FaultKind::BadMailbox));
     }

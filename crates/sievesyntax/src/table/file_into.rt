@@ -1,4 +1,4 @@
-//! The arguments of `fileinto` (RFC 5228, 4.1; RFC 3894; RFC 5490, 3.2).
+//! The arguments of `fileinto` (RFC 5228, 4.1; RFC 3894; RFC 5490, 3.2; RFC 5232, 5).
 ghost use Rattle.sievesyntax.specs.Parsing.{Finds};
 ghost use Rattle.sievesyntax.specs.Table.{IsFileInto, SaysFileInto};
 
@@ -6,7 +6,7 @@ use crate::error::ReadError;
 use crate::parser::argument::Argument;
 use crate::table::positional::text;
 use crate::table::tag_group::{TagGroup, TagValue, split_tags};
-use crate::table::tag_values::{given_copy, given_create};
+use crate::table::tag_values::{given_copy, given_create, given_flags};
 use crate::tree::action::FileInto;
 use std::alloc::Global;
 
@@ -14,7 +14,8 @@ use std::alloc::Global;
 pub(crate) fn read_file_into(alloc: Global, args: &[Argument<'_>]) -> Result<FileInto, ReadError>
     ensures { Finds (IsFileInto args.now) result }
 {
-    let (tag_values, positional) = split_tags(alloc, args, &[TagGroup::Copy, TagGroup::Create])?;
+    let allowed = &[TagGroup::Copy, TagGroup::Create, TagGroup::Flags];
+    let (tag_values, positional) = split_tags(alloc, args, allowed)?;
     file_into_from(alloc, tag_values.as_slice(), positional)
 }
 
@@ -26,9 +27,11 @@ fn file_into_from(
     ensures { Finds (SaysFileInto tag_values.now positional.now) result }
 {
     let mailbox = text(alloc, positional)?;
+    let flags = given_flags(alloc, tag_values)?;
     Ok(FileInto {
         mailbox,
         copy: given_copy(tag_values),
         create: given_create(tag_values),
+        flags,
     })
 }

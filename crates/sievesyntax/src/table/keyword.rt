@@ -28,6 +28,10 @@ pub enum Keyword {
     MailboxExists,
     Date,
     CurrentDate,
+    SetFlag,
+    AddFlag,
+    RemoveFlag,
+    HasFlag,
     /// Any other identifier.
     Other,
 }
@@ -90,6 +94,14 @@ pub(crate) fn keyword_named(name: &[u8]) -> Keyword
         Keyword::Date
     } else if is_name(name, b"currentdate") {
         Keyword::CurrentDate
+    } else if is_name(name, b"setflag") {
+        Keyword::SetFlag
+    } else if is_name(name, b"addflag") {
+        Keyword::AddFlag
+    } else if is_name(name, b"removeflag") {
+        Keyword::RemoveFlag
+    } else if is_name(name, b"hasflag") {
+        Keyword::HasFlag
     } else {
         Keyword::Other
     }

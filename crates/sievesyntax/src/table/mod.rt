@@ -2,6 +2,7 @@
 pub mod capability;
 pub mod command;
 pub mod file_into;
+pub mod keep;
 pub mod keyword;
 pub mod positional;
 pub mod reason;

@@ -63,7 +63,7 @@ pub(crate) fn list(alloc: Global, args: &[Argument<'_>]) -> Result<Texts, ReadEr
     }
 }
 
-/// The names of `require`, or the fields of `exists`.
+/// The names of `require`, the fields of `exists`, or the flags of `setflag`.
 pub(crate) fn read_list(alloc: Global, args: &[Argument<'_>]) -> Result<Texts, ReadError>
     ensures { Finds (IsList args.now) result }
 {

@@ -31,6 +31,7 @@ pub enum Tag {
     Create,
     Zone,
     OriginalZone,
+    Flags,
     /// A tag of no command and no test.
     Other,
 }
@@ -87,6 +88,8 @@ pub(crate) fn tag_named(name: &[u8]) -> Tag
         Tag::Zone
     } else if is_name(name, b"originalzone") {
         Tag::OriginalZone
+    } else if is_name(name, b"flags") {
+        Tag::Flags
     } else {
         Tag::Other
     }

@@ -1,5 +1,5 @@
 //! Tagged arguments, in any order (RFC 5228, 2.6.2).
-ghost use Rattle.std.specs.Prelude.{◌≡◌, ◌<◌, ◌≤◌, List, [], ◌∷◌, length, drop, MatchOption, IfOk, IfSome};
+ghost use Rattle.std.specs.Prelude.{map, IsTrue, ◌↔◌, ◌≡◌, ◌<◌, ◌≤◌, List, [], ◌∷◌, length, drop, MatchOption, IfOk, IfSome};
 ghost use Rattle.std.specs.List.{Contains};
 ghost use Rattle.sievesyntax.specs.declared.parser.argument.Argument.TheVariants as A;
 ghost use Rattle.sievesyntax.specs.Parsing.{IfFault};
@@ -47,6 +47,8 @@ pub enum TagValue {
     Zone(i16),
     /// `:originalzone`.
     OriginalZone,
+    /// `:flags`.
+    Flags(Texts),
 }
 
 /// What a tag settles. Tags that exclude each other settle one thing.
@@ -65,6 +67,7 @@ pub enum TagGroup {
     Copy,
     Create,
     Zone,
+    Flags,
 }
 
 impl TagValue {
@@ -87,6 +90,7 @@ impl TagValue {
             TagValue::Create => TagGroup::Create,
             TagValue::Zone(_) => TagGroup::Zone,
             TagValue::OriginalZone => TagGroup::Zone,
+            TagValue::Flags(_) => TagGroup::Flags,
         }
     }
 }
@@ -102,15 +106,13 @@ pub(crate) fn split_tags<'a, 't>(
     ensures fault { IfFault result ((tag_values : List TagValue) (positional : List Argument) → IsSplit allowed.now args.now tag_values positional → ⊥) }
 {
     let mut tag_values = Vec::new(alloc);
-    let mut taken = Vec::new(alloc);
     let mut at = 0;
     'tag_values: while let Some((tag_value, width)) = next_tag(
         alloc,
         args.split_at(at).1,
         allowed,
-        taken.as_slice(),
+        tag_values.as_slice(),
     )? {
-        taken.push(tag_value.group())?;
         tag_values.push(tag_value)?;
         at += width;
     }
@@ -122,13 +124,13 @@ fn next_tag(
     alloc: Global,
     args: &[Argument<'_>],
     allowed: &[TagGroup],
-    taken: &[TagGroup],
+    taken: &[TagValue],
 ) -> Result<Option<(TagValue, usize)>, ReadError>
     ensures found { IfOk result (λ o. MatchOption o (IsPlain args.now) (λ r. IsAllowed allowed.now r.0 args.now (drop r.1 args.now))) }
     ensures width { IfOk result (λ o. IfSome o (λ r. (0 < r.1) × (r.1 ≤ length args.now))) }
-    ensures free { IfOk result (λ o. MatchOption o (Unit {0}) (λ r. Contains taken.now (group_of r.0) → ⊥)) }
+    ensures free { IfOk result (λ o. MatchOption o (Unit {0}) (λ r. Contains (map group_of taken.now) (group_of r.0) → ⊥)) }
     ensures begun { IfFault result (IsPlain args.now → ⊥) }
-    ensures fault { IfFault result (HasNoTag allowed.now taken.now args.now) }
+    ensures fault { IfFault result (HasNoTag allowed.now (map group_of taken.now) args.now) }
 {
     let Some((first, rest)) = args.split_first() else {
         return Ok(None);
@@ -140,10 +142,22 @@ fn next_tag(
     if !allowed.contains(&tag_value.group()) {
         return Err(ReadError::Fault(FaultKind::UnknownTag));
     }
-    if taken.contains(&tag_value.group()) {
+    if is_settled(taken, tag_value.group()) {
         return Err(ReadError::Fault(FaultKind::DoubleTag));
     }
     Ok(Some((tag_value, args.len() - after.len())))
+}
+
+/// Whether one of the tags is of this group.
+fn is_settled(tag_values: &[TagValue], group: TagGroup) -> bool
+    ensures { IsTrue result ↔ Contains (map group_of tag_values.now) group }
+{
+    for tag_value in tag_values {
+        if tag_value.group() == group {
+            return true;
+        }
+    }
+    false
 }
 
 /// The tag that begins with this tag, and what follows it.
@@ -209,6 +223,10 @@ fn tag_value_at<'a, 't>(
         Tag::Addresses => {
             let (texts, rest) = texts_at(alloc, args)?;
             Ok((TagValue::Addresses(texts), rest))
+        }
+        Tag::Flags => {
+            let (texts, rest) = texts_at(alloc, args)?;
+            Ok((TagValue::Flags(texts), rest))
         }
         Tag::Other => Err(ReadError::Fault(FaultKind::UnknownTag)),
     }

@@ -1,10 +1,10 @@
 //! What the tags of a command or a test say: the value that is given, or its default.
 ghost use Rattle.std.specs.Prelude.{◌≡◌, IfOk};
-ghost use Rattle.sievesyntax.specs.TagValues.{bound_in, comparator_in, matching_in, part_in, days_in, seconds_in, subject_in, mime_in, handle_in, copy_in, create_in, zone_in};
+ghost use Rattle.sievesyntax.specs.TagValues.{bound_in, comparator_in, matching_in, part_in, days_in, seconds_in, subject_in, mime_in, handle_in, copy_in, create_in, zone_in, flags_in};
 
 use crate::table::tag_group::TagValue;
 use crate::tree::checks::{AddressPart, Bound, Collation, DateZone, Matching};
-use octets::Octets;
+use octets::{Octets, Texts};
 use std::alloc::{AllocError, Global};
 
 /// The side of a limit, if one is given.
@@ -158,4 +158,19 @@ pub(crate) fn given_zone(tag_values: &[TagValue]) -> DateZone
         }
     }
     DateZone::Host
+}
+
+/// The texts of `:flags`, if they are given.
+pub(crate) fn given_flags(
+    alloc: Global,
+    tag_values: &[TagValue],
+) -> Result<Option<Texts>, AllocError>
+    ensures { IfOk result (λ found. found ≡ flags_in tag_values.now) }
+{
+    for tag_value in tag_values {
+        if let TagValue::Flags(texts) = tag_value {
+            return Ok(Some(texts.try_clone(alloc)?));
+        }
+    }
+    Ok(None)
 }

@@ -4,7 +4,7 @@ ghost use Rattle.sievesyntax.specs.Parsing.{IfFault, FindsFit};
 ghost use Rattle.sievesyntax.specs.declared.tree.checks.Check.TheVariants as C;
 ghost use Rattle.sievesyntax.specs.Tree.{TestTree};
 ghost use Rattle.sievesyntax.specs.View.{test_view};
-ghost use Rattle.sievesyntax.specs.Table.{IsPlainTest, IsList, IsHeader, IsAddress, IsEnvelope, IsDate, IsCurrentDate};
+ghost use Rattle.sievesyntax.specs.Table.{IsPlainTest, IsList, IsHeader, IsAddress, IsEnvelope, IsDate, IsCurrentDate, IsHasFlag};
 ghost use Rattle.sievesyntax.specs.Valid.{MayCheck, MayMatch, MayTest};
 
 use crate::error::ReadError;
@@ -13,10 +13,11 @@ use crate::table::capability::{Capabilities, require};
 use crate::table::keyword::Keyword;
 use crate::table::positional::{no_arguments, read_list};
 use crate::table::test_arguments::{
-    read_address, read_current_date, read_date_test, read_envelope, read_header, read_size,
+    read_address, read_current_date, read_date_test, read_envelope, read_has_flag, read_header,
+    read_size,
 };
 use crate::tree::checks::{
-    Address, Check, Collation, CurrentDate, DateTest, EnvelopeTest, Header, Matching,
+    Address, Check, Collation, CurrentDate, DateTest, EnvelopeTest, HasFlag, Header, Matching,
 };
 use crate::tree::test::Test;
 use octets::Texts;
@@ -82,6 +83,11 @@ pub(crate) fn plain_test(
         Keyword::CurrentDate => {
             let current = permitted_current(alloc, args, granted)?;
             Ok(Test::Check(Check::CurrentDate(current)))
+        }
+        // Syntax: hasflag [MATCH-TYPE] [COMPARATOR] <list-of-flags: string-list>, where `imap4flags` is required (RFC 5232, 4)
+        Keyword::HasFlag => {
+            let flag = permitted_has_flag(alloc, args, granted)?;
+            Ok(Test::Check(Check::HasFlag(flag)))
         }
         _ => Err(ReadError::Fault(FaultKind::UnknownTest)),
     }
@@ -186,4 +192,18 @@ fn permitted_current(
     let current = read_current_date(alloc, args)?;
     require_match(granted, current.comparator, current.matching)?;
     Ok(current)
+}
+
+/// The arguments of `hasflag`, where it may stand.
+fn permitted_has_flag(
+    alloc: Global,
+    args: &[Argument<'_>],
+    granted: Capabilities,
+) -> Result<HasFlag, ReadError>
+    ensures { FindsFit (IsHasFlag args.now) (λ flag. MayCheck granted (C.HasFlag flag)) result }
+{
+    require(granted.flags, true)?;
+    let flag = read_has_flag(alloc, args)?;
+    require_match(granted, flag.comparator, flag.matching)?;
+    Ok(flag)
 }

@@ -4,19 +4,19 @@ ghost use Rattle.std.specs.List.{list_all, list_any};
 ghost use Rattle.sievesyntax.specs.Lexemes.{same_name};
 ghost use Rattle.maildates.specs.Parts.{part_named};
 ghost use Rattle.sievesyntax.specs.Parsing.{Finds, IfFault};
-ghost use Rattle.sievesyntax.specs.Table.{SaysSize, SaysHeader, SaysAddress, SaysEnvelope, SaysDate, SaysCurrentDate, NamesParts, IsSize, IsHeader, IsAddress, IsEnvelope, IsDate, IsCurrentDate};
+ghost use Rattle.sievesyntax.specs.Table.{SaysSize, SaysHeader, SaysAddress, SaysEnvelope, SaysDate, SaysCurrentDate, SaysHasFlag, NamesParts, IsSize, IsHeader, IsAddress, IsEnvelope, IsDate, IsCurrentDate, IsHasFlag};
 ghost use Rattle.sievesyntax.specs.Table as spec;
 
 use crate::error::ReadError;
 use crate::parser::argument::Argument;
 use crate::table::keyword::is_name;
-use crate::table::positional::{lists, number, text_and_list, two_texts_and_list};
+use crate::table::positional::{list, lists, number, text_and_list, two_texts_and_list};
 use crate::table::tag_group::{TagGroup, TagValue, split_tags};
 use crate::table::tag_values::{
     given_bound, given_comparator, given_matching, given_part, given_zone,
 };
 use crate::tree::checks::{
-    Address, CurrentDate, DateTest, DateZone, EnvelopeParts, EnvelopeTest, Header, Size,
+    Address, CurrentDate, DateTest, DateZone, EnvelopeParts, EnvelopeTest, HasFlag, Header, Size,
 };
 use maildates::DatePart;
 use octets::Octets;
@@ -177,6 +177,33 @@ fn current_date_from(
         comparator: given_comparator(tag_values),
         matching: given_matching(tag_values),
         part,
+        keys,
+    })
+}
+
+/// The arguments of `hasflag`.
+pub(crate) fn read_has_flag(alloc: Global, args: &[Argument<'_>]) -> Result<HasFlag, ReadError>
+    ensures { Finds (IsHasFlag args.now) result }
+{
+    let (tag_values, positional) = split_tags(
+        alloc,
+        args,
+        &[TagGroup::Comparator, TagGroup::Matching],
+    )?;
+    has_flag_from(alloc, tag_values.as_slice(), positional)
+}
+
+fn has_flag_from(
+    alloc: Global,
+    tag_values: &[TagValue],
+    positional: &[Argument<'_>],
+) -> Result<HasFlag, ReadError>
+    ensures { Finds (SaysHasFlag tag_values.now positional.now) result }
+{
+    let keys = list(alloc, positional)?;
+    Ok(HasFlag {
+        comparator: given_comparator(tag_values),
+        matching: given_matching(tag_values),
         keys,
     })
 }

@@ -1,11 +1,11 @@
-//! The tests that look at a message or its envelope (RFC 5228, 5).
+//! The tests that look at a message, its envelope, or the flags that are set (RFC 5228, 5).
 ghost use Rattle.std.specs.Prelude.{◌≡◌};
 ghost use Rattle.sievesyntax.specs.Valid.{is_subaddress, is_relational, is_numeric, seeks_part};
 
 use maildates::DatePart;
 use octets::{Octets, Texts};
 
-/// A test that looks at the message or its envelope.
+/// A test that looks at the message, its envelope, or the flags that are set.
 #[derive(Drop)]
 pub enum Check {
     /// `size` (RFC 5228, 5.9).
@@ -24,6 +24,8 @@ pub enum Check {
     Date(DateTest),
     /// `currentdate` (RFC 5260, 5).
     CurrentDate(CurrentDate),
+    /// `hasflag`, which looks at the flags that are set so far (RFC 5232, 4).
+    HasFlag(HasFlag),
 }
 
 /// The arguments of `size`: how the message's size has to stand to the limit, in octets.
@@ -107,6 +109,17 @@ pub struct CurrentDate {
     /// The part of the date.
     pub part: DatePart,
     /// The keys.
+    pub keys: Texts,
+}
+
+/// The arguments of `hasflag`: one of the flags that are set, or their number, has to match one of the keys (RFC 5232, 4).
+#[derive(Drop)]
+pub struct HasFlag {
+    /// How octets are compared.
+    pub comparator: Collation,
+    /// How a flag has to match a key.
+    pub matching: Matching,
+    /// The keys, as they were written: one may name several flags.
     pub keys: Texts,
 }
 

@@ -1,8 +1,8 @@
 use Rattle.std.proofs.Common.{◌≡◌, Err, rules}
 use Rattle.sqlite.specs.Held.{state}
-use Rattle.mailstore.specs.Account.{Account, messages_in}
+use Rattle.mailstore.specs.Account.{Account}
 use Rattle.mailstore.specs.AccountRows.{profile_of}
-use Rattle.mailstore.specs.CopyRows.{HasFirst}
+use Rattle.mailstore.specs.CopyRows.{IsFirstIn}
 use Rattle.mailstore.specs.declared.profile.Profile.{Profile}
 use Rattle.mailstore.proofs.OwnLemmas.{own_enters, own_refused}
 use Rattle.mailstore.specs.Shows.{IsFirstOf}
@@ -14,7 +14,7 @@ Known profile a = profile ≡ profile_of a
 
 pub returns-clause-first : goal.returns-clause-first
 returns-clause-first g c =
-    looks_enters c.args.user.now Known (λ first account. HasFirst first (messages_in account.folders c.args.folder.now)) (state g.S.Store c.args.store.now)
+    looks_enters c.args.user.now Known (IsFirstIn c.args.folder.now) (state g.S.Store c.args.store.now)
     (state g.S.Store c.profile.new.store) (state g.S.Store c.first_message_of.new.self) c.profile.result c.in_ok-profile.field-0 c.in_ok-profile.was c.profile.ensures c.first_message_of.result c.first_message_of.ensures.first
 
 pub returns-in_err-profile-clause-numbered : goal.returns-in_err-profile-clause-numbered

@@ -6,4 +6,4 @@ pub returns-clause-read : goal.returns-clause-read
 returns-clause-read c = λ text user a head parts copy of. (copy_named text user a head parts copy of, copy_makes text user a head parts copy of)
 
 pub returns-clause-imported : goal.returns-clause-imported
-returns-clause-imported c = λ text user a head parts accounts later answer copy of name guarded sound free is. copy_imported text user a head parts copy of accounts later answer name guarded sound free is
+returns-clause-imported c = λ text user a head parts accounts later answer copy of name guarded flagged sound free is. copy_imported text user a head parts copy of accounts later answer name guarded flagged sound free is

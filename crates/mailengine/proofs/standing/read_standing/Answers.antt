@@ -1,4 +1,4 @@
-use Rattle.std.proofs.Common.{◌≡◌, Ok, Some, None, OnOk, IfErr, ◌∙◌, ap, rules}
+use Rattle.std.proofs.Common.{◌≡◌, Ok, Some, OnOk, IfErr, rules}
 use Rattle.sqlite.specs.Held.{state}
 use Rattle.mailstore.specs.Refusals.{IsTransient}
 use Rattle.mailengine.proofs.StandingLemmas.{standing_none, standing_unread, standing_unseen, standing_seen}

@@ -1,4 +1,4 @@
-use Rattle.std.proofs.Common.{◌≡◌, Some, OnOk, IfErr, sym, ◌∙◌, ap, inl, inr, refl, rules}
+use Rattle.std.proofs.Common.{OnOk, IfErr, sym, ◌∙◌, inl, inr, rules}
 use Rattle.sqlite.specs.Held.{state}
 use Rattle.mailstore.specs.Account.{opens}
 use Rattle.mailstore.specs.Refusals.{IsTransient}

@@ -1,4 +1,4 @@
-use Rattle.std.proofs.Common.{◌≡◌, true, false, Err, sym, ◌∙◌, subst, rules}
+use Rattle.std.proofs.Common.{◌≡◌, true, Err, sym, ◌∙◌, subst, rules}
 use Rattle.sqlite.specs.Held.{state}
 use Rattle.mailstore.specs.declared.refusal.Refusal.TheVariants.{BadUser}
 use Rattle.mailstore.specs.Account.{Account, guards}

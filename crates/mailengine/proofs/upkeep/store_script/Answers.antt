@@ -1,10 +1,9 @@
-use Rattle.std.proofs.Common.{◌≡◌, ◌∙◌, ◌≤◌, ℕ, List, Err, Some, None, length, OnOk, IfErr, arith, rules}
+use Rattle.std.proofs.Common.{◌≡◌, ◌∙◌, ℕ, List, Err, Some, None, OnOk, IfErr, arith, rules}
 use Rattle.std.specs.FinMap.{keys}
 use Rattle.sqlite.specs.Held.{state}
 use Rattle.mailstore.specs.Account.{Account}
 use Rattle.mailstore.specs.Refusals.{IsTransient}
 use Rattle.mailstore.specs.declared.refusal.Refusal.TheVariants.{BadScriptName, ScriptTooLarge, TooManyScripts}
-use Rattle.sessions.specs.Limits.{script_limit}
 use Rattle.sessions.specs.Scripts.{IsVerdict}
 use Rattle.mailengine.specs.declared.answer.Answer.TheVariants.{Invalid, Stored}
 use Rattle.mailengine.specs.declared.upkeep.Upkeep.TheVariants.{StoreScript}

@@ -1,4 +1,4 @@
-use Rattle.std.proofs.Common.{◌≡◌, is_some, true, false, OnOk, IfErr, None, Some, subst, sym, ◌∙◌, rules}
+use Rattle.std.proofs.Common.{◌≡◌, is_some, true, false, OnOk, IfErr, None, subst, sym, ◌∙◌, rules}
 use Rattle.sqlite.specs.Held.{state}
 use Rattle.mailstore.specs.declared.refusal.Refusal.TheVariants.{Memory}
 use Rattle.mailstore.specs.Account.{new_user, renews}

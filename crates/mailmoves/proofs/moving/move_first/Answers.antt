@@ -24,17 +24,17 @@ returns-in-Err-keep-clause-moves g c =
 pub returns-in-Ok-take_mail-clause-moves : goal.returns-in-Ok-take_mail-clause-moves
 returns-in-Ok-take_mail-clause-moves g c =
     took_first c.args.user.now c.args.folder.now (state g.S.Store c.args.store.now) (state g.S.Store c.first_message.new.store) c.first_message.result c.in-Ok.first c.in-Ok.is c.first_message.ensures.first.reads c.in-Some.first c.in-Some.is
-    (state g.S.Store c.take_mail.new.self) c.take_mail.result (record { number = c.in-Some.first.number; message = c.in-Some.first.message; answer = MailTaken })
+    (state g.S.Store c.take_mail.new.self) c.take_mail.result (record { number = c.in-Some.first.number; message = c.in-Some.first.message; flags = c.in-Some.first.flags; answer = MailTaken })
     (clean_before (state g.S.Store c.first_message.new.store) (state g.S.Store c.take_mail.new.self) _ c.take_mail.ensures.writes.crash)
     (mail_written c.args.user.now c.args.folder.now (state g.S.Store c.args.store.now) (state g.S.Store c.first_message.new.store) c.first_message.result c.in-Ok.first c.in-Ok.is c.first_message.ensures.first c.in-Some.first c.in-Some.is
     (state g.S.Store c.take_mail.new.self) c.take_mail.result c.take_mail.ensures.writes c.take_mail.ensures.named)
-    refl (ap (answer_by (λ done. MailTaken)) (sym c.in-Ok-take_mail.is))
+    refl refl (ap (answer_by (λ done. MailTaken)) (sym c.in-Ok-take_mail.is))
 
 pub returns-in-Err-take_mail-clause-moves : goal.returns-in-Err-take_mail-clause-moves
 returns-in-Err-take_mail-clause-moves g c =
     took_first c.args.user.now c.args.folder.now (state g.S.Store c.args.store.now) (state g.S.Store c.first_message.new.store) c.first_message.result c.in-Ok.first c.in-Ok.is c.first_message.ensures.first.reads c.in-Some.first c.in-Some.is
-    (state g.S.Store c.take_mail.new.self) c.take_mail.result (record { number = c.in-Some.first.number; message = c.in-Some.first.message; answer = Refused c.in-Err-take_mail.refusal })
+    (state g.S.Store c.take_mail.new.self) c.take_mail.result (record { number = c.in-Some.first.number; message = c.in-Some.first.message; flags = c.in-Some.first.flags; answer = Refused c.in-Err-take_mail.refusal })
     (clean_before (state g.S.Store c.first_message.new.store) (state g.S.Store c.take_mail.new.self) _ c.take_mail.ensures.writes.crash)
     (mail_written c.args.user.now c.args.folder.now (state g.S.Store c.args.store.now) (state g.S.Store c.first_message.new.store) c.first_message.result c.in-Ok.first c.in-Ok.is c.first_message.ensures.first c.in-Some.first c.in-Some.is
     (state g.S.Store c.take_mail.new.self) c.take_mail.result c.take_mail.ensures.writes c.take_mail.ensures.named)
-    refl (ap (answer_by (λ done. MailTaken)) (sym c.in-Err-take_mail.is))
+    refl refl (ap (answer_by (λ done. MailTaken)) (sym c.in-Err-take_mail.is))

@@ -19,8 +19,8 @@ returns-clause-delivery c is =
     let ds5 = c.push_notice.new.changes.items in
     let reply = subst (λ one. Extends user (reply_queued user plan.sender.now (counters.out + length c.as_slice-sent.result.now) one) ds3 queued) c.as_ref-reply.ensures.value c.in_ok-push_reply.ensures.queued in
     are_delivery user folded counters plan ds1 kept ds2 ds3 queued ds4 ds5 is (subst (λ ds. Extends user (counters_raised user counters plan) ds ds1) c.new-changes.ensures.items c.in_ok-push_counters.ensures.raised)
-    (subst (λ names. Extends user (message_kept user plan.message.now counters.copy names) ds1 kept) c.as_slice-folders.ensures c.in_ok-push_message.ensures.kept)
-    (subst (λ names. Extends user (copies_added user counters.copy counters.copy names) kept ds2) c.as_slice-folders.ensures c.in_ok-push_copies.ensures.copied)
+    (subst (λ copies. Extends user (message_kept user plan.message.now counters.copy copies) ds1 kept) c.as_slice-copies.ensures c.in_ok-push_message.ensures.kept)
+    (subst (λ copies. Extends user (copies_added user counters.copy counters.copy copies) kept ds2) c.as_slice-copies.ensures c.in_ok-push_copies.ensures.copied)
     (subst (λ targets. Extends user (sent_on user plan.sender.now plan.message.now counters.out targets) ds2 ds3) c.as_slice-sent.ensures c.in_ok-push_redirects.ensures.sent)
     (subst (λ targets. Extends user (reply_queued user plan.sender.now (counters.out + length targets) plan.reply) ds3 queued) c.as_slice-sent.ensures reply)
     (subst (λ one. Extends user (reply_put user folded one) queued ds4) c.as_ref-reply.ensures.value c.in_ok-push_moment.ensures.put)

@@ -19,7 +19,7 @@ pub returns-in-AddMessage : goal.returns-in-AddMessage
 returns-in-AddMessage g c = rw c.in-AddMessage.is (rw (c.in-AddMessage.is) at c.add_message.ensures)
 
 pub returns-in-AddCopy : goal.returns-in-AddCopy
-returns-in-AddCopy g c = rw c.in-AddCopy.is c.add_copy.ensures
+returns-in-AddCopy g c = rw c.in-AddCopy.is (rw (c.in-AddCopy.is) at c.add_copy.ensures)
 
 pub returns-in-RemoveMessage : goal.returns-in-RemoveMessage
 returns-in-RemoveMessage g c = rw c.in-RemoveMessage.is c.remove_message.ensures

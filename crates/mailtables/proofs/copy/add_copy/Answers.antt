@@ -4,5 +4,5 @@ use Rattle.mailtables.proofs.copy.add_copy.Goals as goal
 
 pub returns : goal.returns
 returns g c =
-    statement_makes g.S.Store _ _ _ c.args.tx.now c.execute.new.tx c.execute.result (inserts_copy _ _ c.args.owner.now c.args.folder.now c.args.n.now c.args.id.now)
-    (rw (c.params-to_sql.ensures, c.params-to_sql-2.ensures, c.params-to_sql-3.ensures, c.params-to_sql-4.ensures) at c.execute.ensures)
+    statement_makes g.S.Store _ _ _ c.args.tx.now c.execute.new.tx c.execute.result (inserts_copy _ _ c.args.owner.now c.args.folder.now c.args.n.now c.args.id.now c.args.flags.now)
+    (rw (c.params-to_sql.ensures, c.params-to_sql-2.ensures, c.params-to_sql-3.ensures, c.params-to_sql-4.ensures, c.params-to_sql-5.ensures) at c.execute.ensures)

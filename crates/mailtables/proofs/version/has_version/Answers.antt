@@ -19,5 +19,5 @@ pub returns : goal.returns
 returns g c = record {
   ended = search rules;
   limit = search rules;
-  finds = says_version IsOurSchema asks_ours (state g.S.Store c.args.conn.now) (state g.S.Store c.find_version.new.conn) c.find_version.result c.find_version.ensures.finds (pos 2) IsOurs ours_says c.in_ok-rows.rows c.in_ok-rows.was c.are_version.result (rw (c.deref.ensures.value) at c.are_version.ensures);
+  finds = says_version IsOurSchema asks_ours (state g.S.Store c.args.conn.now) (state g.S.Store c.find_version.new.conn) c.find_version.result c.find_version.ensures.finds (pos 3) IsOurs ours_says c.in_ok-rows.rows c.in_ok-rows.was c.are_version.result (rw (c.deref.ensures.value) at c.are_version.ensures);
 }

@@ -10,4 +10,4 @@ returns-clause-opens g c =
     let new = state g.S.Store c.migrate.new.conn in
     let was : c.has_old_version.result ≡ Ok true = search rules in
     let made = c.migrate.ensures in
-    old_all c.args.is_last old between new c.has_old_version.result c.has_old_version.ensures.finds was c.migrate.result made.made made.settled made.same made.crash c.in_ok-migrate.field-0 c.in_ok-migrate.was _ refl
+    old_all c.args.older old between new c.has_old_version.result c.has_old_version.ensures.finds was c.migrate.result made.made made.settled made.same made.crash c.in_ok-migrate.field-0 c.in_ok-migrate.was _ refl

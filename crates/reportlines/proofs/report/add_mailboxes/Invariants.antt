@@ -4,6 +4,6 @@ use Rattle.std.specs.List.{flat_map}
 use Rattle.reportlines.specs.Reports.{with_end, file_line}
 use Rattle.reportlines.proofs.report.add_mailboxes.Given as goal
 
-abbrev pub invariant-loop-mailbox : goal.invariant-loop-mailbox
-invariant-loop-mailbox l =
-    l.text ++ flat_map with_end (map file_line (drop l.mailbox-index l.filed)) ≡ l.initial.text ++ flat_map with_end (map file_line l.filed)
+abbrev pub invariant-loop-copy : goal.invariant-loop-copy
+invariant-loop-copy l =
+    l.text ++ flat_map with_end (map (λ copy. file_line copy.mailbox) (drop l.copy-index l.filed)) ≡ l.initial.text ++ flat_map with_end (map (λ copy. file_line copy.mailbox) l.filed)

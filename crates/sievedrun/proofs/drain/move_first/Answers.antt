@@ -23,7 +23,8 @@ returns-in_default-clause-moves g c =
 pub returns-in-Err-keep-clause-moves : goal.returns-in-Err-keep-clause-moves
 returns-in-Err-keep-clause-moves g c =
     not_kept c.args.user.now c.args.folder.now g.T.MailSink.tells (g.T.MailSink.kept c.args.sink.now) (g.T.MailSink.kept c.keep.new.self) (state g.S.Store c.args.store.now) (state g.S.Store c.first_message.new.store) c.first_message.result
-    c.in-Ok.first c.in-Ok.is c.first_message.ensures.first.reads c.in-Some.first c.in-Some.is c.first_message.ensures.numbered c.sink_failure.result (λ told. subst (λ m. MayKeep (g.T.MailSink.kept c.args.sink.now) (kept_mail c.args.user.now c.args.folder.now c.in-Some.first.number m) (g.T.MailSink.kept c.keep.new.self)) c.as_slice.ensures (c.in-Err-keep.ensures.refused told))
+    c.in-Ok.first c.in-Ok.is c.first_message.ensures.first.reads c.in-Some.first c.in-Some.is c.first_message.ensures.numbered c.sink_failure.result (λ told. subst (λ f. MayKeep (g.T.MailSink.kept c.args.sink.now) (kept_mail c.args.user.now c.args.folder.now c.in-Some.first.number c.in-Some.first.message f) (g.T.MailSink.kept c.keep.new.self)) c.as_slice-flags.ensures
+    (subst (λ m. MayKeep (g.T.MailSink.kept c.args.sink.now) (kept_mail c.args.user.now c.args.folder.now c.in-Some.first.number m c.as_slice-flags.result.now) (g.T.MailSink.kept c.keep.new.self)) c.as_slice-message.ensures (c.in-Err-keep.ensures.refused told)))
 
 pub returns-in-Ok-take_mail-clause-moves : goal.returns-in-Ok-take_mail-clause-moves
 returns-in-Ok-take_mail-clause-moves g c =
@@ -31,7 +32,8 @@ returns-in-Ok-take_mail-clause-moves g c =
     c.in-Ok.first c.in-Ok.is c.first_message.ensures.first.reads c.in-Some.first c.in-Some.is c.first_message.ensures.numbered (state g.S.Store c.take_mail.new.self) c.take_mail.result c.take_mail.ensures.writes
     (mail_written c.args.user.now c.args.folder.now (state g.S.Store c.args.store.now) (state g.S.Store c.first_message.new.store) c.first_message.result c.in-Ok.first c.in-Ok.is c.first_message.ensures.first c.in-Some.first c.in-Some.is
     (state g.S.Store c.take_mail.new.self) c.take_mail.result c.take_mail.ensures.writes c.take_mail.ensures.named)
-    (λ told. c.in_default-keep.ensures.kept told ∙ ap (λ m. g.T.MailSink.kept c.args.sink.now ++ kept_mail c.args.user.now c.args.folder.now c.in-Some.first.number m ∷ []) c.as_slice.ensures) c.in-Ok-take_mail.field-0 c.in-Ok-take_mail.is
+    (λ told. c.in_default-keep.ensures.kept told ∙ ap (λ m. g.T.MailSink.kept c.args.sink.now ++ kept_mail c.args.user.now c.args.folder.now c.in-Some.first.number m c.as_slice-flags.result.now ∷ []) c.as_slice-message.ensures
+    ∙ ap (λ f. g.T.MailSink.kept c.args.sink.now ++ kept_mail c.args.user.now c.args.folder.now c.in-Some.first.number c.in-Some.first.message f ∷ []) c.as_slice-flags.ensures) c.in-Ok-take_mail.field-0 c.in-Ok-take_mail.is
 
 pub returns-clause-moves : goal.returns-clause-moves
 returns-clause-moves g c =
@@ -39,7 +41,8 @@ returns-clause-moves g c =
     c.in-Ok.first c.in-Ok.is c.first_message.ensures.first.reads c.in-Some.first c.in-Some.is c.first_message.ensures.numbered (state g.S.Store c.take_mail.new.self) c.take_mail.result c.take_mail.ensures.writes
     (mail_written c.args.user.now c.args.folder.now (state g.S.Store c.args.store.now) (state g.S.Store c.first_message.new.store) c.first_message.result c.in-Ok.first c.in-Ok.is c.first_message.ensures.first c.in-Some.first c.in-Some.is
     (state g.S.Store c.take_mail.new.self) c.take_mail.result c.take_mail.ensures.writes c.take_mail.ensures.named)
-    (λ told. c.in_default-keep.ensures.kept told ∙ ap (λ m. g.T.MailSink.kept c.args.sink.now ++ kept_mail c.args.user.now c.args.folder.now c.in-Some.first.number m ∷ []) c.as_slice.ensures) c.in-Err-take_mail.refusal (Refused c.in-Err-take_mail.refusal)
+    (λ told. c.in_default-keep.ensures.kept told ∙ ap (λ m. g.T.MailSink.kept c.args.sink.now ++ kept_mail c.args.user.now c.args.folder.now c.in-Some.first.number m c.as_slice-flags.result.now ∷ []) c.as_slice-message.ensures
+    ∙ ap (λ f. g.T.MailSink.kept c.args.sink.now ++ kept_mail c.args.user.now c.args.folder.now c.in-Some.first.number c.in-Some.first.message f ∷ []) c.as_slice-flags.ensures) c.in-Err-take_mail.refusal (Refused c.in-Err-take_mail.refusal)
     c.in-Err-take_mail.is
 
 pub returns-in-Err-clause-fault : goal.returns-in-Err-clause-fault

@@ -1,4 +1,4 @@
-use Rattle.std.proofs.Common.{◌≡◌, ◌∙◌, List, ℕ, Some, None, ap, sym}
+use Rattle.std.proofs.Common.{◌∙◌, List, ℕ, Some, ap, sym}
 use Rattle.sieveexec.proofs.DateLemmas.{behind_found, behind_nowhere}
 use Rattle.sieveexec.proofs.date.behind_last.Goals as goal
 

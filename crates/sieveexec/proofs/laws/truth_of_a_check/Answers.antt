@@ -2,4 +2,4 @@ use Rattle.sieveexec.proofs.TruthLemmas.{truth_decides}
 use Rattle.sieveexec.proofs.laws.truth_of_a_check.Goals as goal
 
 pub returns : goal.returns
-returns c = truth_decides
+returns c mail so_far = truth_decides mail so_far.flags

@@ -1,7 +1,7 @@
-use Rattle.std.proofs.Common.{List, [], ◌∷◌, ◌++◌, ap, sym, ◌∙◌, subst}
+use Rattle.std.proofs.Common.{◌≡◌, List, [], ◌∷◌, ◌++◌, Some, ap, sym, ◌∙◌, subst}
 use Rattle.std.proofs.lemmas.List.{map-append}
 use Rattle.sievelex.specs.declared.token.Token.{Token}
-use Rattle.sievelex.specs.Spelling.{IsNext}
+use Rattle.sievelex.specs.Spelling.{IsNext, placed}
 use Rattle.sievelex.specs.declared.token.Content.{Content}
 use Rattle.sievelex.specs.Contents.{contents_of, HoldsContents}
 use Rattle.sievelex.proofs.Next.{next_further}
@@ -11,17 +11,18 @@ use Rattle.sievelex.proofs.packed.pack_tokens.Goals as goal
 
 pub tokens-preserved : goal.tokens-preserved
 tokens-preserved c =
-    let here : IsNext c.args.text.now c.tokens.at c.in-Some.token = rw c.in-Some.is at c.in_ok-token.ensures.found in
+    let t : Token = placed c.args.text.now c.in-Some.piece in
+    let here : IsNext c.args.text.now c.tokens.at t = rw c.in-Some.is at c.in_ok-piece.ensures.found in
+    let one : (u : Token) → IsNext c.args.text.now c.tokens.at u → Some t ≡ Some u = rw c.in-Some.is at c.in_ok-piece.ensures.only in
     let front : (so_far : List Token) × (IsFront c.args.text.now so_far c.tokens.at × HoldsContents c.tokens.packed (contents_of so_far)) = c.tokens.invariant.front in
     let P : List Content → Type 0 = λ x. HoldsContents c.append.new.packed x in
     record {
-      inside = (next_further _ _ c.in-Some.token here).1;
-      on_line = c.end_line-line.ensures;
+      inside = (next_further _ _ t here).1;
       front = (
-        front.0 ++ c.in-Some.token ∷ [],
+        front.0 ++ t ∷ [],
         (
-          front_more _ c.tokens.at c.in-Some.token _ front.1.0 here (λ u h. sym c.in-Some.is ∙ c.in_ok-token.ensures.only u h),
-          subst P (sym (map-append (λ t. t.content) front.0 (c.in-Some.token ∷ []))) (c.in_ok-append.ensures (contents_of front.0) front.1.1),
+          front_more _ c.tokens.at t _ front.1.0 here one,
+          subst P (sym (map-append (λ t. t.content) front.0 (t ∷ []))) (c.in_ok-append.ensures (contents_of front.0) front.1.1),
         ),
       );
     }
@@ -29,9 +30,10 @@ tokens-preserved c =
 pub returns-clause-found : goal.returns-clause-found
 returns-clause-found c =
     let front : (so_far : List Token) × (IsFront c.args.text.now so_far c.tokens.at × HoldsContents c.tokens.packed (contents_of so_far)) = c.tokens.invariant.front in
-    (front.0, (front_ends _ c.tokens.at _ front.1.0 (rw c.in_default.is at c.in_ok-token.ensures.found), holds_contents _ _ front.1.1))
+    (front.0, (front_ends _ c.tokens.at _ front.1.0 (rw c.in_default.is at c.in_ok-piece.ensures.found), holds_contents _ _ front.1.1))
 
 pub returns-clause-only : goal.returns-clause-only
 returns-clause-only c = λ us s.
     let front : (so_far : List Token) × (IsFront c.args.text.now so_far c.tokens.at × HoldsContents c.tokens.packed (contents_of so_far)) = c.tokens.invariant.front in
-    ap contents_of (front_only _ c.tokens.at _ front.1.0 (λ u h. c.in_default.not-Some u (c.in_ok-token.ensures.only u h)) us s) ∙ sym (holds_contents _ _ front.1.1)
+    let none : (u : Token) → IsNext c.args.text.now c.tokens.at u → ⊥ = rw c.in_default.is at c.in_ok-piece.ensures.only in
+    ap contents_of (front_only _ c.tokens.at _ front.1.0 none us s) ∙ sym (holds_contents _ _ front.1.1)

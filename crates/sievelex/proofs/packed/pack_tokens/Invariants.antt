@@ -1,14 +1,12 @@
-use Rattle.std.proofs.Common.{◌≡◌, ◌+◌, ◌-◌, ◌≤◌, List, length, take}
+use Rattle.std.proofs.Common.{◌-◌, ◌≤◌, List, length}
 use Rattle.sievelex.specs.declared.token.Token.{Token}
 use Rattle.sievelex.specs.Contents.{contents_of, HoldsContents}
-use Rattle.sievelex.specs.Text.{line_ends}
 use Rattle.sievelex.proofs.Scanned.{IsFront}
 use Rattle.sievelex.proofs.packed.pack_tokens.Given as goal
 
 abbrev pub invariant-tokens : goal.invariant-tokens
 invariant-tokens l = record {
   inside : l.at ≤ length l.text;
-  on_line : l.line ≡ 1 + line_ends (take l.at l.text);
   front : (so_far : List Token) × (IsFront l.text so_far l.at × HoldsContents l.packed (contents_of so_far));
 }
 

@@ -2,7 +2,7 @@ use Rattle.std.proofs.Common.{◌≡◌, Ok, rules}
 use Rattle.mailtables.proofs.ListLemmas.{owner_key}
 use Rattle.mailstore.specs.declared.refusal.Refusal.{Refusal}
 use Rattle.mailstore.specs.CopyRows.{filing_cells}
-use Rattle.mailstore.specs.FirstCells.{first_three}
+use Rattle.mailstore.specs.FirstCells.{first_four}
 use Rattle.mailstore.specs.Listing.{select_filings, AreFilingRows, AreFilingsOf}
 use Rattle.mailstore.proofs.EachLemmas.{finds_among}
 use Rattle.mailstore.proofs.FilingLemmas.{select_filings_plain, filings_are, filings_read}
@@ -15,5 +15,5 @@ pub returns-clause-finds : goal.returns-clause-finds
 returns-clause-finds g c =
     let same : c.self.inside.conn ≡ c.args.self.now = search rules in
     let user = c.args.user.now in
-    rw same at (finds_among g.S.Store select_filings (owner_key user) filing_cells first_three c.self.inside.conn c.read_each.new.conn c.read_each.result user (AreFilingRows user) (AreFilingsOf user)
+    rw same at (finds_among g.S.Store select_filings (owner_key user) filing_cells first_four c.self.inside.conn c.read_each.new.conn c.read_each.result user (AreFilingRows user) (AreFilingsOf user)
     (λ rows tables h. filings_read _ _ rows tables h user) (λ rows all own are is. filings_are {E = Refusal} user (Ok all) rows own is are) (rw (c.params-to_sql.ensures) at c.read_each.ensures))

@@ -1,7 +1,6 @@
 use Rattle.std.proofs.Common.{pos}
 use Rattle.sqlite.specs.Held.{state}
-use Rattle.mailstore.specs.Account.{messages_in}
-use Rattle.mailstore.specs.CopyRows.{HasFirst}
+use Rattle.mailstore.specs.CopyRows.{IsFirstIn}
 use Rattle.mailstore.specs.Shows.{IsFirstOf, IsNthOf}
 use Rattle.mailstore.proofs.AmongLemmas.{among_reads, among_told}
 use Rattle.mailstore.proofs.FirstLemmas.{first_shows, nth_first}
@@ -11,7 +10,7 @@ pub returns-clause-first : goal.returns-clause-first
 returns-clause-first g c =
     let user = c.args.user.now in
     let folder = c.args.folder.now in
-    among_reads user (IsNthOf user folder (pos 0)) (λ first a. HasFirst first (messages_in a.folders folder)) (state g.S.Store c.args.self.now) (state g.S.Store c.nth_numbered_of.new.self) c.nth_numbered_of.result
+    among_reads user (IsNthOf user folder (pos 0)) (IsFirstIn folder) (state g.S.Store c.args.self.now) (state g.S.Store c.nth_numbered_of.new.self) c.nth_numbered_of.result
     (λ first own a s is. first_shows user folder first own a s (nth_first user folder first own is)) c.nth_numbered_of.ensures.named c.nth_numbered_of.ensures.finds
 
 pub returns-clause-numbered : goal.returns-clause-numbered

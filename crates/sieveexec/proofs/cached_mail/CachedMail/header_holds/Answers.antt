@@ -1,4 +1,4 @@
-use Rattle.std.proofs.Common.{◌≡◌, ◌∙◌, IfOk, true, subst, sym, ap}
+use Rattle.std.proofs.Common.{◌≡◌, ◌∙◌, IfOk, subst, sym}
 use Rattle.sieveexec.specs.Counts.{is_count}
 use Rattle.sieveexec.specs.Truth.{some_text_matches}
 use Rattle.sieveexec.proofs.TruthLemmas.{each_asked}

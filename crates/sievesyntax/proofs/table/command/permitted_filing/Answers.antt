@@ -1,4 +1,5 @@
 use Rattle.std.proofs.Common.{true}
+use Rattle.std.specs.Prelude.{is_some}
 use Rattle.std.proofs.lemmas.Result.{err_from_is_err_and}
 use Rattle.sievelex.specs.declared.fault.FaultKind.TheVariants.{BadMailbox}
 use Rattle.sievesyntax.specs.declared.error.ReadError.TheVariants.{Fault}
@@ -29,7 +30,13 @@ returns-in_err-require-3 c =
     let p = err_from_is_err_and c.from_residual-in_err-require-3.result c.from_residual-in_err-require-3.ensures.1 in
     rw (p.1, p.2) (one_unfit (IsFileInto c.args.args.now) (λ x. MayAct c.args.granted (D.FileInto x)) _ c.in_ok-filing.ensures.1 _ (fault_on _ (Permits c.args.granted.mailbox c.in_ok-filing.filing.create → ⊥) (MayAct c.args.granted (D.FileInto c.in_ok-filing.filing) → ⊥) (λ bad fit. bad fit.2) c.in_err-require-3.ensures.fault))
 
+pub returns-in_err-require-4 : goal.returns-in_err-require-4
+returns-in_err-require-4 c =
+    let p = err_from_is_err_and c.from_residual-in_err-require-4.result c.from_residual-in_err-require-4.ensures.1 in
+    let e = rw c.is_some.ensures at c.in_err-require-4.ensures.fault in
+    rw (p.1, p.2) (one_unfit (IsFileInto c.args.args.now) (λ x. MayAct c.args.granted (D.FileInto x)) _ c.in_ok-filing.ensures.1 _ (fault_on _ (Permits c.args.granted.flags (is_some c.in_ok-filing.filing.flags) → ⊥) (MayAct c.args.granted (D.FileInto c.in_ok-filing.filing) → ⊥) (λ bad fit. bad fit.3) e))
+
 pub returns-then-not-is_mailbox : goal.returns-then-not-is_mailbox
 returns-then-not-is_mailbox c =
     let bad = rw c.as_slice.ensures at c.if-not-is_mailbox.ensures in
-    one_unfit (IsFileInto c.args.args.now) (λ x. MayAct c.args.granted (D.FileInto x)) _ c.in_ok-filing.ensures.1 (Fault BadMailbox) (λ fit. let no = bad.1 fit.3 in cc)
+    one_unfit (IsFileInto c.args.args.now) (λ x. MayAct c.args.granted (D.FileInto x)) _ c.in_ok-filing.ensures.1 (Fault BadMailbox) (λ fit. let no = bad.1 fit.4 in cc)

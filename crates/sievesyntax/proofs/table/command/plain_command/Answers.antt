@@ -1,7 +1,7 @@
 use Rattle.std.proofs.Common.{refl, subst}
 use Rattle.std.proofs.lemmas.Result.{err_from_is_err_and}
 use Rattle.sievesyntax.specs.declared.tree.action.Action.TheVariants as D
-use Rattle.sievesyntax.specs.Table.{IsFileInto, IsRedirect}
+use Rattle.sievesyntax.specs.Table.{IsList, IsKeep, IsFileInto, IsRedirect}
 use Rattle.sievesyntax.specs.Tree.{stop, act}
 use Rattle.sievesyntax.specs.Vacations.{IsVacation}
 use Rattle.sievesyntax.specs.Valid.{MayAct, MayStand}
@@ -21,17 +21,17 @@ returns-in_ok-no_arguments-in-Stop-clause-found c = rw (view-Stop, c.in-Stop.is)
 pub returns-in_ok-no_arguments-in-Stop-clause-only : goal.returns-in_ok-no_arguments-in-Stop-clause-only
 returns-in_ok-no_arguments-in-Stop-clause-only c = rw (view-Stop, c.in-Stop.is) (λ other row. row.tree_is)
 
-pub returns-in_err-no_arguments-in-Keep-clause-fault : goal.returns-in_err-no_arguments-in-Keep-clause-fault
-returns-in_err-no_arguments-in-Keep-clause-fault c =
-    let h = c.in_err-no_arguments-in-Keep.ensures.fault in
-    let p = err_from_is_err_and c.from_residual-in_err-no_arguments-in-Keep.result c.from_residual-in_err-no_arguments-in-Keep.ensures.1 in
-    rw (p.1, p.2, c.in-Keep.is) (bare_fault (act D.Keep) _ (MayStand c.args.granted) _ h)
+pub returns-in_err-given-in-Keep-clause-fault : goal.returns-in_err-given-in-Keep-clause-fault
+returns-in_err-given-in-Keep-clause-fault c =
+    let h = c.in_err-given-in-Keep.ensures in
+    let p = err_from_is_err_and c.from_residual-in_err-given-in-Keep.result c.from_residual-in_err-given-in-Keep.ensures.1 in
+    rw (p.1, p.2, c.in-Keep.is) (fit_fault IsKeep (λ x. act (D.Keep x)) _ (MayStand c.args.granted) (λ x. MayAct c.args.granted (D.Keep x)) (λ x may. may) _ h)
 
-pub returns-in_ok-no_arguments-in-Keep-clause-found : goal.returns-in_ok-no_arguments-in-Keep-clause-found
-returns-in_ok-no_arguments-in-Keep-clause-found c = rw (view-Act, c.in-Keep.is) (record { none = c.in_ok-no_arguments-in-Keep.ensures.found; tree_is = refl }, tt)
+pub returns-in_ok-given-in-Keep-clause-found : goal.returns-in_ok-given-in-Keep-clause-found
+returns-in_ok-given-in-Keep-clause-found c = rw (view-Act, c.in-Keep.is) (record { value = _; is = c.in_ok-given-in-Keep.ensures.0; tree_is = refl }, c.in_ok-given-in-Keep.ensures.1)
 
-pub returns-in_ok-no_arguments-in-Keep-clause-only : goal.returns-in_ok-no_arguments-in-Keep-clause-only
-returns-in_ok-no_arguments-in-Keep-clause-only c = rw (view-Act, c.in-Keep.is) (λ other row. row.tree_is)
+pub returns-in_ok-given-in-Keep-clause-only : goal.returns-in_ok-given-in-Keep-clause-only
+returns-in_ok-given-in-Keep-clause-only c = rw (view-Act, c.in-Keep.is) (row_only IsKeep (λ x. act (D.Keep x)) _ (MayStand c.args.granted) _ c.in_ok-given-in-Keep.ensures.2)
 
 pub returns-in_err-no_arguments-in-Discard-clause-fault : goal.returns-in_err-no_arguments-in-Discard-clause-fault
 returns-in_err-no_arguments-in-Discard-clause-fault c =
@@ -83,3 +83,39 @@ returns-in_ok-vacation-in-Vacation-clause-only c = rw (view-Act, c.in-Vacation.i
 
 pub returns-in-Require-clause-fault : goal.returns-in-Require-clause-fault
 returns-in-Require-clause-fault c = rw c.in-Require.is (λ other row may. subst (MayStand c.args.granted) row.tree_is may)
+
+pub returns-in_err-texts-in-SetFlag-clause-fault : goal.returns-in_err-texts-in-SetFlag-clause-fault
+returns-in_err-texts-in-SetFlag-clause-fault c =
+    let h = c.in_err-texts-in-SetFlag.ensures in
+    let p = err_from_is_err_and c.from_residual-in_err-texts-in-SetFlag.result c.from_residual-in_err-texts-in-SetFlag.ensures.1 in
+    rw (p.1, p.2, c.in-SetFlag.is) (fit_fault IsList (λ x. act (D.SetFlag x)) _ (MayStand c.args.granted) (λ x. MayAct c.args.granted (D.SetFlag x)) (λ x may. may) _ h)
+
+pub returns-in_ok-texts-in-SetFlag-clause-found : goal.returns-in_ok-texts-in-SetFlag-clause-found
+returns-in_ok-texts-in-SetFlag-clause-found c = rw (view-Act, c.in-SetFlag.is) (record { value = _; is = c.in_ok-texts-in-SetFlag.ensures.0; tree_is = refl }, c.in_ok-texts-in-SetFlag.ensures.1)
+
+pub returns-in_ok-texts-in-SetFlag-clause-only : goal.returns-in_ok-texts-in-SetFlag-clause-only
+returns-in_ok-texts-in-SetFlag-clause-only c = rw (view-Act, c.in-SetFlag.is) (row_only IsList (λ x. act (D.SetFlag x)) _ (MayStand c.args.granted) _ c.in_ok-texts-in-SetFlag.ensures.2)
+
+pub returns-in_err-texts-in-AddFlag-clause-fault : goal.returns-in_err-texts-in-AddFlag-clause-fault
+returns-in_err-texts-in-AddFlag-clause-fault c =
+    let h = c.in_err-texts-in-AddFlag.ensures in
+    let p = err_from_is_err_and c.from_residual-in_err-texts-in-AddFlag.result c.from_residual-in_err-texts-in-AddFlag.ensures.1 in
+    rw (p.1, p.2, c.in-AddFlag.is) (fit_fault IsList (λ x. act (D.AddFlag x)) _ (MayStand c.args.granted) (λ x. MayAct c.args.granted (D.AddFlag x)) (λ x may. may) _ h)
+
+pub returns-in_ok-texts-in-AddFlag-clause-found : goal.returns-in_ok-texts-in-AddFlag-clause-found
+returns-in_ok-texts-in-AddFlag-clause-found c = rw (view-Act, c.in-AddFlag.is) (record { value = _; is = c.in_ok-texts-in-AddFlag.ensures.0; tree_is = refl }, c.in_ok-texts-in-AddFlag.ensures.1)
+
+pub returns-in_ok-texts-in-AddFlag-clause-only : goal.returns-in_ok-texts-in-AddFlag-clause-only
+returns-in_ok-texts-in-AddFlag-clause-only c = rw (view-Act, c.in-AddFlag.is) (row_only IsList (λ x. act (D.AddFlag x)) _ (MayStand c.args.granted) _ c.in_ok-texts-in-AddFlag.ensures.2)
+
+pub returns-in_err-texts-in-RemoveFlag-clause-fault : goal.returns-in_err-texts-in-RemoveFlag-clause-fault
+returns-in_err-texts-in-RemoveFlag-clause-fault c =
+    let h = c.in_err-texts-in-RemoveFlag.ensures in
+    let p = err_from_is_err_and c.from_residual-in_err-texts-in-RemoveFlag.result c.from_residual-in_err-texts-in-RemoveFlag.ensures.1 in
+    rw (p.1, p.2, c.in-RemoveFlag.is) (fit_fault IsList (λ x. act (D.RemoveFlag x)) _ (MayStand c.args.granted) (λ x. MayAct c.args.granted (D.RemoveFlag x)) (λ x may. may) _ h)
+
+pub returns-in_ok-texts-in-RemoveFlag-clause-found : goal.returns-in_ok-texts-in-RemoveFlag-clause-found
+returns-in_ok-texts-in-RemoveFlag-clause-found c = rw (view-Act, c.in-RemoveFlag.is) (record { value = _; is = c.in_ok-texts-in-RemoveFlag.ensures.0; tree_is = refl }, c.in_ok-texts-in-RemoveFlag.ensures.1)
+
+pub returns-in_ok-texts-in-RemoveFlag-clause-only : goal.returns-in_ok-texts-in-RemoveFlag-clause-only
+returns-in_ok-texts-in-RemoveFlag-clause-only c = rw (view-Act, c.in-RemoveFlag.is) (row_only IsList (λ x. act (D.RemoveFlag x)) _ (MayStand c.args.granted) _ c.in_ok-texts-in-RemoveFlag.ensures.2)

@@ -10,4 +10,4 @@ returns-in_err-mailbox c =
     rw (p.1, p.2) (fault_on _ _ _ (file_into_no_text _ _) c.in_err-mailbox.ensures.fault)
 
 pub returns : goal.returns
-returns c = finds_one _ (file_into_same _ _) _ (record { mailbox = c.in_ok-mailbox.ensures.found; copy = c.given_copy.ensures; create = c.given_create.ensures })
+returns c = finds_one _ (file_into_same _ _) _ (record { mailbox = c.in_ok-mailbox.ensures.found; copy = c.given_copy.ensures; create = c.given_create.ensures; flags = c.in_ok-flags.ensures })

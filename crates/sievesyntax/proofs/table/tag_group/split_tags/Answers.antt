@@ -2,7 +2,7 @@ use Rattle.std.proofs.Common.{length-drop, arith}
 use Rattle.std.proofs.lemmas.List.{drop-drop}
 use Rattle.std.proofs.lemmas.Result.{err_from_is_err_and}
 use Rattle.sievesyntax.proofs.FaultLemmas.{faults_on}
-use Rattle.sievesyntax.proofs.TagLemmas.{taken_more, taken_ends, taken_fails}
+use Rattle.sievesyntax.proofs.TagLemmas.{settled_more, taken_ends, taken_fails}
 use Rattle.sievesyntax.proofs.table.tag_group.split_tags.Goals as goal
 
 pub returns-in_err-tag_value-clause-fault : goal.returns-in_err-tag_value-clause-fault
@@ -21,8 +21,8 @@ tag_values-preserved c =
     let free = rw (c.in-Some.is, c.as_slice.ensures.value) at c.in_ok-tag_value.ensures.free in
     record {
       inside = omega (arith, width, length-drop l.at c.args.args.now);
-      taken = rw (← drop-drop c.in-Some.width l.at c.args.args.now, c.in_ok-push-2.ensures.items, c.in_ok-push.ensures.items, c.group.ensures)
-          (taken_more _ _ l.tag_values.items _ _ l.invariant.taken c.in-Some.tag_value _ found free);
+      taken = rw (← drop-drop c.in-Some.width l.at c.args.args.now, c.in_ok-push.ensures.items)
+          (settled_more _ _ l.tag_values.items _ l.invariant.taken c.in-Some.tag_value _ found free);
     }
 
 pub returns-clause-only : goal.returns-clause-only

@@ -1,11 +1,12 @@
-use Rattle.std.proofs.Common.{◌-◌, ◌≤◌, length, drop}
+use Rattle.std.proofs.Common.{◌-◌, ◌≤◌, length, drop, map}
+use Rattle.sievesyntax.specs.Tags.{group_of}
 use Rattle.sievesyntax.proofs.TagLemmas.{IsTaken}
 use Rattle.sievesyntax.proofs.table.tag_group.split_tags.Given as goal
 
 abbrev pub invariant-tag_values : goal.invariant-tag_values
 invariant-tag_values l = record {
   inside : l.at ≤ length l.args;
-  taken : IsTaken l.allowed l.args l.tag_values.items l.taken.items (drop l.at l.args);
+  taken : IsTaken l.allowed l.args l.tag_values.items (map group_of l.tag_values.items) (drop l.at l.args);
 }
 
 abbrev pub decreases-tag_values : goal.decreases-tag_values

@@ -1,7 +1,7 @@
 use Rattle.std.proofs.Common.{refl}
 use Rattle.std.proofs.lemmas.Result.{err_from_is_err_and}
 use Rattle.sievesyntax.specs.declared.tree.checks.Check.TheVariants as C
-use Rattle.sievesyntax.specs.Table.{IsSize, IsList, IsHeader, IsAddress, IsEnvelope, IsDate, IsCurrentDate}
+use Rattle.sievesyntax.specs.Table.{IsSize, IsList, IsHeader, IsAddress, IsEnvelope, IsDate, IsCurrentDate, IsHasFlag}
 use Rattle.sievesyntax.specs.Tree.{yes, no, looks}
 use Rattle.sievesyntax.specs.Valid.{MayCheck, MayTest}
 use Rattle.sievesyntax.proofs.TableLemmas.{row_only, row_fault, fit_fault, bare_fault}
@@ -127,3 +127,15 @@ returns-in_ok-current-in-CurrentDate-clause-found c = rw (view-Check, c.in-Curre
 
 pub returns-in_ok-current-in-CurrentDate-clause-only : goal.returns-in_ok-current-in-CurrentDate-clause-only
 returns-in_ok-current-in-CurrentDate-clause-only c = rw (view-Check, c.in-CurrentDate.is) (row_only IsCurrentDate (λ x. looks (C.CurrentDate x)) _ (MayTest c.args.granted) _ c.in_ok-current-in-CurrentDate.ensures.2)
+
+pub returns-in_err-flag-in-HasFlag-clause-fault : goal.returns-in_err-flag-in-HasFlag-clause-fault
+returns-in_err-flag-in-HasFlag-clause-fault c =
+    let h = c.in_err-flag-in-HasFlag.ensures in
+    let p = err_from_is_err_and c.from_residual-in_err-flag-in-HasFlag.result c.from_residual-in_err-flag-in-HasFlag.ensures.1 in
+    rw (p.1, p.2, c.in-HasFlag.is) (fit_fault IsHasFlag (λ x. looks (C.HasFlag x)) _ (MayTest c.args.granted) (λ x. MayCheck c.args.granted (C.HasFlag x)) (λ x may. may) _ h)
+
+pub returns-in_ok-flag-in-HasFlag-clause-found : goal.returns-in_ok-flag-in-HasFlag-clause-found
+returns-in_ok-flag-in-HasFlag-clause-found c = rw (view-Check, c.in-HasFlag.is) (record { value = _; is = c.in_ok-flag-in-HasFlag.ensures.0; tree_is = refl }, c.in_ok-flag-in-HasFlag.ensures.1)
+
+pub returns-in_ok-flag-in-HasFlag-clause-only : goal.returns-in_ok-flag-in-HasFlag-clause-only
+returns-in_ok-flag-in-HasFlag-clause-only c = rw (view-Check, c.in-HasFlag.is) (row_only IsHasFlag (λ x. looks (C.HasFlag x)) _ (MayTest c.args.granted) _ c.in_ok-flag-in-HasFlag.ensures.2)

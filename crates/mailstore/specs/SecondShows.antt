@@ -1,0 +1,83 @@
+-- Which accounts the tables of version 2 show, row by row: all is as in version 3, but that no copy has flags.
+use Rattle.std.specs.Prelude.{◌≡◌, ◌⊎◌, ℕ, pos, List, [], ◌∷◌, codes, filter, Option, Some, None}
+use Rattle.std.specs.List.{AllByRecursion}
+use Rattle.std.specs.FinMap.{get}
+use Rattle.sqlite_value.specs.declared.value.Value.TheVariants as value
+use Rattle.sqlite_value.specs.Order.{Row}
+use Rattle.sqlite.specs.Effect.{Database}
+use Rattle.mailtables.specs.Rows.{Tables, HoldsTables, has_key}
+use Rattle.mailtables.specs.MetaTable.{meta_tree, version_key}
+use Rattle.mailtables.specs.AccountTable.{account_tree}
+use Rattle.mailtables.specs.ScriptTable.{script_tree}
+use Rattle.mailtables.specs.QueueTable.{outgoing_tree}
+use Rattle.mailtables.specs.ReplyTable.{reply_tree}
+use Rattle.mailtables.specs.NoticeTable.{notice_tree}
+use Rattle.mailtables.specs.MessageTable.{message_tree}
+use Rattle.mailtables.specs.CopyTable.{copy_tree}
+use Rattle.oldtables.specs.SecondSchema.{second_schema, second_unindexed_schema}
+use Rattle.mailstore.specs.Account.{Account, Accounts, Folders}
+use Rattle.mailstore.specs.AccountRows.{account_row}
+use Rattle.mailstore.specs.ScriptRows.{ShowsScripts}
+use Rattle.mailstore.specs.QueueRows.{ShowsQueue}
+use Rattle.mailstore.specs.ReplyRows.{ShowsReplies}
+use Rattle.mailstore.specs.NoticeRows.{ShowsNotices}
+use Rattle.mailstore.specs.Numbers.{AreNumbered}
+use Rattle.mailstore.specs.MessageRows.{Message, message_row}
+use Rattle.mailstore.specs.CopyRows.{Copy, AreKept, IsBare, folders_from, flags_from}
+use Rattle.mailstore.specs.OwnRows.{rows_of}
+
+-- the row of a copy: its folder, its number, and its message's
+abbrev pub second_copy_row : List ℕ → Copy → Row
+second_copy_row user copy = value.Blob user ∷ value.Blob copy.folder ∷ value.Int (pos copy.n) ∷ value.Int (pos copy.id) ∷ []
+
+-- the rows are those of the user's copies and of their messages: a folder is the list of its copies in the order of their numbers, and none has flags
+pub record ShowsSecondCopies (user : List ℕ) (rows message_rows : List Row) (folders flags : Folders) (next : ℕ) : Type 0 where
+  pub entries : List Copy
+  pub messages : List Message
+  pub numbered : AreNumbered (λ c. c.n) (second_copy_row user) rows entries next
+  pub stored : AreNumbered (λ m. m.id) (message_row user) message_rows messages next
+  pub kept : AreKept entries messages
+  pub bare : AllByRecursion IsBare entries
+  pub shown : folders ≡ folders_from entries
+  pub shown_flags : flags ≡ flags_from entries
+
+-- the rows of one user are those of the account
+pub record IsShownSecond (user : List ℕ) (own : Tables) (a : Account) : Type 0 where
+  pub next_copy : ℕ
+  pub next_notice : ℕ
+  pub account_is : own account_tree ≡ account_row user a next_copy next_notice ∷ []
+  pub scripts : ShowsScripts user (own script_tree) a.scripts
+  pub queue : ShowsQueue user (own outgoing_tree) a.queue a.next_out
+  pub replies : ShowsReplies user (own reply_tree) a.replies
+  pub notices : ShowsNotices user (own notice_tree) a.notices next_notice
+  pub copies : ShowsSecondCopies user (own copy_tree) (own message_tree) a.folders a.flags next_copy
+
+-- a name without an account has no row in any table
+pub record IsAbsentSecond (own : Tables) : Type 0 where
+  pub accounts : own account_tree ≡ []
+  pub scripts : own script_tree ≡ []
+  pub queue : own outgoing_tree ≡ []
+  pub replies : own reply_tree ≡ []
+  pub notices : own notice_tree ≡ []
+  pub messages : own message_tree ≡ []
+  pub copies : own copy_tree ≡ []
+
+abbrev pub IsShownSecondOrAbsent : List ℕ → Tables → Option Account → Type 0
+IsShownSecondOrAbsent user own None = IsAbsentSecond own
+IsShownSecondOrAbsent user own (Some a) = IsShownSecond user own a
+
+abbrev pub second_version_row : Row
+second_version_row = value.Text (codes "version") ∷ value.Int (pos 2) ∷ []
+
+-- the tables of version 2 show the accounts: of the version there is the one row
+pub record ShowsSecondAccounts (tables : Tables) (accounts : Accounts) : Type 0 where
+  pub version : filter (has_key version_key) (tables meta_tree) ≡ second_version_row ∷ []
+  pub users : (user : List ℕ) → IsShownSecondOrAbsent user (rows_of user tables) (get accounts user)
+
+-- a database of version 2 has these rows: with the index of the copies by their messages or, made before there was one, without it
+abbrev pub HoldsSecond : Database → Tables → Type 0
+HoldsSecond db tables = HoldsTables second_schema db tables ⊎ HoldsTables second_unindexed_schema db tables
+
+-- a database of version 2 whose tables show the accounts
+abbrev pub OffersSecond : Database → Accounts → Type 0
+OffersSecond db accounts = (tables : Tables) × HoldsSecond db tables × ShowsSecondAccounts tables accounts

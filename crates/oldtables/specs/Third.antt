@@ -1,0 +1,53 @@
+-- How a database of version 2 becomes one of version 3.
+use Rattle.std.specs.Prelude.{◌≡◌, List, [], ◌∷◌, ◌++◌, map, Vec, IsPermutation}
+use Rattle.std.specs.declared.alloc.Global.{Global}
+use Rattle.sqlite_value.specs.Order.{Row}
+use Rattle.sqlite_keyed.specs.Lists.{delete_where}
+use Rattle.sqlite_schema.specs.declared.schema.Schema.{Schema}
+use Rattle.sqlite.specs.Effect.{Database}
+use Rattle.mailtables.specs.Rows.{Tables, HoldsTables, has_key}
+use Rattle.mailtables.specs.Schema.{mail_schema}
+use Rattle.mailtables.specs.MetaTable.{meta_tree, version_key, version_row}
+use Rattle.mailtables.specs.AccountTable.{account_tree}
+use Rattle.mailtables.specs.ScriptTable.{script_tree}
+use Rattle.mailtables.specs.QueueTable.{outgoing_tree}
+use Rattle.mailtables.specs.ReplyTable.{reply_tree}
+use Rattle.mailtables.specs.NoticeTable.{notice_tree}
+use Rattle.mailtables.specs.MessageTable.{message_tree}
+use Rattle.mailtables.specs.CopyTable.{copy_tree, copy_cells}
+use Rattle.oldtables.specs.declared.third.SecondCopy.{SecondCopy}
+use Rattle.oldtables.specs.OldSchema.{four_cells}
+use Rattle.oldtables.specs.SecondSchema.{IsSecondSchema, flagless}
+use Rattle.oldtables.specs.Migration.{before, joined, renewed}
+
+-- a copy of version 2, as a row of version 3 has it
+abbrev pub third_cells : SecondCopy → Row
+third_cells copy = copy_cells copy.owner.now copy.folder.now copy.n copy.id []
+
+-- the rows are those of version 2's copies, in any order, and what is seen stays as it is
+pub record AreSecondCopies (rows : Vec Row Global) (old new : Database) : Type 0 where
+  pub same : IsSecondSchema old.schema → new ≡ old
+  pub all : (schema : Schema) → IsSecondSchema schema → (tables : Tables) → HoldsTables schema old tables → IsPermutation (map four_cells (tables copy_tree)) rows.items
+
+-- the table of the copies, and then that of version 3 with no row
+abbrev pub RemakesCopies : Database → Database → Type 0
+RemakesCopies old new = (schema : Schema) → IsSecondSchema schema → (tables : Tables) → HoldsTables schema old tables → HoldsTables mail_schema new (before copy_tree tables)
+
+-- the copies of version 2 join those of version 3 in turn, and the row of the version is that of version 3
+abbrev pub flagged : List Row → Tables → Tables
+flagged rows tables = renewed (joined copy_tree flagless rows tables)
+
+-- of the tables of version 2 these are those of version 3: each copy is as it was, in any order, without flags, and the other rows are as before
+pub record IsThird (old new : Tables) : Type 0 where
+  pub filed : IsPermutation (map flagless (old copy_tree)) (new copy_tree)
+  pub version : new meta_tree ≡ delete_where (has_key version_key) (old meta_tree) ++ version_row ∷ []
+  pub accounts : new account_tree ≡ old account_tree
+  pub scripts : new script_tree ≡ old script_tree
+  pub queue : new outgoing_tree ≡ old outgoing_tree
+  pub replies : new reply_tree ≡ old reply_tree
+  pub notices : new notice_tree ≡ old notice_tree
+  pub messages : new message_tree ≡ old message_tree
+
+-- a database of version 2, with the index of the copies or without it, has turned into one of version 3
+abbrev pub TurnsThird : Database → Database → Type 0
+TurnsThird old new = (schema : Schema) → IsSecondSchema schema → (tables : Tables) → HoldsTables schema old tables → (after : Tables) × IsThird tables after × HoldsTables mail_schema new after

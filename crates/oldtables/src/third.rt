@@ -1,0 +1,90 @@
+//! How a database of version 2 becomes one of version 3: the copies are made anew, without flags.
+ghost use Rattle.std.specs.Prelude.{◌≡◌, IfOk};
+ghost use Rattle.mailtables.specs.Connection.{RunsInside, Makes, TurnsRows, ChangesRows};
+ghost use Rattle.mailtables.specs.CopyTable.{copy_tree};
+ghost use Rattle.mailtables.specs.Rows.{added};
+ghost use Rattle.oldtables.specs.Inside.{TurnsInside, Finds};
+ghost use Rattle.oldtables.specs.Migration.{joined};
+ghost use Rattle.oldtables.specs.SecondSchema.{flagless};
+ghost use Rattle.oldtables.specs.Third.{AreSecondCopies, RemakesCopies, TurnsThird, flagged, third_cells};
+
+use crate::migration::{drop_copy, renew_version, text_at};
+use crate::statement::list;
+use mailtables::{add_copy, make_copies};
+use sqlite::{Alter, Error, Row, Transaction};
+
+/// A copy of a message, as version 2 keeps it: it says which.
+#[derive(Drop)]
+pub(crate) struct SecondCopy<'a> {
+    pub owner: &'a [u8],
+    pub folder: &'a [u8],
+    pub n: i64,
+    pub id: i64,
+}
+
+/// The copy that the row shows.
+fn second_in<'a>(row: &'a Row) -> Result<SecondCopy<'a>, Error>
+    ensures { IfOk result (λ copy. flagless row.now ≡ third_cells copy) }
+{
+    let owner = text_at(row, 0)?;
+    let folder = text_at(row, 1)?;
+    let n: i64 = row.get(2)?;
+    let id: i64 = row.get(3)?;
+    Ok(SecondCopy {
+        owner,
+        folder,
+        n,
+        id,
+    })
+}
+
+/// The rows of the copies, inside a transaction.
+fn find_second<S: Alter>(tx: &mut Transaction<'_, S>) -> Result<Vec<Row>, Error>
+    ensures { RunsInside S.Store (Finds AreSecondCopies) tx.old tx.new result }
+{
+    list(tx, "SELECT owner, folder, n, id FROM copy")
+}
+
+/// Instead of the table of the copies, which is the last, that of version 3, inside a transaction.
+fn remake_copies<S: Alter>(tx: &mut Transaction<'_, S>) -> Result<(), Error>
+    ensures { RunsInside S.Store (Makes RemakesCopies) tx.old tx.new result }
+{
+    drop_copy(tx)?;
+    make_copies(tx)
+}
+
+/// The copy joins the copies, without flags, inside a transaction.
+fn recopy<S: Alter>(tx: &mut Transaction<'_, S>, copy: &SecondCopy<'_>) -> Result<(), Error>
+    ensures { ChangesRows S.Store (added copy_tree (third_cells copy.now)) tx.old tx.new result }
+{
+    add_copy(tx, copy.owner, copy.folder, &copy.n, &copy.id, b"")
+}
+
+/// The copies of the rows do so in turn, inside a transaction.
+fn fill_copies<S: Alter>(tx: &mut Transaction<'_, S>, rows: &[Row]) -> Result<(), Error>
+    ensures { RunsInside S.Store (TurnsInside (TurnsRows (joined copy_tree flagless rows.now))) tx.old tx.new result }
+{
+    for row in rows {
+        let copy = second_in(row)?;
+        recopy(tx, &copy)?;
+    }
+    Ok(())
+}
+
+/// The copies of the rows, and the version, inside a transaction.
+fn refill_copies<S: Alter>(tx: &mut Transaction<'_, S>, rows: &[Row]) -> Result<(), Error>
+    ensures { ChangesRows S.Store (flagged rows.now) tx.old tx.new result }
+{
+    fill_copies(tx, rows)?;
+    renew_version(tx)
+}
+
+/// Version 2, with the index of the copies by their messages or without it, becomes version 3, inside a transaction. Takes memory
+/// for the rows of all copies, without their messages.
+pub(crate) fn migrate_second<S: Alter>(tx: &mut Transaction<'_, S>) -> Result<(), Error>
+    ensures { RunsInside S.Store (Makes TurnsThird) tx.old tx.new result }
+{
+    let copies = find_second(tx)?;
+    remake_copies(tx)?;
+    refill_copies(tx, &copies)
+}

@@ -1,0 +1,17 @@
+use Rattle.std.proofs.lemmas.Result.{err_from_is_err_and}
+use Rattle.sievesyntax.specs.declared.tree.action.Action.TheVariants as D
+use Rattle.sievesyntax.specs.Table.{IsKeep}
+use Rattle.sievesyntax.specs.Valid.{MayAct}
+use Rattle.sievesyntax.proofs.FaultLemmas.{none_fits, one_unfit}
+use Rattle.sievesyntax.proofs.table.command.permitted_keep.Goals as goal
+
+pub returns-in_err-given : goal.returns-in_err-given
+returns-in_err-given c =
+    let p = err_from_is_err_and c.from_residual.result c.from_residual.ensures.1 in
+    rw (p.1, p.2) (none_fits (IsKeep c.args.args.now) (λ x. MayAct c.args.granted (D.Keep x)) _ c.in_err-given.ensures)
+
+pub returns-in_err-require : goal.returns-in_err-require
+returns-in_err-require c =
+    let p = err_from_is_err_and c.from_residual-in_err-require.result c.from_residual-in_err-require.ensures.1 in
+    let e = rw c.is_some.ensures at c.in_err-require.ensures.fault in
+    rw (p.1, p.2) (one_unfit (IsKeep c.args.args.now) (λ x. MayAct c.args.granted (D.Keep x)) _ c.in_ok-given.ensures.1 _ e)
