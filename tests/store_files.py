@@ -135,7 +135,7 @@ def in_order(place, lines, mode):
 
 
 def sessions(new):
-    kinds = {"absent": absent, "a text": text, "a directory": directory, "of another program": foreign, "of version 3": version, "of another user": unreadable}
+    kinds = {"absent": absent, "a text": text, "a directory": directory, "of another program": foreign, "of version 4": version, "of another user": unreadable}
     for kind, make in kinds.items():
         place = new()
         how = make(place) or {}
@@ -173,7 +173,7 @@ def foreign(place):
 def version(place):
     place.make()
     with closing(sqlite3.connect(place.db)) as db, db:
-        assert db.execute("UPDATE meta SET value = 3").rowcount == 1
+        assert db.execute("UPDATE meta SET value = 4").rowcount == 1
 
 
 def unreadable(place):
