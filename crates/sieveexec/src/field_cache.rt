@@ -4,10 +4,11 @@ ghost use Rattle.std.specs.List.{list_any};
 ghost use Rattle.octets.specs.Ascii.{lowered};
 
 use crate::mail::Mail;
-use octets::{Octets, lowered};
+use octets::Octets;
 use std::alloc::{AllocError, Global};
 use std::collections::BTreeMap;
 use std::marker::Model;
+use std::mem;
 
 /// What is read of the fields of a name.
 pub trait FieldValues: Sized + Drop {
@@ -49,6 +50,8 @@ pub trait FieldTest<V: FieldValues> {
 pub struct FieldCache<'m, 'a, V: FieldValues> {
     mail: &'m Mail<'a>,
     known: BTreeMap<Octets, V>,
+    /// Room for a name in lower case, asked for once and not at each test.
+    room: Vec<u8>,
 }
 
 impl<'m, 'a, V: FieldValues> Model for FieldCache<'m, 'a, V> {
@@ -70,7 +73,20 @@ impl<'m, 'a, V: FieldValues> FieldCache<'m, 'a, V> {
         FieldCache {
             mail,
             known: BTreeMap::new(alloc),
+            room: Vec::new(alloc),
         }
+    }
+
+    /// A name in lower case, in the room.
+    fn key_of(&mut self, alloc: Global, name: &[u8]) -> Result<Octets, AllocError>
+        ensures key { IfOk result (λ key. key ≡ lowered name.now) }
+        ensures kept { self.new ≡ self.old }
+    {
+        let mut key = mem::replace(&mut self.room, Vec::new(alloc));
+        key.clear();
+        key.extend_from_slice(name)?;
+        key.make_ascii_lowercase();
+        Ok(Octets::from_vec(key))
     }
 
     /// Whether a test holds of the fields of some of its names. The fields of a name are read when the first test asks for them.
@@ -116,9 +132,11 @@ impl<'m, 'a, V: FieldValues> FieldCache<'m, 'a, V> {
         ensures count { IfOk result (λ count. count ≡ T.counted test.now (V.keyed self.old (lowered name.now))) }
         ensures kept { self.new ≡ self.old }
     {
-        let key = lowered(alloc, name)?;
+        let key = self.key_of(alloc, name)?;
         if let Some(values) = self.known.get(&key) {
-            return Ok(test.count_of(values));
+            let count = test.count_of(values);
+            self.room = key.into_vec();
+            return Ok(count);
         }
         let values = V::read(alloc, self.mail, &key)?;
         let count = test.count_of(&values);
@@ -136,9 +154,11 @@ impl<'m, 'a, V: FieldValues> FieldCache<'m, 'a, V> {
         ensures holds { IfOk result (λ holds. holds ≡ T.passes test.now (V.keyed self.old (lowered name.now))) }
         ensures kept { self.new ≡ self.old }
     {
-        let key = lowered(alloc, name)?;
+        let key = self.key_of(alloc, name)?;
         if let Some(values) = self.known.get(&key) {
-            return Ok(test.holds_of(values));
+            let holds = test.holds_of(values);
+            self.room = key.into_vec();
+            return Ok(holds);
         }
         let values = V::read(alloc, self.mail, &key)?;
         let holds = test.holds_of(&values);

@@ -68,7 +68,7 @@ fn check_tokens(alloc: Global, tokens: &Packed) -> Result<Script, (ReadError, us
     ensures only { IfOk result (λ script. (tree : Commands) → ReadsScript tree (as_read (lexemes_of (contents tokens.now))) → IsValid tree → tree ≡ script_tree script) }
     ensures fault { IfErr result (λ e. OnFault e.0 ((tree : Commands) → ReadsScript tree (as_read (lexemes_of (contents tokens.now))) → IsValid tree → ⊥)) }
 {
-    let mut reader = Reader::new(tokens);
+    let mut reader = Reader::new(alloc, tokens);
     match read_script(alloc, &mut reader) {
         Ok(commands) => Ok(Script { commands }),
         Err(error) => Err((error, tokens.len().saturating_sub(reader.left()))),

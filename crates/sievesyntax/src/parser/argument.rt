@@ -32,14 +32,14 @@ pub enum Argument<'a> {
 
 ghost use Rattle.sievesyntax.specs.Arguments.{IsOther, AreStrings, IsArgument, IsEnd, AreArguments};
 
-/// All the arguments at the front.
+/// All the arguments at the front. Their room is the reader's, which has it back by [`Reader::keep_room`].
 pub(crate) fn read_arguments<'a>(
     alloc: Global,
     reader: &mut Reader<'a>,
 ) -> Result<Vec<Argument<'a>>, ReadError>
     ensures { Parses (λ v. v.items) AreArguments reader.old reader.new result }
 {
-    let mut arguments = Vec::new(alloc);
+    let mut arguments = reader.take_room(alloc);
     'arguments: while let Some(argument) = read_argument(alloc, reader)? {
         arguments.push(argument)?;
     }

@@ -179,6 +179,7 @@ fn read_statement(
 {
     let args = read_arguments(alloc, reader)?;
     let command = plain_command(alloc, name, args.as_slice(), granted)?;
+    reader.keep_room(args);
     reader.read_mark(Mark::Semicolon)?;
     Ok(command)
 }

@@ -7,11 +7,14 @@ ghost use Rattle.sievesyntax.specs.Lexemes.{IsFirst, Lexemes, keyword, mark, lex
 ghost use Rattle.sievesyntax.specs.Parsing.{IfFault};
 
 use crate::error::ReadError;
+use crate::parser::argument::Argument;
 use crate::parser::decoding::{Decoding, seen_of};
 use crate::parser::lexeme::Lexeme;
 use crate::table::keyword::Keyword;
 use sievelex::{Cursor, FaultKind, Mark, Packed};
+use std::alloc::Global;
 use std::marker::Model;
+use std::mem;
 
 /// The tokens that are still to be read. Contracts see what is read of their lexemes.
 #[derive(Drop)]
@@ -22,6 +25,8 @@ pub struct Reader<'a> {
     rest: Cursor<'a>,
     /// How their strings are read.
     decoding: Decoding,
+    /// Room for the arguments of the next command or test, asked for once and not at each of them.
+    room: Vec<Argument<'a>>,
 }
 
 impl<'a> Model for Reader<'a> {
@@ -36,7 +41,7 @@ impl<'a> Model for Reader<'a> {
 
 impl<'a> Reader<'a> {
     /// Before the first of these tokens.
-    pub(crate) fn new(tokens: &'a Packed) -> Reader<'a>
+    pub(crate) fn new(alloc: Global, tokens: &'a Packed) -> Reader<'a>
         ensures { result ≡ as_read (lexemes_of (contents tokens.now)) }
     {
         let all = tokens.cursor();
@@ -45,11 +50,13 @@ impl<'a> Reader<'a> {
                 first: Some(seen_of(content, Decoding::Open)),
                 rest,
                 decoding: Decoding::Open.after(content),
+                room: Vec::new(alloc),
             },
             None => Reader {
                 first: None,
                 rest: all,
                 decoding: Decoding::Open,
+                room: Vec::new(alloc),
             },
         }
     }
@@ -87,7 +94,24 @@ impl<'a> Reader<'a> {
         Some(first)
     }
 
-    /// ReadsScript this mark.
+    /// Room for arguments, with none in it: what was given back last, if some was.
+    pub(crate) fn take_room(&mut self, alloc: Global) -> Vec<Argument<'a>>
+        ensures none { result.items ≡ [] }
+        ensures kept { self.new ≡ self.old }
+    {
+        let mut room = mem::replace(&mut self.room, Vec::new(alloc));
+        room.clear();
+        room
+    }
+
+    /// Keeps the room of arguments that were read for the next ones.
+    pub(crate) fn keep_room(&mut self, room: Vec<Argument<'a>>)
+        ensures { self.new ≡ self.old }
+    {
+        self.room = room;
+    }
+
+    /// Reads this mark.
     pub(crate) fn read_mark(&mut self, wanted: Mark) -> Result<(), ReadError>
         ensures found { OnOk result (self.old ≡ mark wanted ∷ self.new) }
         ensures fault { IfFault result ((to : Lexemes) → self.old ≡ mark wanted ∷ to → ⊥) }
@@ -98,7 +122,7 @@ impl<'a> Reader<'a> {
         }
     }
 
-    /// ReadsScript an identifier.
+    /// Reads an identifier.
     pub(crate) fn read_keyword(&mut self) -> Result<Keyword, ReadError>
         ensures found { IfOk result (λ name. self.old ≡ keyword name ∷ self.new) }
         ensures fault { IfFault result ((name : Keyword) (to : Lexemes) → self.old ≡ keyword name ∷ to → ⊥) }

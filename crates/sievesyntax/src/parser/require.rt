@@ -84,6 +84,7 @@ fn read_names(alloc: Global, reader: &mut Reader<'_>) -> Result<Texts, ReadError
 {
     let args = read_arguments(alloc, reader)?;
     let names = read_list(alloc, args.as_slice())?;
+    reader.keep_room(args);
     reader.read_mark(Mark::Semicolon)?;
     Ok(names)
 }

@@ -111,5 +111,7 @@ fn read_plain(
     ensures { Parses test_view (AsksAfter granted lists nots name) reader.old reader.new result }
 {
     let args = read_arguments(alloc, reader)?;
-    Ok(plain_test(alloc, name, args.as_slice(), granted)?)
+    let test = plain_test(alloc, name, args.as_slice(), granted)?;
+    reader.keep_room(args);
+    Ok(test)
 }

@@ -9,7 +9,8 @@ pub returns-in_err-argument : goal.returns-in_err-argument
 returns-in_err-argument c =
     let p = err_from_is_err_and c.from_residual.result c.from_residual.ensures.1 in
     let l = c.arguments in
-    rw (p.1, p.2) (faults_on _ _ _ _ (arguments_fail _ l.arguments.items l.reader l.invariant) c.in_err-argument.ensures.begun c.in_err-argument.ensures.fault)
+    let fails = faults_on _ _ _ _ (arguments_fail _ l.arguments.items l.reader l.invariant) c.in_err-argument.ensures.begun c.in_err-argument.ensures.fault in
+    rw (p.1, p.2) (rw c.take_room-arguments.ensures.kept at fails)
 
 pub arguments-smaller : goal.arguments-smaller
 arguments-smaller c = argument_longer c.in-Some.argument _ _ (rw c.in-Some.is at c.in_ok-argument.ensures.found)
@@ -25,4 +26,4 @@ pub returns : goal.returns
 returns c =
     let l = c.arguments in
     let ended = rw c.in_default.is at c.in_ok-argument.ensures.found in
-    arguments_end _ l.arguments.items l.reader l.invariant _ ended
+    rw c.take_room-arguments.ensures.kept at (arguments_end _ l.arguments.items l.reader l.invariant _ ended)

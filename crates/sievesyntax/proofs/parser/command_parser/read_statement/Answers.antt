@@ -19,7 +19,7 @@ returns-in_err-command c =
 pub returns-in_err-read_mark : goal.returns-in_err-read_mark
 returns-in_err-read_mark c =
     let h = c.in_ok-args.ensures in
-    let e = c.in_err-read_mark.ensures.fault in
+    let e = rw c.keep_room.ensures at c.in_err-read_mark.ensures.fault in
     let p = err_from_is_err_and c.from_residual-in_err-read_mark.result c.from_residual-in_err-read_mark.ensures.1 in
     rw (p.1, p.2) (fault_on _ _ _ (statement_no_end c.args.granted c.args.room c.args.name c.requires _ _ _ h.1) e)
 
@@ -28,4 +28,4 @@ returns c =
     let h = c.in_ok-args.ensures in
     let row = rw c.as_slice.ensures.value at c.in_ok-command.ensures.found in
     let alone = rw c.as_slice.ensures.value at c.in_ok-command.ensures.only in
-    statement_found c.args.granted c.args.room c.args.name c.requires _ _ _ h.1 h.0 _ row alone _ c.in_ok-read_mark.ensures.found
+    statement_found c.args.granted c.args.room c.args.name c.requires _ _ _ h.1 h.0 _ row alone _ (rw c.keep_room.ensures at c.in_ok-read_mark.ensures.found)

@@ -14,4 +14,4 @@ pub returns : goal.returns
 returns c =
     let h = c.in_ok-args.ensures in
     let row = rw c.as_slice.ensures.value at c.in_ok-names.ensures in
-    names_found _ _ _ h.1 h.0 _ row.0 row.1 _ c.in_ok-read_mark.ensures.found
+    names_found _ _ _ h.1 h.0 _ row.0 row.1 _ (rw c.keep_room.ensures at c.in_ok-read_mark.ensures.found)

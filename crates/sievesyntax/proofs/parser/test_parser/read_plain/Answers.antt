@@ -10,18 +10,18 @@ returns-in_err-args c =
     let p = err_from_is_err_and c.from_residual.result c.from_residual.ensures.1 in
     rw (p.1, p.2) (fault_on _ _ _ (plain_no_args c.args.name r.no_not r.no_allof r.no_anyof _ c.args.granted c.args.lists c.args.nots) h)
 
-pub returns-in_err-plain_test : goal.returns-in_err-plain_test
-returns-in_err-plain_test c =
+pub returns-in_err-test : goal.returns-in_err-test
+returns-in_err-test c =
     let h = c.in_ok-args.ensures in
     let r = c.requires in
-    let e = rw c.as_slice.ensures.value at c.in_err-plain_test.ensures.fault in
-    let p = err_from_is_err_and c.from_residual-in_err-plain_test.result c.from_residual-in_err-plain_test.ensures.1 in
+    let e = rw c.as_slice.ensures.value at c.in_err-test.ensures.fault in
+    let p = err_from_is_err_and c.from_residual-in_err-test.result c.from_residual-in_err-test.ensures.1 in
     rw (p.1, p.2) (fault_on _ _ _ (plain_no_row c.args.name r.no_not r.no_allof r.no_anyof _ c.args.granted c.args.lists c.args.nots _ _ h.1) e)
 
 pub returns : goal.returns
 returns c =
     let h = c.in_ok-args.ensures in
     let r = c.requires in
-    let row = rw c.as_slice.ensures.value at c.in_ok-plain_test.ensures.found in
-    let alone = rw c.as_slice.ensures.value at c.in_ok-plain_test.ensures.only in
-    plain_found c.args.name r.no_not r.no_allof r.no_anyof _ c.args.granted c.args.lists c.args.nots _ _ h.1 h.0 _ row alone
+    let row = rw c.as_slice.ensures.value at c.in_ok-test.ensures.found in
+    let alone = rw c.as_slice.ensures.value at c.in_ok-test.ensures.only in
+    rw c.keep_room.ensures (plain_found c.args.name r.no_not r.no_allof r.no_anyof _ c.args.granted c.args.lists c.args.nots _ _ h.1 h.0 _ row alone)
