@@ -7,7 +7,7 @@ use Rattle.std.specs.Ordering.{nat_cmp}
 use Rattle.std.specs.Cmp.Lexicographic.{pointwise, slice_cmp}
 use Rattle.std.specs.BTreeSet.{BTreeSet, contains, Updates}
 use Rattle.mailflags.specs.declared.placement.Placement.{Placement}
-use Rattle.sievesyntax.specs.RunState.{with_filed}
+use Rattle.sievesyntax.specs.RunState.{as_filed, with_filed}
 use Rattle.sieveexec.specs.Mailboxes.{Knows, is_there}
 
 -- a name that is there already adds nothing to what is there
@@ -31,10 +31,10 @@ knows_more old new filed one knows updates other =
     updates.0 other ∙ ap (λ same. cond same true (contains (slice_cmp nat_cmp) old other)) (is_eq-slice_cmp name other) ∙ ap (cond (pointwise nat_eq name other) true) (knows other) in
     changed ∙ by_presence (is_there filed name) refl
   where
-    by_presence : (there : Bool) → is_there filed one.mailbox ≡ there → cond (pointwise nat_eq one.mailbox other) true (is_there filed other) ≡ is_there (cond there filed (filed ++ one ∷ [])) other
+    by_presence : (there : Bool) → is_there filed one.mailbox ≡ there → cond (pointwise nat_eq one.mailbox other) true (is_there filed other) ≡ is_there (cond there filed (filed ++ as_filed filed one ∷ [])) other
     by_presence true there = same_known filed one.mailbox other (pointwise nat_eq one.mailbox other) refl there
-    by_presence false there = either (pointwise nat_eq one.mailbox other) (is_there filed other) ∙ sym (list_any-append (λ there. pointwise nat_eq there.mailbox other) filed (one ∷ []))
+    by_presence false there = either (pointwise nat_eq one.mailbox other) (is_there filed other) ∙ sym (list_any-append (λ there. pointwise nat_eq there.mailbox other) filed (as_filed filed one ∷ []))
 
 -- one whose mailbox isn't there is appended
-pub filed_new : (filed : List Placement) (one : Placement) → is_there filed one.mailbox ≡ false → filed ++ one ∷ [] ≡ with_filed filed one
-filed_new filed one absent = ap (λ there. cond there filed (filed ++ one ∷ [])) (sym absent)
+pub filed_new : (filed : List Placement) (one : Placement) → is_there filed one.mailbox ≡ false → filed ++ as_filed filed one ∷ [] ≡ with_filed filed one
+filed_new filed one absent = ap (λ there. cond there filed (filed ++ as_filed filed one ∷ [])) (sym absent)

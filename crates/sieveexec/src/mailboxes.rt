@@ -1,6 +1,6 @@
 //! The mailboxes that a run has filed the message into.
 ghost use Rattle.std.specs.Prelude.{◌≡◌, [], OnOk};
-ghost use Rattle.sievesyntax.specs.RunState.{with_filed};
+ghost use Rattle.sievesyntax.specs.RunState.{as_filed, with_filed};
 ghost use Rattle.sieveexec.specs.Mailboxes.{is_there};
 
 use mailflags::Placement;
@@ -8,6 +8,9 @@ use octets::{List, Octets};
 use std::alloc::{AllocError, Global};
 use std::collections::BTreeSet;
 use std::marker::Model;
+
+/// So many copies of a message have flags at most: those of the first mailboxes that it goes into.
+const MAX_FLAGGED: usize = 100;
 
 /// The mailboxes that a run has filed the message into, each once, in the order in which they came. Contracts see this list.
 #[derive(Drop)]
@@ -46,6 +49,19 @@ impl Mailboxes {
         self.known.contains(mailbox)
     }
 
+    /// A copy as it stands behind them: behind the hundredth it has no flags.
+    fn as_filed(&self, alloc: Global, one: Placement) -> Placement
+        ensures { result ≡ as_filed self.now one }
+    {
+        if self.filed.len() < MAX_FLAGGED {
+            return one;
+        }
+        Placement {
+            mailbox: one.mailbox,
+            flags: Octets::new(alloc),
+        }
+    }
+
     /// One more, unless its mailbox is there. log n comparisons of names; without memory none is left.
     pub(crate) fn add(&mut self, alloc: Global, one: Placement) -> Result<(), AllocError>
         ensures { OnOk result (self.new ≡ with_filed self.old one) }
@@ -54,6 +70,7 @@ impl Mailboxes {
             return Ok(());
         }
         let name = one.mailbox.try_clone(alloc)?;
+        let one = self.as_filed(alloc, one);
         self.filed.push(one)?;
         match self.known.insert(name) {
             Ok(_) => Ok(()),

@@ -1,6 +1,6 @@
 -- What `imap4flags` says and does (RFC 5232), and near misses.
 use Rattle.std.proofs.Common.{◌≡◌, ◌∙◌, ◌∷◌, ℕ, Bool, true, false, List, [], Some, None, refl, ap, lit≤}
-use Rattle.std.specs.Prelude.{codes}
+use Rattle.std.specs.Prelude.{codes, cond, length, nat_lt}
 use Rattle.mailflags.specs.Flags.{has}
 use Rattle.mailflags.specs.declared.placement.Placement.{Placement}
 use Rattle.sievelex.specs.declared.token.Content.TheVariants as C
@@ -23,7 +23,7 @@ use Rattle.sievesyntax.specs.Chains.{Chain}
 use Rattle.sievesyntax.specs.Languages.{lexeme_in, is_unflagged_capability, today, unflagged}
 use Rattle.sievesyntax.specs.Lexemes.{tag}
 use Rattle.sievesyntax.specs.Meaning.{Outcome, Done, outcome}
-use Rattle.sievesyntax.specs.RunState.{RunState}
+use Rattle.sievesyntax.specs.RunState.{RunState, max_flagged, as_filed}
 use Rattle.sievesyntax.specs.Positional.{one_list}
 use Rattle.sievesyntax.specs.Table.{SaysHasFlag, IsPlainCommand}
 use Rattle.sievesyntax.specs.Tags.{IsTagValue, IsAllowed}
@@ -180,3 +180,12 @@ not_run = refl
 
 no_test : EachAsksIn IsUnflaggedCheck (asking Discard Discard) → ⊥
 no_test each = each.1.0.0
+
+-- ---- how many copies have flags
+
+-- the hundredth copy has its own, and the next one has none
+hundredth : (filed : List Placement) (new : Placement) → length filed ≡ 99 → as_filed filed new ≡ new
+hundredth filed new many = ap (λ n. record new { flags = cond (nat_lt n max_flagged) new.flags [] }) many
+
+behind_hundred : (filed : List Placement) (new : Placement) → length filed ≡ 100 → (as_filed filed new).flags ≡ []
+behind_hundred filed new many = ap (λ n. cond (nat_lt n max_flagged) new.flags []) many

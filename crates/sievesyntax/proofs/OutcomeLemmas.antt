@@ -18,7 +18,7 @@ use Rattle.sievesyntax.specs.declared.tree.action.Action.TheVariants.{Keep, Disc
 use Rattle.sievesyntax.specs.declared.tree.checks.Check.{Check}
 use Rattle.sievesyntax.specs.declared.tree.vacation.VacArgs.{VacArgs}
 use Rattle.sievesyntax.specs.Before.{IsUnflaggedAction}
-use Rattle.sievesyntax.specs.RunState.{RunState, at_first, max_targets, TwoVacations, TooManyRedirects, Flow, Going, Stopped, Failed, and_then, inbox, mailbox_named, with_filed, flags_given, cancelled_after, filed_into, same_target, sent_to, replied_by, performed}
+use Rattle.sievesyntax.specs.RunState.{RunState, at_first, max_targets, max_flagged, as_filed, TwoVacations, TooManyRedirects, Flow, Going, Stopped, Failed, and_then, inbox, mailbox_named, with_filed, flags_given, cancelled_after, filed_into, same_target, sent_to, replied_by, performed}
 use Rattle.sievesyntax.specs.Meaning.{ended, outcome}
 use Rattle.sievesyntax.specs.Trace.{actions_run, in_turn, KeepsImplicitly, OnDone, NamesWithoutRepeats, FilesIntoInboxAlone, FilesWithoutFlags, NamesFlags, FilesWithFlags}
 use Rattle.sievesyntax.specs.Tree.{Commands}
@@ -76,10 +76,10 @@ any_mailbox p (one ∷ more) = λ i. p one.mailbox || any_mailbox p more i
 mailbox_once : (filed : List Placement) (new : Placement) → IsDistinct (pointwise nat_eq) (mailboxes_of filed) → IsDistinct (pointwise nat_eq) (mailboxes_of (with_filed filed new))
 mailbox_once filed new once = step (list_any (λ there. pointwise nat_eq there.mailbox new.mailbox) filed) refl
   where
-    step : (there : Bool) → list_any (λ there. pointwise nat_eq there.mailbox new.mailbox) filed ≡ there → IsDistinct (pointwise nat_eq) (mailboxes_of (cond there filed (filed ++ new ∷ [])))
+    step : (there : Bool) → list_any (λ there. pointwise nat_eq there.mailbox new.mailbox) filed ≡ there → IsDistinct (pointwise nat_eq) (mailboxes_of (cond there filed (filed ++ as_filed filed new ∷ [])))
     step true is = once
     step false is =
-        subst (IsDistinct (pointwise nat_eq)) (sym (map-append (λ (one : Placement). one.mailbox) filed (new ∷ [])))
+        subst (IsDistinct (pointwise nat_eq)) (sym (map-append (λ (one : Placement). one.mailbox) filed (as_filed filed new ∷ [])))
         (IsDistinct-push nat_list_eq_equiv (mailboxes_of filed) new.mailbox once (turned nat_list_eq_equiv new.mailbox (mailboxes_of filed) ∙ any_mailbox (λ there. pointwise nat_eq there new.mailbox) filed ∙ is))
 
 files : (mailbox flags : List ℕ) (copy : Bool) (state : RunState) → IsOrderly state → IsOrderly (filed_into mailbox flags copy state)
@@ -194,9 +194,13 @@ record IsBare (state : RunState) : Type 0 where
 bare_more : (filed : List Placement) (new : Placement) → All HasNone filed → HasNone new → All HasNone (with_filed filed new)
 bare_more filed new bare so = step (list_any (λ there. pointwise nat_eq there.mailbox new.mailbox) filed)
   where
-    step : (there : Bool) → All HasNone (cond there filed (filed ++ new ∷ []))
+    cut : (room : Bool) → cond room new.flags [] ≡ []
+    cut true = so
+    cut false = refl
+
+    step : (there : Bool) → All HasNone (cond there filed (filed ++ as_filed filed new ∷ []))
     step true = bare
-    step false = All-push HasNone filed new bare so
+    step false = All-push HasNone filed (as_filed filed new) bare (cut (nat_lt (length filed) max_flagged))
 
 bare_given : (given : Option (List (List ℕ))) (state : RunState) → given ≡ None → IsBare state → flags_given given state ≡ []
 bare_given given state none so = ap (λ g. flags_given g state) none ∙ ap written so.flags
@@ -260,9 +264,13 @@ record IsFlagged (state : RunState) : Type 0 where
 named_more : (filed : List Placement) (new : Placement) → All NamesFlags filed → NamesFlags new → All NamesFlags (with_filed filed new)
 named_more filed new all so = step (list_any (λ there. pointwise nat_eq there.mailbox new.mailbox) filed)
   where
-    step : (there : Bool) → All NamesFlags (cond there filed (filed ++ new ∷ []))
+    cut : (room : Bool) → (flags : List (List ℕ)) × AreFlags flags × (cond room new.flags [] ≡ written flags)
+    cut true = so
+    cut false = ([], no_flags, refl)
+
+    step : (there : Bool) → All NamesFlags (cond there filed (filed ++ as_filed filed new ∷ []))
     step true = all
-    step false = All-push NamesFlags filed new all so
+    step false = All-push NamesFlags filed (as_filed filed new) all (cut (nat_lt (length filed) max_flagged))
 
 flagged_filed : (mailbox : List ℕ) (given : Option (List (List ℕ))) (copy : Bool) (state : RunState) → IsFlagged state → IsFlagged (filed_into mailbox (flags_given given state) copy state)
 flagged_filed mailbox given copy state so = record { flags = so.flags; filed = named_more state.filed (record { mailbox = mailbox; flags = flags_given given state }) so.filed (step given) }

@@ -51,9 +51,17 @@ inbox = codes "INBOX"
 abbrev pub mailbox_named : List ℕ → List ℕ
 mailbox_named name = cond (pointwise nat_eq (lowered name) (codes "inbox")) inbox name
 
+-- how many copies of a message have flags at most: those of the first mailboxes that it goes into
+abbrev pub max_flagged : ℕ
+max_flagged = 100
+
+-- a copy as it stands behind these: behind so many it has no flags
+abbrev pub as_filed : List Placement → Placement → Placement
+as_filed filed new = record new { flags = cond (nat_lt (length filed) max_flagged) new.flags [] }
+
 -- one copy more, unless its mailbox has one: a message goes into a mailbox once (RFC 5228, 2.10.3)
 abbrev pub with_filed : List Placement → Placement → List Placement
-with_filed filed new = cond (list_any (λ there. pointwise nat_eq there.mailbox new.mailbox) filed) filed (filed ++ new ∷ [])
+with_filed filed new = cond (list_any (λ there. pointwise nat_eq there.mailbox new.mailbox) filed) filed (filed ++ as_filed filed new ∷ [])
 
 -- the text that names a copy's flags: those that its `:flags` names, or without one those that are set (RFC 5232, 5)
 abbrev pub flags_given : Option (List (List ℕ)) → RunState → List ℕ
