@@ -424,6 +424,36 @@ def name_of(user, folder, number, message):
     return f"{number}.{hashlib.sha256(counted + message).hexdigest()}"
 
 
+NOBODY = ["setpriv", "--reuid=65534", "--regid=65534", "--clear-groups"]
+
+
+def give_all(host, modes):
+    """Lets everybody write what a host has, but for directories that have modes of their own."""
+    for path, _, files in os.walk(host.room):
+        os.chmod(path, modes.get(path, 0o777))
+        for name in files:
+            os.chmod(f"{path}/{name}", 0o777)
+
+
+def drain_unread():
+    """Into a Maildir whose parent may not be read, but searched, mail moves. Where the Maildir itself may not be read it stays."""
+    trials.need_root()
+    trials.need("setpriv")
+    host, messages = flagged()
+    maildir = f"{host.mail}/x"
+    for part in "tmp", "new", "cur":
+        os.makedirs(f"{maildir}/{part}")
+    drain = lambda: subprocess.run([*NOBODY, host.sieved, "drain", "--db", host.file, "alice", "f2", maildir], capture_output=True, timeout=60)
+    give_all(host, {maildir: 0o711})
+    done, left = drain(), sorted(host.stored())
+    wanted = 75, b"", b"sieved: input or output failed\nsieved: permission denied\n"
+    assert (done.returncode, done.stdout, done.stderr) == wanted and left == sorted(messages), (done, len(left))
+    give_all(host, {host.mail: 0o711})
+    done = drain()
+    assert (done.returncode, done.stdout, done.stderr) == (0, b"drained 1\n", b"") and len(os.listdir(f"{maildir}/cur")) == 1, done
+    return "a message stays where the Maildir may not be read, and moves where its parent may not"
+
+
 def drain_no_place():
     """Where `cur` is a file, or can't be written to or made, a message with system flags stays, nothing stays in `tmp`, and another one moves."""
     told = []
@@ -441,11 +471,8 @@ def drain_no_place():
         elif how == "no directory to write to":
             os.mkdir(f"{maildir}/cur", 0o555)
         # who may write all but that
-        for path, _, files in os.walk(host.room):
-            os.chmod(path, 0o755 if path in (maildir, f"{maildir}/cur") else 0o777)
-            for name in files:
-                os.chmod(f"{path}/{name}", 0o777)
-        user = [] if how == "a file" else ["setpriv", "--reuid=65534", "--regid=65534", "--clear-groups"]
+        give_all(host, {maildir: 0o755, f"{maildir}/cur": 0o755})
+        user = [] if how == "a file" else NOBODY
         drain = lambda folder: subprocess.run([*user, host.sieved, "drain", "--db", host.file, "alice", folder, maildir], capture_output=True, timeout=60)
         done = drain("f2")
         assert done.returncode == 75 and done.stdout == b"" and done.stderr.startswith(b"sieved: input or output failed\n"), (how, done)
@@ -746,7 +773,7 @@ def text_by_shellcheck():
 
 TRIALS = {trial.__name__: trial for trial in (
     text_by_sh, text_by_shellcheck, deliver_statuses, deliver_faults, deliver_cut, deliver_killed, deliver_full_disk,
-    queue_addresses, queue_targets, queue_rows, queue_beside, queue_by_hand, drain_folders, drain_flags, drain_no_place, drain_subscriptions, drain_users, drain_listings, drain_killed,
+    queue_addresses, queue_targets, queue_rows, queue_beside, queue_by_hand, drain_folders, drain_flags, drain_unread, drain_no_place, drain_subscriptions, drain_users, drain_listings, drain_killed,
     drain_full_disk, drain_order, reserve_makes_room, swap_serves, restore_keeps_the_old)}
 
 if __name__ == "__main__":

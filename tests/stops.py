@@ -10,8 +10,9 @@ The program opens each. It has to show the accounts as before or as after, and o
 state of two moments is opened once. Nothing is thought durable that wasn't synced: a name needs a sync of its folder.
 
 The trials: init, adduser, deliver, done, imported, exported, drain, session; `drain_seen`, where two of three messages have a system flag, and
-`drain_made`, where the Maildir lacks `cur` besides; `upgrade_last`, `upgrade_fourth` and `upgrade_second`, the first word over a store that a
-program of version 1 or 2 wrote (crates/cases/data); `again`, where the power goes once more as what it left is opened;
+`drain_made`, where the Maildir lacks `cur` besides; `drain_killed` and `drain_refused`, where a run before was broken off as it had made
+`cur`; `daemon`, which moves a message, where one before was killed as it had made the Maildir; `upgrade_last`, `upgrade_fourth` and
+`upgrade_second`, the first word over a store that a program of version 1 or 2 wrote (crates/cases/data); `again`, where the power goes once more as what it left is opened;
 `unsynced`, a disk that loses a commit between its write and its sync, over which the next word reads the disk; and `planted`, in
 which a sync is left out of the log, an answer stands before one, or a commit before the last write, and a state has to be found
 that isn't as it should be.
@@ -60,8 +61,15 @@ class Log:
         self.calls, self.files, self.fresh = [], {}, itertools.count(len(before[1]))
         self.dropped = set()
         self.now = dict(before[0])
+        self.read(trace)
+
+    def read(self, trace):
         for line in trace.splitlines():
             self.take(line)
+
+    def begin(self, *_):
+        """A program that begins has no file open."""
+        self.files, self.dropped = {}, set()
 
     def take(self, line):
         assert "unfinished" not in line and "resumed" not in line, f"two calls at once: {line[:200]}"
@@ -155,9 +163,9 @@ def octets_of(word):
 
 
 # Each call that may come: what it does to the log. None: nothing that a power cut could show.
-KNOWN = dict.fromkeys("""execve access faccessat2 newfstatat fstat stat lstat statx getcwd readlink readlinkat getdents64 flock fcntl
-    mmap fchmod chmod fchown poll ioctl""".split())
-KNOWN |= {"open": lambda log, words, result: log.open([None, *words], result), "openat": Log.open, "close": Log.close,
+KNOWN = dict.fromkeys("""access faccessat2 newfstatat fstat stat lstat statx getcwd readlink readlinkat getdents64 flock fcntl
+    mmap fchmod chmod fchown poll ioctl epoll_create1 epoll_wait""".split())
+KNOWN |= {"execve": Log.begin, "open": lambda log, words, result: log.open([None, *words], result), "openat": Log.open, "close": Log.close,
           "fadvise64": Log.drop, "pread64": Log.read_at, "read": Log.moved, "write": Log.write, "pwrite64": Log.write_at, "ftruncate": Log.cut, "fsync": Log.sync, "fdatasync": Log.sync,
           "mkdir": Log.made, "mkdirat": Log.made, "rename": Log.rename, "renameat": Log.rename, "renameat2": Log.rename, "link": Log.link, "linkat": Log.link,
           "unlink": Log.unlink, "unlinkat": Log.unlink}
@@ -355,17 +363,26 @@ class Room:
         assert b"\r\nNO" not in said and said.endswith(b'OK "Bye."\r\n'), said
         return self
 
-    def recorded(self, word, *words, data=b"", talk=None):
-        """The log of one run."""
+    def traced(self, word, *words, data=b"", talk=None, inject=None):
+        """One run: its status, what it said, and its calls. inject: what strace does to some of them."""
         trials.need("strace")
-        before = files_of(self.folder)
         with tempfile.NamedTemporaryFile(prefix="sieved-trace-") as trace:
-            command = ["strace", "-f", "-e", "trace=%file,%desc", "-xx", "-s", "100000000", "-o", trace.name, PROGRAM[0], word, "--db", f"{self.folder}/mail.db", *words]
+            tracing = ["strace", "-f", "-e", "trace=%file,%desc", *(["-e", f"inject={inject}"] if inject else []), "-xx", "-s", "100000000", "-o", trace.name]
+            command = [*tracing, PROGRAM[0], word, "--db", f"{self.folder}/mail.db", *words]
             with subprocess.Popen(command, stdin=subprocess.PIPE, stdout=subprocess.PIPE, stderr=subprocess.PIPE) as process:
                 said = talk(process) if talk else process.communicate(data)[0]
-                assert process.wait() == 0, (word, process.returncode, said)
-            log = Log(self.folder, trace.read().decode("ascii"), before)
-        assert sum(call.kind == "said" for call in log.calls) and sum(call.kind == "sync" for call in log.calls), "nothing was recorded"
+                status = process.wait()
+            return status, said, trace.read().decode("ascii")
+
+    def recorded(self, word, *words, data=b"", talk=None, behind=None, ends=0):
+        """The log of one run. behind: what was there before a first run, and its calls; what that one said isn't in the log."""
+        before, first = behind or (files_of(self.folder), "")
+        status, said, trace = self.traced(word, *words, data=data, talk=talk)
+        assert status == ends, (word, status, said)
+        log = Log(self.folder, first, before)
+        log.calls = [call for call in log.calls if call.kind != "said"]
+        log.read(trace)
+        assert any(call.kind == "said" for call in log.calls) == bool(said) and any(call.kind == "sync" for call in log.calls), "nothing was recorded"
         assert left_by(log, State(len(log.calls))) == by_path(files_of(self.folder)), "the log doesn't give what the run left"
         return log, said
 
@@ -522,29 +539,64 @@ def exported():
 SEEN = b'require "imap4flags"; if not header :is "subject" "1" { setflag "\\\\Seen"; }\r\n'
 
 
-def moving(script=None, parts=("tmp", "new", "cur")):
-    """The log of a drain of three messages into a Maildir with these parts, what its states are judged by, and what opens them."""
+def with_mail(script=None, parts=("tmp", "new", "cur")):
+    """A room with three messages and a Maildir of these parts."""
     room = Room()
     for part in parts:
         os.makedirs(f"{room.folder}/Maildir/{part}")
     if script:
         room.talk(put_script(b"main", script), b'SETACTIVE "main"\r\n')
-    mails = [MAIL % number for number in range(3)]
-    for mail in mails:
-        room.run("deliver", "--from", "bob@example.net", "--to", "alice@example.org", "alice", data=mail)
-    log, said = room.recorded("drain", "alice", "INBOX", f"{room.folder}/Maildir")
+    for number in range(3):
+        room.run("deliver", "--from", "bob@example.net", "--to", "alice@example.org", "alice", data=MAIL % number)
+    return room
+
+
+def drain_of(room):
+    return "drain", "alice", "INBOX", f"{room.folder}/Maildir"
+
+
+def moving(script=None, parts=("tmp", "new", "cur"), how=None):
+    """The log of a drain of three messages into a Maildir with these parts, what its states are judged by, and what opens them. how: a run
+    is broken off before it so."""
+    room = with_mail(script, parts)
+    behind = broken_off(room, how, drain_of, first_sync(with_mail(script, parts), drain_of)) if how else None
+    log, said = room.recorded(*drain_of(room), behind=behind)
     look = Look([])
     before = look.at(left_by(log, State(0)))
     assert said == b"drained 3\n" and before[0][:2] == (0, b"INBOX 3\n"), (said, before)
+    counts = Counter(path.split("/")[1] for path in left_by(log, State(len(log.calls))) if path.startswith("Maildir/"))
+    assert counts == ({"cur": 2, "new": 1} if script else {"new": 3}), counts
+    return log, look, moves(before)
 
+
+def moves(before):
+    """Judges by where the messages are: none is lost, and once the word has answered none is in the store."""
     def judge(state, answers):
         if not is_drained(before, state) or answers != {0} and state[0][1]:
             return None
         return f"{len(state[1])} in the Maildir and {len(messages_of(state))} in the store"
 
-    counts = Counter(path.split("/")[1] for path in left_by(log, State(len(log.calls))) if path.startswith("Maildir/"))
-    assert counts == ({"cur": 2, "new": 1} if script else {"new": 3}), counts
-    return log, look, judge
+    return judge
+
+
+# What becomes of a run at a sync.
+BROKEN = {"killed": "error=EIO:signal=KILL", "refused": "error=EIO"}
+
+
+def first_sync(room, words_in, talk=None):
+    """Which call of fsync is the first one behind the directories that a whole run makes."""
+    calls = room.traced(*words_in(room), talk=talk)[2].splitlines()
+    made = max(at for at, call in enumerate(calls) if re.match(r"\d+ +mkdir(at)?\(.* = 0$", call))
+    return sum(bool(re.match(r"\d+ +fsync\(", call)) for call in calls[:made]) + 1
+
+
+def broken_off(room, how, words_in, number, talk=None):
+    """What a room has before a run that is broken off at its fsync of that number, and the calls of that run."""
+    before = files_of(room.folder)
+    status, _, calls = room.traced(*words_in(room), talk=talk, inject=f"fsync:{BROKEN[how]}:when={number}")
+    failed = re.findall(r" fsync\(\d+\) += (?!0\n).*", calls)
+    assert status == {"killed": -signal.SIGKILL, "refused": 75}[how] and len(failed) == 1, (status, failed)
+    return before, calls
 
 
 def drain():
@@ -560,6 +612,39 @@ def drain_seen():
 def drain_made():
     """The same, where `cur` is made for the first one."""
     return sweep(*moving(SEEN, ("tmp", "new")))
+
+
+def drain_killed():
+    """The same, where a first run was killed between making `cur` and its sync: the second one finds a `cur` whose name may be lost."""
+    return sweep(*moving(SEEN, ("tmp", "new"), "killed"))
+
+
+def drain_refused():
+    """The same, where that sync failed."""
+    return sweep(*moving(SEEN, ("tmp", "new"), "refused"))
+
+
+def daemon():
+    """The daemon makes a Maildir and moves a message into it, where a first one was killed between making that and its sync."""
+    rooms = Room(), Room()
+    for room in rooms:
+        os.mkdir(f"{room.folder}/mail")
+        room.run("deliver", "--from", "bob@example.net", "--to", "alice@example.org", "alice", data=MAIL % 0)
+    words_in = lambda room: ("daemon", "--mail", f"{room.folder}/mail")
+    behind = broken_off(rooms[0], "killed", words_in, first_sync(rooms[1], words_in, until_moved), until_moved)
+    log, _ = rooms[0].recorded(*words_in(rooms[0]), talk=until_moved, behind=behind, ends=-signal.SIGTERM)
+    look = Look([])
+    before, after = (look.at(left_by(log, State(moment))) for moment in (0, len(log.calls)))
+    assert before[0][:2] == (0, b"INBOX 1\n") and (after[0][:2], len(after[1])) == ((0, b""), 1), (before, after)
+    return sweep(log, look, moves(before))
+
+
+def until_moved(process):
+    """Ends a daemon that has moved a message, or says that it stays. One that is killed ends by itself."""
+    begun = re.search(rb" pid=(\d+)", process.stderr.readline())
+    if any(re.match(rb"sieved: (moved|stays) ", line) for line in process.stderr):
+        os.kill(int(begun[1]), signal.SIGTERM)
+    return b""
 
 
 def messages_of(state):
@@ -764,7 +849,7 @@ def planted():
     log, look = delivery(), Look([b"main"])
     judge, before, after = one_change(log, look)
     answer = next(at for at, call in enumerate(log.calls) if call.kind == "said")
-    syncs = [at for at, call in enumerate(log.calls[:answer]) if call.kind == "sync" and pending(log.calls, at) != pending(log.calls, at + 1)]
+    syncs = [at for at in range(answer) if has_work(log.calls, at)]
     _, sync = commit(log, look, after)
     whole, found = log.calls, {"left out": [], "behind the answer": []}
     for at in [sync] if trials.QUICK else syncs:
@@ -779,13 +864,19 @@ def planted():
     return f"of {len(syncs)} syncs that have something to do the commit's is the {syncs.index(sync) + 1}th: {told}; {planted_in_drain()}"
 
 
+def has_work(calls, at):
+    """Whether a call is a sync that has something to do."""
+    return calls[at].kind == "sync" and pending(calls, at) != pending(calls, at + 1)
+
+
 def planted_in_drain():
-    """A message's file, the folder that it has come to, or the one in which that was made isn't synced."""
-    for part, moved, folders in ("new", moving(), ["Maildir/new"]), ("cur", moving(SEEN, ("tmp", "new")), ["Maildir/cur", "Maildir"]):
+    """A message's file, the folder that it has come to, or the one in which that was made, by this run or one before, isn't synced."""
+    made = SEEN, ("tmp", "new")
+    for part, moved, folders in ("new", moving(), ["Maildir/new"]), *(("cur", moving(*made, how), ["Maildir/cur", "Maildir"]) for how in (None, "killed")):
         log, look, judge = moved
         whole, name = log.calls, next(call for call in log.calls if call.kind == "name" and f"/{part}/" in call.target[0])
         for target in name.target[1], *folders:
-            at = next(at for at, call in enumerate(whole) if call.kind == "sync" and call.target == target)
+            at = next(at for at, call in enumerate(whole) if call.target == target and has_work(whole, at))
             log.calls = whole[:at] + whole[at + 1:]
             assert is_found(log, look, judge), f"a sync of {target} is left out, and not found"
     return "of drain, found where a message, its folder or the one in which that was made isn't synced"
@@ -809,7 +900,7 @@ def is_found(log, look, judge):
     return False
 
 
-TRIALS = {trial.__name__: trial for trial in (init, adduser, deliver, done, imported, exported, drain, drain_seen, drain_made, session, upgrade_last, upgrade_fourth, upgrade_second, again, unsynced, planted)}
+TRIALS = {trial.__name__: trial for trial in (init, adduser, deliver, done, imported, exported, drain, drain_seen, drain_made, drain_killed, drain_refused, daemon, session, upgrade_last, upgrade_fourth, upgrade_second, again, unsynced, planted)}
 
 
 if __name__ == "__main__":

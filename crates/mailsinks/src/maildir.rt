@@ -52,9 +52,11 @@ impl MailSink for Maildir<'_> {
 
     ghost is_at = { λ maildir path. option_map string_bytes maildir.path ≡ Some path };
 
+    /// On Ok the names of the Maildir and of its `tmp`, `new` and `cur` are on the disk, whoever made them: each call syncs the
+    /// Maildir and the directory in which it stands.
     fn open(&mut self, path: &str) -> Result<(), SinkError> {
         self.cause = None;
-        match is_maildir(self.rt, path) {
+        match is_settled(self.rt, path) {
             Ok(true) => {
                 self.path = Some(String::from_str(self.rt.alloc(), path)?);
                 Ok(())
@@ -64,6 +66,7 @@ impl MailSink for Maildir<'_> {
         }
     }
 
+    /// On Ok the names of what was made are on the disk.
     fn make(&mut self, path: &str) -> Result<(), SinkError> {
         self.cause = None;
         match make_maildir(self.rt, path) {
@@ -103,6 +106,39 @@ impl MailSink for Maildir<'_> {
     }
 }
 
+/// Whether the path is a Maildir. Where it is, its name and those of its directories are on the disk, though the run that made them
+/// was killed.
+fn is_settled(rt: &HostRuntime, path: &str) -> io::Result<bool> {
+    if !is_maildir(rt, path)? {
+        return Ok(false);
+    }
+    sync_directory(rt, path)?;
+    sync_known_parent(rt, path)?;
+    Ok(true)
+}
+
+/// Syncs the directory in which one stands, where that can be done. One that may not be read is passed over: `make` is refused in it,
+/// so others make what it has. One of a file system that syncs no directories is too: no name in it waits for a disk.
+fn sync_known_parent(rt: &HostRuntime, path: &str) -> io::Result<()> {
+    match sync_parent(rt, path) {
+        Err(error) => match error.kind() {
+            ErrorKind::PermissionDenied | ErrorKind::InvalidInput => Ok(()),
+            _ => Err(error),
+        },
+        synced => synced,
+    }
+}
+
+/// Syncs the directory in which one stands, whose name is on the disk then. Of a symlink that is where its target stands.
+fn sync_parent(rt: &HostRuntime, path: &str) -> io::Result<()> {
+    sync_directory(rt, format!(in rt.alloc(); "{path}/..")?.as_str())
+}
+
+/// Syncs a directory: the names in it are on the disk then.
+fn sync_directory(rt: &HostRuntime, path: &str) -> io::Result<()> {
+    File::open(rt, path)?.sync_all()
+}
+
 /// Whether the path is a directory that has the directories `tmp` and `new`.
 fn is_maildir(rt: &HostRuntime, path: &str) -> io::Result<bool> {
     let tmp = format!(in rt.alloc(); "{path}/tmp")?;
@@ -130,8 +166,8 @@ fn make_maildir(rt: &HostRuntime, path: &str) -> io::Result<()> {
     for part in ["tmp", "new", "cur"] {
         make_directory(rt, format!(in rt.alloc(); "{path}/{part}")?.as_str())?;
     }
-    File::open(rt, path)?.sync_all()?;
-    File::open(rt, format!(in rt.alloc(); "{path}/..")?.as_str())?.sync_all()
+    sync_directory(rt, path)?;
+    sync_parent(rt, path)
 }
 
 /// Makes a directory, where it isn't there.
@@ -158,11 +194,11 @@ fn keep_in(
         let _ = fs::remove_file(rt, first.as_str());
         return Err(error);
     }
-    File::open(rt, directory.as_str())?.sync_all()
+    sync_directory(rt, directory.as_str())
 }
 
-/// The directory of a Maildir in which a place is. `cur`, which a Maildir may lack that no program has read, is made where it isn't there,
-/// and its name is on the disk then.
+/// The directory of a Maildir in which a place is. `cur`, which a Maildir may lack that no program has read, is made where it isn't
+/// there, and its name is on the disk then. The name of one that was there came to the disk as the Maildir was opened.
 fn directory_of(rt: &HostRuntime, path: &str, place: &str) -> io::Result<String> {
     if !place.starts_with("cur/") {
         return Ok(format!(in rt.alloc(); "{path}/new")?);
@@ -170,7 +206,7 @@ fn directory_of(rt: &HostRuntime, path: &str, place: &str) -> io::Result<String>
     let cur = format!(in rt.alloc(); "{path}/cur")?;
     if !is_directory(rt, cur.as_str())? {
         make_directory(rt, cur.as_str())?;
-        File::open(rt, path)?.sync_all()?;
+        sync_directory(rt, path)?;
     }
     Ok(cur)
 }

@@ -49,18 +49,19 @@ pub trait MailSink {
     /// asked it, and was refused so.
     ghost refuses: { Self → SinkError → Type 0 } = { λ _ _. ⊤ };
 
-    /// Opens the place at the path: what is kept from now on is kept there.
+    /// Opens the place at the path: what is kept from now on is kept there. After Ok a crash doesn't lose the place, whoever made it.
     ///
     /// # Errors
     ///
-    /// `NoMaildir` where the path isn't one; else why it can't be looked at. The place that was open before stays.
+    /// `NoMaildir` where the path isn't one; else why it can't be looked at or synced. The place that was open before stays.
     fn open(&mut self, path: &str) -> Result<(), SinkError>
         ensures placed { OnOk result (is_at self.new path.now) }
         ensures unmoved { OnErr result ((before : List ℕ) → is_at self.old before → is_at self.new before) }
         ensures same { IsTrue tells → kept self.new ≡ kept self.old }
         ensures denied { IfErr result (refuses self.old) };
 
-    /// Makes the place at the path, where that isn't there, within one that is. What is open stays open.
+    /// Makes the place at the path, where that isn't there, within one that is. After Ok a crash doesn't lose it. What is open stays
+    /// open.
     ///
     /// # Errors
     ///
