@@ -45,20 +45,16 @@ static void *got(size_t size)
 /* In the order of `check`: what is freed here is what it needs on the way. */
 static void parse(struct rule *rule, int two, int copies)
 {
-    void *arguments = got(160), *strings = two ? got(128) : NULL, *tags = got(8), *values = got(128);
-    free(tags);
+    void *strings = two ? got(128) : NULL, *values = got(128);
     rule->fields = got((two ? 2 : 1) * (copies ? 24 : 32));
     rule->field[0] = copies ? got(7) : NULL;
     rule->field[1] = copies && two ? got(6) : NULL;
     rule->keys = got(copies ? 24 : 32);
     rule->key = copies ? got(7) : NULL;
     free(values);
+    rule->block = got(80);
     free(strings);
-    free(arguments);
-    rule->block = got(72);
-    arguments = got(160);
     rule->mailbox = copies ? got(9) : NULL;
-    free(arguments);
     rule->branch = got(copies ? 104 : 112);
 }
 
