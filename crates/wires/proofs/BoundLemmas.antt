@@ -9,6 +9,8 @@ use Rattle.std.specs.Ordering.{nat_cmp, is_eq}
 use Rattle.wires.specs.declared.act.Act.{Act}
 use Rattle.wires.specs.declared.act.Act.TheVariants.{Woke, Timed, Late, Began, Roused, Worked, Came, NoneCame, Crowded, Displaced, Listened, InUse, Heard, ReadBlocked, Over, Sent, WriteBlocked, Lost, Noted, Waits, Full, Again, Shut, Dropped, Ended}
 use Rattle.wires.specs.declared.service.Client.{Client}
+use Rattle.wires.specs.declared.service.Phase.{Phase}
+use Rattle.wires.specs.declared.service.Phase.TheVariants as phase
 use Rattle.wires.specs.declared.service.Service.{Service}
 use Rattle.wires.specs.declared.turn.Turn.{Turn}
 use Rattle.wires.specs.declared.turn.Turn.TheVariants.{Free, Rested, Waked, Sweep, Door, Busy, Stuffed, Leaving}
@@ -215,8 +217,8 @@ stays_keeps kind before after o p was is stays of =
 answers_keeps : (now kind : ℕ) (said : List ℕ) (o p : Option Client) → Answers now said o p → is_of kind o ≡ true → is_of kind p ≡ true
 answers_keeps now kind said o p a is = stays_keeps kind a.before a.after o p a.was a.is a.gathers.stays is
 
-parts_keeps : (now kind : ℕ) (said : List ℕ) (o p : Option Client) → Parts now said o p → is_of kind o ≡ true → is_of kind p ≡ true
-parts_keeps now kind said o p a is = subst (λ w. is_of kind w ≡ true) (sym a.after) (subst (λ w. is_of kind w ≡ true) a.was is)
+parts_keeps : (at : Phase) (now kind : ℕ) (said : List ℕ) (o p : Option Client) → Parts at now said o p → is_of kind o ≡ true → is_of kind p ≡ true
+parts_keeps at now kind said o p a is = subst (λ w. is_of kind w ≡ true) (sym a.after) (subst (λ w. is_of kind w ≡ true) a.was is)
 
 sends_keeps : (now kind : ℕ) (octets : List ℕ) (o p : Option Client) → Sends now octets o p → is_of kind o ≡ true → is_of kind p ≡ true
 sends_keeps now kind octets o p a is = stays_keeps kind a.before a.after o p a.was a.is a.taken.stays is
@@ -276,13 +278,13 @@ kept_act rules m k r q s u id kind o (Noted n note) said t talks kept is =
     (λ h. absurd (over rules m k r q s u id (Noted n note) said t h)) (kept is)
 kept_act rules m k r q s u id kind o (Late n) said t talks kept is =
     keeps_or id kind (client_of s id) (client_of u id) s.turn u.turn
-    (at_keeps (same n id) (OrNothing (Parts s.moment said (client_of s id) (client_of u id)) said (client_of s id) (client_of u id)) kind (client_of s id) (client_of u id)
-    (or_nothing (Parts s.moment said (client_of s id) (client_of u id)) said kind (client_of s id) (client_of u id) (parts_keeps s.moment kind said (client_of s id) (client_of u id))) talks)
+    (at_keeps (same n id) (OrNothing (Parts phase.Closing s.moment said (client_of s id) (client_of u id)) said (client_of s id) (client_of u id)) kind (client_of s id) (client_of u id)
+    (or_nothing (Parts phase.Closing s.moment said (client_of s id) (client_of u id)) said kind (client_of s id) (client_of u id) (parts_keeps phase.Closing s.moment kind said (client_of s id) (client_of u id))) talks)
     (λ h. absurd (over rules m k r q s u id (Late n) said t h)) (kept is)
 kept_act rules m k r q s u id kind o (Displaced n) said t talks kept is =
     keeps_or id kind (client_of s id) (client_of u id) s.turn u.turn
-    (at_keeps (same n id) (OrNothing (Parts s.moment said (client_of s id) (client_of u id)) said (client_of s id) (client_of u id)) kind (client_of s id) (client_of u id)
-    (or_nothing (Parts s.moment said (client_of s id) (client_of u id)) said kind (client_of s id) (client_of u id) (parts_keeps s.moment kind said (client_of s id) (client_of u id))) talks)
+    (at_keeps (same n id) (OrNothing (Parts phase.Yielding s.moment said (client_of s id) (client_of u id)) said (client_of s id) (client_of u id)) kind (client_of s id) (client_of u id)
+    (or_nothing (Parts phase.Yielding s.moment said (client_of s id) (client_of u id)) said kind (client_of s id) (client_of u id) (parts_keeps phase.Yielding s.moment kind said (client_of s id) (client_of u id))) talks)
     (λ h. absurd (over rules m k r q s u id (Displaced n) said t h)) (kept is)
 kept_act rules m k r q s u id kind o (Sent n octets) said t talks kept is =
     keeps_or id kind (client_of s id) (client_of u id) s.turn u.turn

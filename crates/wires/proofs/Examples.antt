@@ -11,7 +11,7 @@ use Rattle.wires.specs.declared.turn.Task.TheVariants.{Send, Hear, Step, Rest, H
 use Rattle.wires.specs.Moves.{Queues, Waiters, Ticks, Marks, Leaves}
 use Rattle.wires.specs.Life.{Move, AreOpen}
 use Rattle.wires.specs.Rules.{Rules}
-use Rattle.wires.specs.Talk.{Sends, Talks, is_late, newcomer, gathers, task, task_by}
+use Rattle.wires.specs.Talk.{shut_from, Sends, Talks, is_late, newcomer, gathers, task, task_by}
 use Rattle.wires.proofs.TalkLemmas.{hear_quiet}
 use Rattle.wires.specs.Turns.{is_open_of, numbers_between, came_among}
 
@@ -31,6 +31,20 @@ goes_on_at_its_moment = refl
 
 late_is_not_asked : task_by [] true phase.Closing 5 want.More ≡ HangUp
 late_is_not_asked = refl
+
+-- one that makes room is hung up where what was said last is sent, and closed behind that: nothing more is read of it
+sent_before_it_makes_room : task_by (65 ∷ []) true phase.Yielding 5 want.More ≡ Send
+sent_before_it_makes_room = refl
+
+makes_room_at_once : task_by [] true phase.Yielding 5 want.More ≡ HangUp
+makes_room_at_once = refl
+
+closed_behind_it : task_by [] true (shut_from phase.Yielding) 5 want.More ≡ End
+closed_behind_it = refl
+
+-- a near miss: one that was late is read on
+late_is_read_on : task_by [] true (shut_from phase.Closing) 5 want.More ≡ Drain
+late_is_read_on = refl
 
 drains_up_to_the_last : task_by [] true (phase.Shut 1) 0 want.More ≡ Drain
 drains_up_to_the_last = refl
@@ -143,6 +157,9 @@ not_one_that_is_gone = refl
 
 not_one_that_ends : is_open_of 7 (Some (record (newcomer 0 1 7 []) { phase = phase.Closing })) ≡ false
 not_one_that_ends = refl
+
+not_one_that_makes_room : is_open_of 7 (Some (record (newcomer 0 1 7 []) { phase = phase.Yielding })) ≡ false
+not_one_that_makes_room = refl
 
 not_one_of_another_kind : is_open_of 8 (Some (newcomer 0 1 7 [])) ≡ false
 not_one_of_another_kind = refl

@@ -15,7 +15,7 @@ use Rattle.wires.specs.declared.service.Phase.TheVariants as phase
 use Rattle.wires.specs.declared.turn.Task.{Task}
 use Rattle.wires.specs.declared.turn.Task.TheVariants.{Send, Hear, Step, Rest, HangUp, Drain, End, Nothing}
 use Rattle.wires.specs.Rules.{Rules}
-use Rattle.wires.specs.Talk.{max_dropped, max_parting, same, client_of, waits, is_nothing, gathers, takes_more, is_quiet, is_quiet_by, task, task_by, task_sent, task_unsent, newcomer, Comes, Answers, Sends, Parts, OrNothing, Shuts, drained, Drops, At, Talks}
+use Rattle.wires.specs.Talk.{max_parting, after_span, parting_span, shut_from, same, client_of, waits, is_nothing, gathers, takes_more, is_quiet, is_quiet_by, task, task_by, task_sent, task_unsent, newcomer, Comes, Answers, Sends, Parts, OrNothing, Shuts, drained, Drops, At, Talks}
 use Rattle.wires.specs.Turns.{Turns}
 use Rattle.wires.specs.Life.{Told, tell, IsFrontOf, Farewell, concerns}
 
@@ -109,6 +109,7 @@ quiet (Some c) is = quiet_by (waits c) c.phase is
 abbrev pub is_shut_by : Phase → Bool
 is_shut_by phase.Open = false
 is_shut_by phase.Closing = false
+is_shut_by phase.Yielding = false
 is_shut_by (phase.Shut left) = true
 
 pub record Fits (t : Told) (c : Client) : Type 0 where
@@ -155,12 +156,12 @@ no_piece unsent [] is = refl
 no_piece [] (y ∷ behind) is = is
 no_piece (x ∷ unsent) (y ∷ behind) is = let never : ⊥ = cc in absurd never
 
-parts : (t : Told) (now : ℕ) (said : List ℕ) (o p : Option Client) → Agrees t o → waits_of o ≡ [] → Parts now said o p → Agrees (record t { said = t.said ++ said }) p
-parts t now said o p agrees none h =
+parts : (t : Told) (at : Phase) (now : ℕ) (said : List ℕ) (o p : Option Client) → is_shut_by at ≡ false → Agrees t o → waits_of o ≡ [] → Parts at now said o p → Agrees (record t { said = t.said ++ said }) p
+parts t at now said o p unshut agrees none h =
     let fits : Fits t h.before = subst (λ q. Agrees t q) h.was agrees in
     let empty : waits h.before ≡ [] = subst (λ q. waits_of q ≡ []) h.was none in
     let one : said ++ h.before.behind ≡ said = ap (λ l. said ++ l) (no_piece h.before.unsent h.before.behind empty) ∙ append-nil said in
-    let after : Fits (record t { said = t.said ++ said }) (record h.before { unsent = said; phase = phase.Closing; until = (now + max_parting) % 2 ^ 64 }) = record { sent = ap (λ l. t.sent ++ l) one ∙ ap (λ l. l ++ said) (all_sent t h.before fits empty); shut = λ never. cc } in
+    let after : Fits (record t { said = t.said ++ said }) (record h.before { unsent = said; phase = at; until = after_span now (parting_span at) }) = record { sent = ap (λ l. t.sent ++ l) one ∙ ap (λ l. l ++ said) (all_sent t h.before fits empty); shut = λ is. let never : false ≡ true = sym unshut ∙ is in cc } in
     subst (λ q. Agrees (record t { said = t.said ++ said }) q) (sym h.after) after
 
 -- where nothing is said nothing changes
@@ -182,15 +183,22 @@ sends t now octets o p agrees h =
     } in
     subst (λ q. Agrees (record t { sent = t.sent ++ octets }) q) (sym h.is) after
 
+shut_then : (at : Phase) → is_shut_by (shut_from at) ≡ true
+shut_then phase.Open = refl
+shut_then phase.Closing = refl
+shut_then phase.Yielding = refl
+shut_then (phase.Shut left) = refl
+
 shuts : (t : Told) (now : ℕ) (o p : Option Client) → Agrees t o → Shuts now o p → Agrees (record t { shut = true }) p
 shuts t now o p agrees h =
     let fits : Fits t h.before = subst (λ q. Agrees t q) h.was agrees in
-    let after : Fits (record t { shut = true }) (record h.before { phase = phase.Shut max_dropped; until = (now + max_parting) % 2 ^ 64 }) = record { sent = fits.sent; shut = λ is. refl } in
+    let after : Fits (record t { shut = true }) (record h.before { phase = shut_from h.before.phase; until = after_span now max_parting }) = record { sent = fits.sent; shut = λ is. refl } in
     subst (λ q. Agrees (record t { shut = true }) q) (sym h.after) after
 
 still_shut : (count : ℕ) (at : Phase) → is_shut_by (drained count at) ≡ is_shut_by at
 still_shut count phase.Open = refl
 still_shut count phase.Closing = refl
+still_shut count phase.Yielding = refl
 still_shut count (phase.Shut left) = refl
 
 drops : (t : Told) (count : ℕ) (o p : Option Client) → Agrees t o → Drops count o p → Agrees t p
@@ -217,9 +225,9 @@ at_act : (b : Bool) (t u : Told) (o p : Option Client) (Changes : Type 0) → (b
 at_act true t u o p Changes right agrees at = right refl at
 at_act false t u o p Changes right agrees at = subst (λ q. Agrees t q) (sym at) agrees
 
-lates : (t : Told) (now : ℕ) (said : List ℕ) (o p : Option Client) → Agrees t o → OrNothing (Parts now said o p) said o p → Agrees (record t { said = t.said ++ said }) p
-lates t now said o p agrees (inl h) = parts t now said o p agrees (quiet o h.quiet) h
-lates t now said o p agrees (inr h) = silent t said o p agrees h.0 h.1
+lates : (t : Told) (at : Phase) (now : ℕ) (said : List ℕ) (o p : Option Client) → is_shut_by at ≡ false → Agrees t o → OrNothing (Parts at now said o p) said o p → Agrees (record t { said = t.said ++ said }) p
+lates t at now said o p unshut agrees (inl h) = parts t at now said o p unshut agrees (quiet o h.quiet) h
+lates t at now said o p unshut agrees (inr h) = silent t said o p agrees h.0 h.1
 
 pub agrees_act : {M N R : Type 0} (rules : Rules M N R) (m k : M) (r q : R) (s u : Service) (id : ℕ) (t : Told) (act : Act N) (said : List ℕ) → Agrees t (client_of s id)
     → Talks s.moment id (client_of s id) act said (client_of u id) → Turns rules m r s act said k q u → Agrees (tell id t act said) (client_of u id)
@@ -232,14 +240,14 @@ agrees_act rules m k r q s u id t (Noted n note) said agrees talks turns =
     at_act (same n id) t (record t { said = t.said ++ said }) (client_of s id) (client_of u id) (Answers s.moment said (client_of s id) (client_of u id))
     (λ b h. answers t s.moment said (client_of s id) (client_of u id) agrees h) agrees talks
 agrees_act rules m k r q s u id t (Late n) said agrees talks turns =
-    at_act (same n id) t (record t { said = t.said ++ said }) (client_of s id) (client_of u id) (OrNothing (Parts s.moment said (client_of s id) (client_of u id)) said (client_of s id) (client_of u id))
-    (λ b h. lates t s.moment said (client_of s id) (client_of u id) agrees h) agrees talks
+    at_act (same n id) t (record t { said = t.said ++ said }) (client_of s id) (client_of u id) (OrNothing (Parts phase.Closing s.moment said (client_of s id) (client_of u id)) said (client_of s id) (client_of u id))
+    (λ b h. lates t phase.Closing s.moment said (client_of s id) (client_of u id) refl agrees h) agrees talks
 agrees_act rules m k r q s u id t (Sent n octets) said agrees talks turns =
     at_act (same n id) t (record t { sent = t.sent ++ octets }) (client_of s id) (client_of u id) (Sends s.moment octets (client_of s id) (client_of u id))
     (λ b h. sends t s.moment octets (client_of s id) (client_of u id) agrees h) agrees talks
 agrees_act rules m k r q s u id t (Displaced n) said agrees talks turns =
-    at_act (same n id) t (record t { said = t.said ++ said }) (client_of s id) (client_of u id) (OrNothing (Parts s.moment said (client_of s id) (client_of u id)) said (client_of s id) (client_of u id))
-    (λ b h. lates t s.moment said (client_of s id) (client_of u id) agrees h) agrees talks
+    at_act (same n id) t (record t { said = t.said ++ said }) (client_of s id) (client_of u id) (OrNothing (Parts phase.Yielding s.moment said (client_of s id) (client_of u id)) said (client_of s id) (client_of u id))
+    (λ b h. lates t phase.Yielding s.moment said (client_of s id) (client_of u id) refl agrees h) agrees talks
 agrees_act rules m k r q s u id t (Shut n) said agrees talks turns =
     at_act (same n id) t (record t { shut = true }) (client_of s id) (client_of u id) (Shuts s.moment (client_of s id) (client_of u id))
     (λ b h. shuts t s.moment (client_of s id) (client_of u id) agrees h) agrees talks
@@ -261,6 +269,7 @@ shut_end [] b phase.Open now (want.Until moment) is = never_until (nat_lt now mo
     never_until false is = let never : ⊥ = cc in absurd never
 shut_end [] b phase.Open now want.Done is = let never : ⊥ = cc in absurd never
 shut_end [] b phase.Closing now wanted is = let never : ⊥ = cc in absurd never
+shut_end [] b phase.Yielding now wanted is = let never : ⊥ = cc in absurd never
 shut_end [] b (phase.Shut left) now wanted is = refl
 
 pub farewell : {M N R : Type 0} (rules : Rules M N R) (m : M) (now count id : ℕ) (t : Told) (o : Option Client) → Agrees t o → task rules m now count id o ≡ End → Farewell t
@@ -276,8 +285,8 @@ pub untouched : {N : Type 0} (now id : ℕ) (o p : Option Client) (act : Act N) 
 untouched now id o p (Came n kind) said talks is = subst (λ b. At b (Comes now n kind said o p) (p ≡ o)) is talks
 untouched now id o p (Heard n piece) said talks is = subst (λ b. At b (OrNothing (Answers now said o p) said o p) (p ≡ o)) is talks
 untouched now id o p (Noted n note) said talks is = subst (λ b. At b (Answers now said o p) (p ≡ o)) is talks
-untouched now id o p (Late n) said talks is = subst (λ b. At b (OrNothing (Parts now said o p) said o p) (p ≡ o)) is talks
-untouched now id o p (Displaced n) said talks is = subst (λ b. At b (OrNothing (Parts now said o p) said o p) (p ≡ o)) is talks
+untouched now id o p (Late n) said talks is = subst (λ b. At b (OrNothing (Parts phase.Closing now said o p) said o p) (p ≡ o)) is talks
+untouched now id o p (Displaced n) said talks is = subst (λ b. At b (OrNothing (Parts phase.Yielding now said o p) said o p) (p ≡ o)) is talks
 untouched now id o p (Sent n octets) said talks is = subst (λ b. At b (Sends now octets o p) (p ≡ o)) is talks
 untouched now id o p (Shut n) said talks is = subst (λ b. At b (Shuts now o p) (p ≡ o)) is talks
 untouched now id o p (Dropped n count) said talks is = subst (λ b. At b (Drops count o p) (p ≡ o)) is talks

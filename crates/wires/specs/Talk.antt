@@ -33,6 +33,7 @@ waits c = c.unsent ++ c.behind
 abbrev pub is_quiet_by : List ℕ → Phase → Bool
 is_quiet_by [] phase.Open = true
 is_quiet_by [] phase.Closing = false
+is_quiet_by [] phase.Yielding = false
 is_quiet_by [] (phase.Shut left) = false
 is_quiet_by (x ∷ more) at = false
 
@@ -43,11 +44,14 @@ is_quiet None = false
 abbrev pub is_open_by : Phase → Bool
 is_open_by phase.Open = true
 is_open_by phase.Closing = false
+is_open_by phase.Yielding = false
 is_open_by (phase.Shut left) = false
 
+-- it was late, or makes room for another
 abbrev pub is_closing_by : Phase → Bool
 is_closing_by phase.Open = false
 is_closing_by phase.Closing = true
+is_closing_by phase.Yielding = true
 is_closing_by (phase.Shut left) = false
 
 abbrev pub is_closing : Option Client → Bool
@@ -65,6 +69,20 @@ max_unsent = 60000
 abbrev pub max_parting : ℕ
 max_parting = 2000
 
+-- one that makes room for another has no time behind that
+abbrev pub parting_span : Phase → ℕ
+parting_span phase.Yielding = 0
+parting_span phase.Open = max_parting
+parting_span phase.Closing = max_parting
+parting_span (phase.Shut left) = max_parting
+
+-- and of it nothing more is read once this side is shut
+abbrev pub shut_from : Phase → Phase
+shut_from phase.Yielding = phase.Shut 0
+shut_from phase.Open = phase.Shut max_dropped
+shut_from phase.Closing = phase.Shut max_dropped
+shut_from (phase.Shut left) = phase.Shut max_dropped
+
 -- the moment so many milliseconds later
 abbrev pub after_span : ℕ → ℕ → ℕ
 after_span now span = (now + span) % 2 ^ 64
@@ -77,11 +95,12 @@ task_wanted now want.Wait = Rest
 task_wanted now (want.Until moment) = if nat_lt now moment then Rest else Step
 task_wanted now want.Done = HangUp
 
--- what is to be done on a connection to which all is sent: one that is open gets what the machine wants; one that was late is
--- hung up; of one that is shut so many octets more are dropped
+-- what is to be done on a connection to which all is sent: one that is open gets what the machine wants; one that was late or makes room
+-- is hung up; of one that is shut so many octets more are dropped
 abbrev pub task_sent : Phase → ℕ → Want → Task
 task_sent phase.Open now wanted = task_wanted now wanted
 task_sent phase.Closing now wanted = HangUp
+task_sent phase.Yielding now wanted = HangUp
 task_sent (phase.Shut left) now wanted = if left == 0 then End else Drain
 
 -- after so many acts in a row of one connection another has its turn
@@ -125,6 +144,7 @@ task rules m now count id None = Nothing
 abbrev pub due_by : List ℕ → Phase → ℕ → ℕ → ℕ
 due_by [] phase.Open until deadline = deadline
 due_by [] phase.Closing until deadline = until
+due_by [] phase.Yielding until deadline = until
 due_by [] (phase.Shut left) until deadline = until
 due_by (x ∷ more) at until deadline = until
 
@@ -185,12 +205,12 @@ pub record Sends (now : ℕ) (octets : List ℕ) (o p : Option Client) : Type 0 
   pub is : p ≡ Some after
   pub taken : Taken now octets before after
 
--- to one that was late or makes room for another, and to which nothing waits, something is said last
-pub record Parts (now : ℕ) (said : List ℕ) (o p : Option Client) : Type 0 where
+-- to one that was late or makes room for another, and to which nothing waits, something is said last, and it is at that phase then
+pub record Parts (at : Phase) (now : ℕ) (said : List ℕ) (o p : Option Client) : Type 0 where
   pub quiet : is_quiet o ≡ true
   pub before : Client
   pub was : o ≡ Some before
-  pub after : p ≡ Some (record before { unsent = said; phase = phase.Closing; until = after_span now max_parting })
+  pub after : p ≡ Some (record before { unsent = said; phase = at; until = after_span now (parting_span at) })
 
 -- the same, or nothing is said and nothing changes
 abbrev pub OrNothing : Type 0 → List ℕ → Option Client → Option Client → Type 0
@@ -199,18 +219,19 @@ OrNothing says said o p = says ⊎ ((said ≡ []) × (p ≡ o))
 abbrev pub MayAnswer : ℕ → List ℕ → Option Client → Option Client → Type 0
 MayAnswer now said o p = OrNothing (Answers now said o p) said o p
 
-abbrev pub MayPart : ℕ → List ℕ → Option Client → Option Client → Type 0
-MayPart now said o p = OrNothing (Parts now said o p) said o p
+abbrev pub MayPart : Phase → ℕ → List ℕ → Option Client → Option Client → Type 0
+MayPart at now said o p = OrNothing (Parts at now said o p) said o p
 
 -- this side was shut: from now on what comes is dropped
 pub record Shuts (now : ℕ) (o p : Option Client) : Type 0 where
   pub before : Client
   pub was : o ≡ Some before
-  pub after : p ≡ Some (record before { phase = phase.Shut max_dropped; until = after_span now max_parting })
+  pub after : p ≡ Some (record before { phase = shut_from before.phase; until = after_span now max_parting })
 
 abbrev pub drained : ℕ → Phase → Phase
 drained count phase.Open = phase.Open
 drained count phase.Closing = phase.Closing
+drained count phase.Yielding = phase.Yielding
 drained count (phase.Shut left) = phase.Shut (left - count)
 
 pub record Drops (count : ℕ) (o p : Option Client) : Type 0 where
@@ -229,8 +250,8 @@ Talks now id o (Came n kind) said p = At (same n id) (Comes now n kind said o p)
 Talks now id o (Heard n piece) said p = At (same n id) (MayAnswer now said o p) (p ≡ o)
 Talks now id o (Noted n note) said p = At (same n id) (Answers now said o p) (p ≡ o)
 Talks now id o (Sent n octets) said p = At (same n id) (Sends now octets o p) (p ≡ o)
-Talks now id o (Late n) said p = At (same n id) (MayPart now said o p) (p ≡ o)
-Talks now id o (Displaced n) said p = At (same n id) (MayPart now said o p) (p ≡ o)
+Talks now id o (Late n) said p = At (same n id) (MayPart phase.Closing now said o p) (p ≡ o)
+Talks now id o (Displaced n) said p = At (same n id) (MayPart phase.Yielding now said o p) (p ≡ o)
 Talks now id o (Shut n) said p = At (same n id) (Shuts now o p) (p ≡ o)
 Talks now id o (Dropped n count) said p = At (same n id) (Drops count o p) (p ≡ o)
 Talks now id o (Ended n) said p = At (same n id) (p ≡ None) (p ≡ o)

@@ -10,6 +10,7 @@ use Rattle.wires.specs.declared.act.Act.TheVariants.{Waits, Full, Again, Shut, D
 use Rattle.wires.specs.declared.outcome.Wake.{Wake}
 use Rattle.wires.specs.declared.outcome.Wake.TheVariants.{Knock, Ready}
 use Rattle.wires.specs.declared.service.Client.{Client}
+use Rattle.wires.specs.declared.service.Phase.{Phase}
 use Rattle.wires.specs.declared.service.Service.{Service}
 use Rattle.wires.specs.declared.turn.Turn.{Turn}
 use Rattle.wires.specs.declared.turn.Turn.TheVariants.{Free, Rested, Waked, Sweep, Door, Busy, Stuffed, Leaving}
@@ -197,10 +198,10 @@ Parting rules m s id said n t =
     ⊎ ((said ≡ []) × (t.turn ≡ Leaving id (kind_of (client_of s id))) × rules.lacks m id n)
 
 -- what the machine says last to one that was late or makes room
-pub record Parted {M N R : Type 0} (rules : Rules M N R) (m : M) (s : Service) (id : ℕ) (n : M) (t : Service) : Type 0 where
+pub record Parted {M N R : Type 0} (rules : Rules M N R) (m : M) (s : Service) (id : ℕ) (at : Phase) (n : M) (t : Service) : Type 0 where
   pub said : List ℕ
   pub parting : Parting rules m s id said n t
-  pub talks : Alone id (MayPart s.moment said) s t
+  pub talks : Alone id (MayPart at s.moment said) s t
   pub next : t.next ≡ s.next
   pub since : t.since ≡ s.since
   pub ready : t.ready ≡ s.ready

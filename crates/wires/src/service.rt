@@ -2,7 +2,7 @@
 ghost use Rattle.std.specs.Prelude.{◌≡◌, ◌==◌, ℕ, ◌<◌, ◌≤◌, ◌↔◌, ◌⊎◌, [], length, take, not, filter, find, true, Some, None, IsTrue, IsSome, OnErr};
 ghost use Rattle.std.specs.BTreeMap as tree;
 ghost use Rattle.wires.specs.Moves.{MovesIf, MovesOrIf};
-ghost use Rattle.wires.specs.Talk.{client_of, kind_of, waits, is_open_by, is_quiet, is_late, is_nothing, gathers, task, task_by, task_sent};
+ghost use Rattle.wires.specs.Talk.{client_of, kind_of, waits, is_open_by, is_closing_by, parting_span, shut_from, is_quiet, is_late, is_nothing, gathers, task, task_by, task_sent};
 ghost use Rattle.wires.specs.Talk.{task_unsent, task_wanted, takes_more, next_piece, Gathers, Taken, Stays, drained};
 ghost use Rattle.wires.specs.Turns.{Tasks, Enters, Answered, Given, Parted, Yields, MayEnd, Admits, NoPlace, MayWait, Calm, Rests, Quiet};
 ghost use Rattle.wires.specs.Turns.{open_of, is_open_of, came_since, makes_room, turn_of, first_late, first_roused, goes_on};
@@ -35,7 +35,8 @@ const MAX_DROPPED: usize = 1048576;
 /// So many milliseconds may pass until the peer of a connection takes some more of what is to be sent.
 const MAX_UNSENT: u64 = 60000;
 
-/// So many milliseconds the peer of a connection has, behind the last that is said to it.
+/// So many milliseconds the peer of a connection has, behind the last that is said to it. One that makes room has none: its place is free
+/// at once.
 const MAX_PARTING: u64 = 2000;
 
 /// How far a connection is.
@@ -45,6 +46,8 @@ pub enum Phase {
     Open,
     /// It was late: what is said to it last is sent.
     Closing,
+    /// It makes room for another: what is said to it last is sent where that goes at once, and it is closed.
+    Yielding,
     /// This side was shut, and so many octets more are read and dropped.
     Shut(usize),
 }
@@ -290,7 +293,7 @@ fn is_client_quiet(client: &Client) -> bool
     }
     match client.phase {
         Phase::Open => true,
-        Phase::Closing => false,
+        Phase::Closing | Phase::Yielding => false,
         Phase::Shut(_) => false,
     }
 }
@@ -356,16 +359,22 @@ fn late_once<O: Sockets + Clock, M: Machine<O>>(
     ensures moves { MovesIf O.tells O.seen O.rest M.rules outside.old machine.old service.old outside.new machine.new service.new }
 {
     outside.note(Act::Late(id));
-    dismiss(machine, service, id);
+    dismiss(machine, service, id, Phase::Closing);
 }
 
-/// To one to which all is sent the machine says something last, any other is closed.
-fn dismiss<O: Sockets + Clock, M: Machine<O>>(machine: &mut M, service: &mut Service, id: u32)
-    ensures { Parted M.rules machine.old service.old id machine.new service.new }
+/// To one to which all is sent the machine says something last, and it is `at` that phase then; any other is closed.
+fn dismiss<O: Sockets + Clock, M: Machine<O>>(
+    machine: &mut M,
+    service: &mut Service,
+    id: u32,
+    at: Phase,
+)
+    requires { is_closing_by at ≡ true }
+    ensures { Parted M.rules machine.old service.old id at machine.new service.new }
 {
     let kind = kind_of_client(service, id);
     if is_quiet_at(service, id) {
-        part(machine, service, id, kind)
+        part(machine, service, id, kind, at)
     } else {
         service.turn = Turn::Leaving(id, kind);
     }
@@ -386,10 +395,12 @@ fn part<O: Sockets + Clock, M: Machine<O>>(
     service: &mut Service,
     id: u32,
     kind: u32,
+    at: Phase,
 )
     requires quiet { is_quiet (client_of service.old id) ≡ true }
     requires kind { kind ≡ kind_of (client_of service.old id) }
-    ensures { Parted M.rules machine.old service.old id machine.new service.new }
+    requires at { is_closing_by at ≡ true }
+    ensures { Parted M.rules machine.old service.old id at machine.new service.new }
 {
     let mut out = Octets::new(service.alloc);
     if machine.late(service.moment, id, &mut out).is_err() {
@@ -401,8 +412,18 @@ fn part<O: Sockets + Clock, M: Machine<O>>(
         return;
     };
     client.unsent = Pending::from_octets(out);
-    client.phase = Phase::Closing;
-    client.until = service.moment.wrapping_add(MAX_PARTING);
+    client.phase = at;
+    client.until = service.moment.wrapping_add(parting_span(at));
+}
+
+/// So many milliseconds its peer has behind the last that is said to it at that phase.
+fn parting_span(at: Phase) -> u64
+    ensures { result ≡ parting_span at }
+{
+    match at {
+        Phase::Yielding => 0,
+        Phase::Open | Phase::Closing | Phase::Shut(_) => MAX_PARTING,
+    }
 }
 
 /// Takes up the first of what a wait told.
@@ -573,7 +594,7 @@ fn displace_once<O: Sockets + Clock, M: Machine<O>>(
     ensures moves { MovesIf O.tells O.seen O.rest M.rules outside.old machine.old service.old outside.new machine.new service.new }
 {
     outside.note(Act::Displaced(id));
-    dismiss(machine, service, id);
+    dismiss(machine, service, id, Phase::Yielding);
 }
 
 /// Who makes room for another of that kind.
@@ -608,7 +629,7 @@ fn is_client_open(client: &Client) -> bool
 {
     match client.phase {
         Phase::Open => true,
-        Phase::Closing => false,
+        Phase::Closing | Phase::Yielding => false,
         Phase::Shut(_) => false,
     }
 }
@@ -698,7 +719,7 @@ fn task_of_phase(phase: Phase, now: u64, want: Want) -> Task
 {
     match phase {
         Phase::Open => task_of_want(now, want),
-        Phase::Closing => Task::HangUp,
+        Phase::Closing | Phase::Yielding => Task::HangUp,
         Phase::Shut(left) => { if left == 0 { Task::End } else { Task::Drain } }
     }
 }
@@ -981,9 +1002,19 @@ fn shut_once<O: Sockets + Clock, M: Machine<O>>(
         return;
     };
     outside.shut(id);
-    client.phase = Phase::Shut(MAX_DROPPED);
+    client.phase = shut_from(client.phase);
     client.until = service.moment.wrapping_add(MAX_PARTING);
     service.turn = Turn::Busy(id, count + 1);
+}
+
+/// How far it is once this side is shut: of one that makes room nothing more is read.
+fn shut_from(phase: Phase) -> Phase
+    ensures { result ≡ shut_from phase }
+{
+    match phase {
+        Phase::Yielding => Phase::Shut(0),
+        Phase::Open | Phase::Closing | Phase::Shut(_) => Phase::Shut(MAX_DROPPED),
+    }
 }
 
 /// Reads and drops.
@@ -1027,6 +1058,7 @@ fn drain(phase: Phase, count: usize) -> Phase
     match phase {
         Phase::Open => Phase::Open,
         Phase::Closing => Phase::Closing,
+        Phase::Yielding => Phase::Yielding,
         Phase::Shut(left) => Phase::Shut(left.saturating_sub(count)),
     }
 }
