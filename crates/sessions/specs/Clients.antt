@@ -1,5 +1,5 @@
 -- What a session is of one client: who is logged in, and what came and is not yet taken off (RFC 5804).
-use Rattle.std.specs.Prelude.{ℕ, Bool, true, false, cond, not, ◌&&◌, List, [], ◌++◌, drop, Option, None}
+use Rattle.std.specs.Prelude.{ℕ, ◌==◌, Bool, true, false, cond, not, ◌&&◌, List, [], ◌++◌, drop, Option, None}
 use Rattle.msproto.specs.declared.items.Item.{Item}
 use Rattle.msproto.specs.declared.items.Reach.{Reach}
 use Rattle.msproto.specs.declared.items.Reach.TheVariants as reach
@@ -20,6 +20,10 @@ pub record Client : Type 0 where
 
 abbrev pub new_client : Client
 new_client = record { user = None; failures = 0; unread = []; pending = false; closed = false }
+
+-- a login failed
+abbrev pub has_failed : Client → Bool
+has_failed c = not (c.failures == 0)
 
 -- ---- what comes first in the unread octets
 

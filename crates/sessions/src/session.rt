@@ -1,7 +1,7 @@
 //! One client's session.
 ghost use Rattle.std.specs.Prelude.{◌≡◌, ◌≤◌, ◌++◌, cond, true, false, None, Some, is_some, length, IfOk, IfErr, OnOk, OnErr};
 ghost use Rattle.msproto.specs.Replies.{spelled};
-ghost use Rattle.sessions.specs.Clients.{client_given, is_item, is_ready, reach_in, without_first, left};
+ghost use Rattle.sessions.specs.Clients.{client_given, has_failed, is_item, is_ready, reach_in, without_first, left};
 ghost use Rattle.sessions.specs.Counts.{new_session, given_more, looked_in, scanned_past, scanned_in_step};
 ghost use Rattle.sessions.specs.GivenUp.{text_given_up, client_given_up, progress_given_up};
 ghost use Rattle.sessions.specs.Logins.{login_client};
@@ -158,6 +158,13 @@ impl Session {
         ensures { result ≡ is_some self.now.client.user }
     {
         self.user.is_some()
+    }
+
+    /// Whether a login failed since nobody is logged in. Takes no memory.
+    pub fn has_failed(&self) -> bool
+        ensures { result ≡ has_failed self.now.client }
+    {
+        self.failures != 0
     }
 
     /// How many octets came and are not yet taken off. Takes no memory.

@@ -134,6 +134,7 @@ hear_sent phase.Open now (want.Until moment) is = by (nat_lt now moment) is
     by false is = let never : ⊥ = cc in absurd never
 hear_sent phase.Open now want.Done is = let never : ⊥ = cc in absurd never
 hear_sent phase.Closing now wanted is = let never : ⊥ = cc in absurd never
+hear_sent phase.Yielding now wanted is = let never : ⊥ = cc in absurd never
 hear_sent (phase.Shut left) now wanted is = by (left == 0) is
   where
     by : (b : Bool) → cond b End Drain ≡ Hear → wanted ≡ want.More

@@ -4,6 +4,8 @@ use Rattle.std.specs.Cmp.{eq_by_cmp_equiv, nat_cmp_total}
 use Rattle.wires.specs.declared.act.Act.{Act}
 use Rattle.wires.specs.declared.act.Act.TheVariants.{Woke, Began, Timed, Late, Waits, Roused, Worked, Came, NoneCame, Crowded, Displaced, Listened, InUse, Heard, ReadBlocked, Over, Sent, WriteBlocked, Lost, Noted, Full, Again, Shut, Dropped, Ended}
 use Rattle.wires.specs.declared.service.Client.{Client}
+use Rattle.wires.specs.declared.service.Phase.{Phase}
+use Rattle.wires.specs.declared.service.Phase.TheVariants as phase
 use Rattle.wires.specs.declared.service.Service.{Service}
 use Rattle.wires.specs.declared.turn.Turn.{Turn}
 use Rattle.wires.specs.declared.turn.Turn.TheVariants.{Leaving}
@@ -64,8 +66,8 @@ answered l now said o p whole a =
     subst (λ x. Whole (spells said l) x) (sym a.is) (ap (λ t. l.sent ++ t) a.gathers.joins ∙ sym (append_assoc l.sent (waits a.before) said) ∙ ap (λ t. t ++ said) here)
 
 -- to one that was late and to which nothing waits something is said last
-parted : (l : Words) (now : ℕ) (said : List ℕ) (o p : Option Client) → Whole l o → Parts now said o p → Whole (spells said l) p
-parted l now said o p whole a =
+parted : (l : Words) (at : Phase) (now : ℕ) (said : List ℕ) (o p : Option Client) → Whole l o → Parts at now said o p → Whole (spells said l) p
+parted l at now said o p whole a =
     let here : l.sent ++ waits a.before ≡ l.spelled = subst (λ x. Whole l x) a.was whole in
     let empty : waits a.before ≡ [] = subst (λ x. waits_of x ≡ []) a.was (quiet o a.quiet) in
     let sent : l.sent ≡ l.spelled = sym (append-nil l.sent) ∙ ap (λ t. l.sent ++ t) (sym empty) ∙ here in
@@ -106,13 +108,13 @@ still_part : (word : List ℕ) (l : Words) (o : Option Client) → Part l o → 
 still_part word l None part = (part.0 ++ word, sym (append_assoc l.sent part.0 word) ∙ ap (λ t. t ++ word) part.1)
 still_part word l (Some c) part = (part.0 ++ word, sym (append_assoc (l.sent ++ waits c) part.0 word) ∙ ap (λ t. t ++ word) part.1)
 
-said_nothing : (word : List ℕ) (l : Words) (now : ℕ) (said : List ℕ) (o p : Option Client) → Whole l o → said ≡ [] → OrNothing (Parts now said o p) said o p → Part (spells word l) p
-said_nothing word l now said o p whole none (inl a) = still_part word l p (part_of l p (silent l p said none (parted l now said o p whole a)))
-said_nothing word l now said o p whole none (inr a) = still_part word l p (subst (λ x. Part l x) (sym a.1) (part_of l o whole))
+said_nothing : (word : List ℕ) (l : Words) (at : Phase) (now : ℕ) (said : List ℕ) (o p : Option Client) → Whole l o → said ≡ [] → OrNothing (Parts at now said o p) said o p → Part (spells word l) p
+said_nothing word l at now said o p whole none (inl a) = still_part word l p (part_of l p (silent l p said none (parted l at now said o p whole a)))
+said_nothing word l at now said o p whole none (inr a) = still_part word l p (subst (λ x. Part l x) (sym a.1) (part_of l o whole))
 
-said_word : (word : List ℕ) → ([] ≡ word → ⊥) → (l : Words) (now : ℕ) (said : List ℕ) (o p : Option Client) → Whole l o → said ≡ word → OrNothing (Parts now said o p) said o p → Whole (spells word l) p
-said_word word some l now said o p whole is (inl a) = subst (λ t. Whole (spells t l) p) is (parted l now said o p whole a)
-said_word word some l now said o p whole is (inr a) = absurd (some (sym a.0 ∙ is))
+said_word : (word : List ℕ) → ([] ≡ word → ⊥) → (l : Words) (at : Phase) (now : ℕ) (said : List ℕ) (o p : Option Client) → Whole l o → said ≡ word → OrNothing (Parts at now said o p) said o p → Whole (spells word l) p
+said_word word some l at now said o p whole is (inl a) = subst (λ t. Whole (spells t l) p) is (parted l at now said o p whole a)
+said_word word some l at now said o p whole is (inr a) = absurd (some (sym a.0 ∙ is))
 
 -- ---- each act
 
@@ -159,19 +161,19 @@ module _ {M N R : Type 0} (rules : Rules M N R) (m n : M) (r q : R) (s u : Servi
         answered l s.moment said (client_of s id) (client_of u id) whole talks
 
     -- one that was late
-    lates : (k : ℕ) (said : List ℕ) → same k id ≡ true → Whole l (client_of s id) → Parting rules m s k said n u
-        → OrNothing (Parts s.moment said (client_of s id) (client_of u id)) said (client_of s id) (client_of u id) → Fits id (spells word l) (client_of u id) u.turn
-    lates k said is whole (inl p) talks =
-        inl (said_word word some l s.moment said (client_of s id) (client_of u id) whole (lates_say said (subst (λ x. rules.lates m s.moment x said n) (one_number k id is) p.1)) talks)
-    lates k said is whole (inr (inl p)) talks =
-        inr (said_nothing word l s.moment said (client_of s id) (client_of u id) whole p.0 talks, (kind_of (client_of s k), p.1 ∙ ap (λ x. Leaving x (kind_of (client_of s k))) (one_number k id is)))
-    lates k said is whole (inr (inr p)) talks =
-        inr (said_nothing word l s.moment said (client_of s id) (client_of u id) whole p.0 talks, (kind_of (client_of s k), p.1 ∙ ap (λ x. Leaving x (kind_of (client_of s k))) (one_number k id is)))
+    lates : (at : Phase) (k : ℕ) (said : List ℕ) → same k id ≡ true → Whole l (client_of s id) → Parting rules m s k said n u
+        → OrNothing (Parts at s.moment said (client_of s id) (client_of u id)) said (client_of s id) (client_of u id) → Fits id (spells word l) (client_of u id) u.turn
+    lates at k said is whole (inl p) talks =
+        inl (said_word word some l at s.moment said (client_of s id) (client_of u id) whole (lates_say said (subst (λ x. rules.lates m s.moment x said n) (one_number k id is) p.1)) talks)
+    lates at k said is whole (inr (inl p)) talks =
+        inr (said_nothing word l at s.moment said (client_of s id) (client_of u id) whole p.0 talks, (kind_of (client_of s k), p.1 ∙ ap (λ x. Leaving x (kind_of (client_of s k))) (one_number k id is)))
+    lates at k said is whole (inr (inr p)) talks =
+        inr (said_nothing word l at s.moment said (client_of s id) (client_of u id) whole p.0 talks, (kind_of (client_of s k), p.1 ∙ ap (λ x. Leaving x (kind_of (client_of s k))) (one_number k id is)))
 
-    late_at : (b : Bool) (k : ℕ) (said : List ℕ) → same k id ≡ b → Whole l (client_of s id) → Parting rules m s k said n u
-        → At b (OrNothing (Parts s.moment said (client_of s id) (client_of u id)) said (client_of s id) (client_of u id)) (client_of u id ≡ client_of s id) → Fits id (cond b (spells word l) l) (client_of u id) u.turn
-    late_at true k said is whole p talks = lates k said is whole p talks
-    late_at false k said is whole p talks = inl (subst (λ x. Whole l x) (sym talks) whole)
+    late_at : (at : Phase) (b : Bool) (k : ℕ) (said : List ℕ) → same k id ≡ b → Whole l (client_of s id) → Parting rules m s k said n u
+        → At b (OrNothing (Parts at s.moment said (client_of s id) (client_of u id)) said (client_of s id) (client_of u id)) (client_of u id ≡ client_of s id) → Fits id (cond b (spells word l) l) (client_of u id) u.turn
+    late_at at true k said is whole p talks = lates at k said is whole p talks
+    late_at at false k said is whole p talks = inl (subst (λ x. Whole l x) (sym talks) whole)
 
     not_other : (k : ℕ) → k ≡ id → same k id ≡ false → ⊥
     not_other k is other =
@@ -201,8 +203,8 @@ module _ {M N R : Type 0} (rules : Rules M N R) (m n : M) (r q : R) (s u : Servi
     whole_after (Heard k piece) said other whole t talks =
         inl (at_same (same k id) (OrNothing (Answers s.moment said (client_of s id) (client_of u id)) said (client_of s id) (client_of u id)) (λ is c. hears k piece said is whole t c) whole talks)
     whole_after (Noted k note) said other whole t talks = inl (at (same k id) (spells said l) (Answers s.moment said (client_of s id) (client_of u id)) (λ is c. notes k note said is whole t c) whole talks)
-    whole_after (Late k) said other whole t talks = late_at (same k id) k said refl whole t.2 talks
-    whole_after (Displaced k) said other whole t talks = late_at (same k id) k said refl whole t.1 talks
+    whole_after (Late k) said other whole t talks = late_at phase.Closing (same k id) k said refl whole t.2 talks
+    whole_after (Displaced k) said other whole t talks = late_at phase.Yielding (same k id) k said refl whole t.1 talks
     whole_after (Listened kind) said other whole t talks = stays whole talks
     whole_after (Sent k octets) said other whole t talks =
         inl (at (same k id) (sends octets l) (Sends s.moment octets (client_of s id) (client_of u id)) (λ is c. sent l s.moment octets (client_of s id) (client_of u id) whole c) whole talks)

@@ -135,6 +135,7 @@ unsent_step false to is = let never : ⊥ = cc in absurd never
 sent_wanted : (at : Phase) (now : ℕ) (wanted : Want) → task_sent at now wanted ≡ Step → task_wanted now wanted ≡ Step
 sent_wanted phase.Open now wanted is = is
 sent_wanted phase.Closing now wanted is = let never : ⊥ = cc in absurd never
+sent_wanted phase.Yielding now wanted is = let never : ⊥ = cc in absurd never
 sent_wanted (phase.Shut left) now wanted is = by (left == 0) is
   where
     by : (b : Bool) → cond b End Drain ≡ Step → task_wanted now wanted ≡ Step

@@ -5,9 +5,22 @@ ghost use Rattle.sieveddaemon.specs.Places.{client_at};
 ghost use Rattle.sieveddaemon.specs.Room as room;
 ghost use Rattle.sieveddaemon.specs.Room.{MakesRoom, NobodyGoes};
 
-use crate::place::{Place, Waits};
+use crate::place::Place;
+use crate::want::want_by;
 use mailengine::Clients;
+use mailposts::Post;
+use sessions::Session;
 use std::collections::BTreeMap;
+use wires::machine::Want;
+
+/// Guests of ManageSieve make room by ranks: one of a later rank only where there is none of an earlier.
+#[derive(Clone, Copy, Debug, PartialEq, Eq)]
+pub enum Rank {
+    /// A login of theirs failed.
+    Failed,
+    /// Any.
+    Silent,
+}
 
 /// Whether somebody is logged in there.
 pub fn is_user(clients: &Clients, id: u32) -> bool
@@ -19,53 +32,118 @@ pub fn is_user(clients: &Clients, id: u32) -> bool
     }
 }
 
-fn is_reply(waits: &Waits) -> bool
-    ensures { result ≡ room.is_reply waits.now }
+fn is_more(want: Want) -> bool
+    ensures { result ≡ room.is_more want }
 {
-    match waits {
-        Waits::Reply(_, _) => true,
+    match want {
+        Want::More => true,
         _ => false,
     }
 }
 
-/// Whether a connection may make room: nobody is logged in there, and no answer is kept back.
-fn may_go(clients: &Clients, id: u32, place: &Place) -> bool
-    ensures { result ≡ room.may_go clients.now.sessions id place.now }
+/// Since when nobody is logged in there, where the client owes octets.
+fn owed(place: &Place, session: &Session) -> Option<u64>
+    ensures { result ≡ room.owed place.now session.now.client }
 {
-    !is_user(clients, id) && !is_reply(&place.waits)
+    if is_more(want_by(&place.waits, place.fit, session)) {
+        Some(place.guest)
+    } else {
+        None
+    }
 }
 
-/// The one of two, each with the moment since which nobody is logged in there, that makes room.
-fn longer(longest: Option<(u32, u64)>, id: u32, guest: u64) -> (u32, u64)
-    ensures { result ≡ room.longer longest (id, guest) }
+/// The same of those of a rank.
+fn claim_by(rank: Rank, place: &Place, session: &Session) -> Option<u64>
+    ensures { result ≡ room.claim_by rank place.now session.now.client }
 {
-    match longest {
+    match rank {
+        Rank::Failed => { if session.has_failed() { owed(place, session) } else { None } }
+        Rank::Silent => owed(place, session),
+    }
+}
+
+/// Since when nobody is logged in at a connection of that rank that may make room: its client owes octets.
+fn claim_of(clients: &Clients, rank: Rank, id: u32, place: &Place) -> Option<u64>
+    ensures { result ≡ room.claim_of clients.now.sessions rank id place.now }
+{
+    match clients.session(id) {
+        Some(session) => { if session.is_logged_in() { None } else { claim_by(rank, place, session) } }
+        None => None,
+    }
+}
+
+/// The one of two, each with a moment, that has the earlier.
+fn earlier(best: Option<(u32, u64)>, id: u32, claim: Option<u64>) -> Option<(u32, u64)>
+    ensures { result ≡ room.earlier best id claim }
+{
+    let Some(moment) = claim else {
+        return best;
+    };
+    match best {
         Some((other, since)) => {
-            if guest < since {
-                (id, guest)
+            if moment < since {
+                Some((id, moment))
             } else {
-                (other, since)
+                Some((other, since))
             }
         }
-        None => (id, guest),
+        None => Some((id, moment)),
     }
 }
 
-/// The connection that makes room: of those with nobody logged in, to whom no answer is kept back, the one that is there for
-/// the longest time. Time is linear in the connections.
-pub fn longest_guest(clients: &Clients, places: &BTreeMap<u32, Place>) -> Option<u32>
-    ensures which { result ≡ room.longest_guest clients.now.sessions places.now }
-    ensures some { IfSome result (MakesRoom clients.now.sessions places.now) }
-    ensures none { result ≡ None → NobodyGoes clients.now.sessions places.now }
+fn number_of(best: Option<(u32, u64)>) -> Option<u32>
+    ensures { result ≡ room.number_of best }
 {
-    let mut longest = None;
-    for (id, place) in places.iter() {
-        if may_go(clients, *id, place) {
-            longest = Some(longer(longest, *id, place.guest));
-        }
-    }
-    match longest {
+    match best {
         Some((id, _)) => Some(id),
         None => None,
     }
+}
+
+/// Of the guests of a rank whose client owes octets, the one that is there for the longest time. Time is linear in the connections.
+fn longest_guest(clients: &Clients, rank: Rank, places: &BTreeMap<u32, Place>) -> Option<u32>
+    ensures which { result ≡ room.longest_guest clients.now.sessions rank places.now }
+    ensures some { IfSome result (MakesRoom (room.claim_of clients.now.sessions rank) places.now) }
+    ensures none { result ≡ None → NobodyGoes (room.claim_of clients.now.sessions rank) places.now }
+{
+    let mut best = None;
+    for (id, place) in places.iter() {
+        best = earlier(best, *id, claim_of(clients, rank, *id, place));
+    }
+    number_of(best)
+}
+
+/// The guest of ManageSieve that makes room: one that failed a login before others, and then the one that is there for the longest time. To
+/// none of them an answer is owed. Time is linear in the connections.
+pub fn guest_to_go(clients: &Clients, places: &BTreeMap<u32, Place>) -> Option<u32>
+    ensures { result ≡ room.guest_to_go clients.now.sessions places.now }
+{
+    match longest_guest(clients, Rank::Failed, places) {
+        Some(id) => Some(id),
+        None => longest_guest(clients, Rank::Silent, places),
+    }
+}
+
+/// Since when a client of LMTP owes octets, while no recipient of a message was taken.
+fn sender_claim(clients: &Clients, id: u32, post: &Post) -> Option<u64>
+    ensures { result ≡ room.sender_claim clients.now.sessions id post.now }
+{
+    if is_user(clients, id) {
+        return None;
+    }
+    post.owed_since()
+}
+
+/// The client of LMTP that makes room: of those without a recipient that was taken, to whom nothing is owed, the one that has owed octets
+/// for the longest time. Time is linear in the connections.
+pub fn longest_sender(clients: &Clients, posts: &BTreeMap<u32, Post>) -> Option<u32>
+    ensures which { result ≡ room.longest_sender clients.now.sessions posts.now }
+    ensures some { IfSome result (MakesRoom (room.sender_claim clients.now.sessions) posts.now) }
+    ensures none { result ≡ None → NobodyGoes (room.sender_claim clients.now.sessions) posts.now }
+{
+    let mut best = None;
+    for (id, post) in posts.iter() {
+        best = earlier(best, *id, sender_claim(clients, *id, post));
+    }
+    number_of(best)
 }
