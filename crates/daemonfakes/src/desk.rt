@@ -272,6 +272,10 @@ impl<S: Shelf + Drop> Clock for DeskFake<S> {
     fn now(&mut self) -> u64 {
         self.stage.now()
     }
+
+    fn was_long(&mut self) -> bool {
+        self.stage.was_long()
+    }
 }
 
 impl<S: Shelf + Drop> Desk for DeskFake<S> {

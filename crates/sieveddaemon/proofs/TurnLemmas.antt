@@ -83,7 +83,7 @@ module _ {M N R : Type 0} (rules : Rules M N R) (m n : M) (r q : R) (s u : Servi
   follows (Sent k octets) said t = tasks k t.1.0 Send t.1.1
   follows (WriteBlocked k) said t = tasks k t.1.0 Send t.1.1
   follows (Lost k) said t = fails k (Leaving k (kind_of (client_of s k))) u.turn t.1
-  follows (Noted k note) said t = tasks k t.1.0 Step t.1.1
+  follows (Noted k note) said t = tasks k t.1.count Step t.1.wanted
   follows (Waits k) said t = tasks k t.1.0 Rest t.1.1
   follows (Full k) said t = lacks k t.1
   follows (Again k) said t = yields k t.1

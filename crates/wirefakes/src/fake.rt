@@ -284,4 +284,9 @@ impl<N: Drop, R: Drop> Clock for Fake<N, R> {
         self.keep(Act::Timed(moment));
         moment
     }
+
+    // No step takes long in memory.
+    fn was_long(&mut self) -> bool {
+        false
+    }
 }

@@ -332,4 +332,8 @@ impl<N: Drop, R: Drop> Clock for Stage<N, R> {
     fn now(&mut self) -> u64 {
         self.fake.now()
     }
+
+    fn was_long(&mut self) -> bool {
+        self.fake.was_long()
+    }
 }

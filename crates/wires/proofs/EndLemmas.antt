@@ -75,7 +75,7 @@ cause_of rules m k r q s u id kind (Heard n piece) said t leaving = absurd (goes
 cause_of rules m k r q s u id kind (ReadBlocked n) said t leaving = absurd (blocked rules m s id n kind u.turn t.1 leaving)
 cause_of rules m k r q s u id kind (Sent n octets) said t leaving = let is = t.1.2 in cc
 cause_of rules m k r q s u id kind (WriteBlocked n) said t leaving = let is = t.1.2 in cc
-cause_of rules m k r q s u id kind (Noted n note) said t leaving = let is = t.1.2 in cc
+cause_of rules m k r q s u id kind (Noted n note) said t leaving = let is = t.1.is in cc
 cause_of rules m k r q s u id kind (Waits n) said t leaving = let is = t.1.2 in cc
 cause_of rules m k r q s u id kind (Again n) said t leaving = let is = t.2 in cc
 cause_of rules m k r q s u id kind (Shut n) said t leaving = let is = t.1.2 in cc

@@ -142,9 +142,9 @@ pub record Hears {M N R : Type 0} (rules : Rules M N R) (m : M) (s : Service) (i
   pub short : length piece ≤ largest_piece
   pub goes : Goes (rules.gives m s.moment id piece said n) (rules.lacks m id n) id (kind_of (client_of s id)) count said t.turn
 
--- what is said to a connection is to be sent, and its turn goes on
+-- what is said to a connection is to be sent, and its turn goes on, of which so many acts are over then
 pub record Answered (id count : ℕ) (said : List ℕ) (s t : Service) : Type 0 where
-  pub turn : t.turn ≡ Busy id (count + 1)
+  pub turn : t.turn ≡ Busy id count
   pub speaks : Alone id (Answers s.moment said) s t
   pub next : t.next ≡ s.next
   pub since : t.since ≡ s.since
@@ -170,6 +170,15 @@ Silent m said n = (n ≡ m) × (said ≡ [])
 -- one act of a connection whose turn goes on
 abbrev pub GoesOn : {M N R : Type 0} → Rules M N R → M → Service → ℕ → Task → Turn → Type 0
 GoesOn rules m s id wanted turn = (count : ℕ) × Tasks rules m s id count wanted × (turn ≡ Busy id (count + 1))
+
+-- a step of a connection whose turn goes on: one act more of it is over, or more where the step took long
+pub record StepsOn {M N R : Type 0} (rules : Rules M N R) (m : M) (s : Service) (id : ℕ) (turn : Turn) : Type 0 where
+  pub count : ℕ
+  pub wanted : Tasks rules m s id count Step
+  pub over : ℕ
+  pub is : turn ≡ Busy id over
+  pub further : count < over
+  pub within : over ≤ fair
 
 -- one that ends its turn by that
 abbrev pub Stops : {M N R : Type 0} → Rules M N R → M → Service → ℕ → Task → Turn → Turn → Type 0
@@ -264,7 +273,7 @@ Turns rules m r s (Over id) said n q t = Silent m said n × Reads rules m s id (
 Turns rules m r s (Sent id octets) said n q t = Silent m said n × GoesOn rules m s id Send t.turn
 Turns rules m r s (WriteBlocked id) said n q t = Silent m said n × Stops rules m s id Send Free t.turn
 Turns rules m r s (Lost id) said n q t = Silent m said n × Fails rules m s id (Leaving id (kind_of (client_of s id))) t.turn
-Turns rules m r s (Noted id note) said n q t = rules.steps m r s.moment id note said n q × GoesOn rules m s id Step t.turn
+Turns rules m r s (Noted id note) said n q t = rules.steps m r s.moment id note said n q × StepsOn rules m s id t.turn
 Turns rules m r s (Waits id) said n q t = Silent m said n × Stops rules m s id Rest Free t.turn
 Turns rules m r s (Full id) said n q t = (said ≡ []) × Lacks rules m s id n t
 Turns rules m r s (Again id) said n q t = Silent m said n × Yields rules m s id × (t.turn ≡ Free)

@@ -116,4 +116,10 @@ pub trait Clock: Outside {
         ensures seen { TellsIf Self.tells Self.seen self.old (Timed result) self.new }
         ensures left { LeavesIf Self.tells Self.rest self.old self.new }
         ensures kept { IsTrue (Self.tells self.new) → IsTrue (Self.tells self.old) };
+
+    /// Whether the machine's last step took so long that another connection is to have its turn. It is no act.
+    fn was_long(&mut self) -> bool
+        ensures seen { IsTrue (Self.tells self.new) → Self.seen self.new ≡ Self.seen self.old }
+        ensures left { LeavesIf Self.tells Self.rest self.old self.new }
+        ensures kept { IsTrue (Self.tells self.new) → IsTrue (Self.tells self.old) };
 }

@@ -25,7 +25,7 @@ const MAX_GATHERED: usize = 16384;
 /// No more octets of a connection are read at once.
 const MAX_PIECE: usize = 4096;
 
-/// After so many acts in a row of one connection another has its turn.
+/// After so many acts in a row of one connection another has its turn, and earlier behind a step that took long.
 const MAX_ACTS: u32 = 16;
 
 /// So many octets, or a few more, are read and dropped of a connection after this side was shut: its peer sees what was said
@@ -901,20 +901,19 @@ fn give<O: Sockets + Clock, M: Machine<O>>(
 {
     let mut out = Octets::new(service.alloc);
     if machine.give(service.moment, id, piece, &mut out).is_ok() {
-        answer(service, id, count, out);
+        answer(service, id, count + 1, out);
     } else {
         service.turn = Turn::Stuffed(id, kind);
     }
 }
 
-/// What is said to it is to be sent, and its turn goes on.
+/// What is said to it is to be sent, and its turn goes on, of which `count` acts are over then.
 fn answer(service: &mut Service, id: u32, count: u32, said: Octets)
     requires some { IsSome (client_of service.old id) }
     requires more { takes_more (client_of service.old id) ≡ true }
-    requires few { count < 16 }
     ensures { Answered id count said service.old service.new }
 {
-    service.turn = Turn::Busy(id, count + 1);
+    service.turn = Turn::Busy(id, count);
     let Some(client) = service.clients.get_mut(&id) else {
         return;
     };
@@ -952,10 +951,24 @@ fn step_once<O: Sockets + Clock, M: Machine<O>>(
 {
     let mut out = Octets::new(service.alloc);
     if machine.step(outside, service.moment, id, &mut out).is_ok() {
-        answer(service, id, count, out);
+        let long = outside.was_long();
+        answer(service, id, count_behind(count, long), out);
     } else {
         outside.note(Act::Full(id));
         service.turn = Turn::Leaving(id, kind);
+    }
+}
+
+/// How many acts of its turn are over behind a step: a long one leaves it one act more at most, in which its answer is sent.
+fn count_behind(count: u32, long: bool) -> u32
+    requires { count < 16 }
+    ensures further { count < result }
+    ensures within { result ≤ 16 }
+{
+    if long {
+        (count + 1).max(MAX_ACTS - 1)
+    } else {
+        count + 1
     }
 }
 
