@@ -1,0 +1,67 @@
+-- Right cases of the definitions, and near misses.
+use Rattle.std.proofs.Common.{◌≡◌, ◌==◌, ℕ, Bool, true, false, List, [], ◌∷◌, refl}
+use Rattle.wires.specs.declared.outcome.Wake.{Wake}
+use Rattle.wires.specs.declared.outcome.Wake.TheVariants.{Knock, Ready}
+use Rattle.timeshares.specs.declared.account.Account.TheVariants.{Guests, Senders, User}
+use Rattle.timeshares.specs.declared.share.Share.{Share}
+use Rattle.timeshares.specs.Shares.{same, spent_in, added, spent_by}
+use Rattle.timeshares.specs.Order.{all_of, served, waiting}
+
+-- one that had 40 ms in the third slot and 20 in the one before
+abbrev share : Share
+share = record { account = User (97 ∷ []); slot = 3; spent = 40000; before = 20000 }
+
+counts_both : spent_in 3 share ≡ 60000
+counts_both = refl
+
+counts_in_the_next : spent_in 4 share ≡ 40000
+counts_in_the_next = refl
+
+forgets_then : spent_in 5 share ≡ 0
+forgets_then = refl
+
+-- a slot later what it had in this one is what it had before
+goes_on : spent_in 4 (added 4 1000 share) ≡ 41000
+goes_on = refl
+
+of_that_account : spent_by (User (97 ∷ [])) 1999 (share ∷ []) ≡ 60000
+of_that_account = refl
+
+-- near misses: another account's, and that of all guests
+not_of_another : spent_by (User (98 ∷ [])) 1999 (share ∷ []) ≡ 0
+not_of_another = refl
+
+not_of_guests : spent_by Guests 1999 (share ∷ []) ≡ 0
+not_of_guests = refl
+
+not_the_same : same Guests Senders ≡ false
+not_the_same = refl
+
+-- of connections 1 to 3 the second had too much
+abbrev second : Wake → Bool
+second (Ready id) = id == 2
+second (Knock kind) = false
+
+goes_behind : served second (Ready 1 ∷ Ready 2 ∷ Ready 3 ∷ []) ≡ Ready 1 ∷ Ready 3 ∷ []
+goes_behind = refl
+
+waits_then : waiting second (Ready 1 ∷ Ready 2 ∷ Ready 3 ∷ []) ≡ Ready 2 ∷ []
+waits_then = refl
+
+-- where there is nobody else it goes on
+goes_alone : served second (Ready 2 ∷ []) ≡ Ready 2 ∷ []
+goes_alone = refl
+
+-- a near miss: of two that had too much one goes on, and the other waits
+abbrev each : Wake → Bool
+each wake = true
+
+one_goes : served each (Ready 2 ∷ Ready 4 ∷ []) ≡ Ready 2 ∷ []
+one_goes = refl
+
+the_other_waits : waiting each (Ready 2 ∷ Ready 4 ∷ []) ≡ Ready 4 ∷ []
+the_other_waits = refl
+
+-- one of which a wait tells again is there once
+told_once : all_of (Ready 2 ∷ []) (Ready 2 ∷ Ready 3 ∷ []) ≡ Ready 2 ∷ Ready 3 ∷ []
+told_once = refl

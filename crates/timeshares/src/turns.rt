@@ -1,0 +1,209 @@
+//! Who waits behind the others.
+ghost use Rattle.std.specs.Prelude.{◌≡◌, ◌==◌, [], not, filter, true, false, IfOk, IsTrue};
+ghost use Rattle.std.specs.Ordering.{nat_cmp};
+ghost use Rattle.std.specs.BTreeMap as tree;
+ghost use Rattle.timeshares.specs.Order as o;
+ghost use Rattle.timeshares.specs.Order.{Orders};
+
+use crate::account::Account;
+use crate::share::Shares;
+use std::alloc::{AllocError, Global};
+use std::collections::{BTreeMap, VecDeque};
+use std::mem::swap;
+use wires::outcome::Wake;
+
+/// Connections of an account that had more than so many microseconds of late wait behind all others.
+const MAX_SPENT: u64 = 50_000;
+
+/// What accounts had of the time, for which account each connection had its last act, and what a wait told of those that wait behind
+/// others.
+#[derive(Drop)]
+pub struct Turns {
+    alloc: Global,
+    shares: Shares,
+    accounts: BTreeMap<u32, Account>,
+    put_off: VecDeque<Wake>,
+}
+
+impl Turns {
+    /// Nobody had time, and nobody waits. Takes no memory.
+    pub fn new(alloc: Global) -> Turns
+        ensures { result.put_off.items ≡ [] }
+    {
+        Turns {
+            alloc,
+            shares: Shares::new(alloc),
+            accounts: BTreeMap::new(alloc),
+            put_off: VecDeque::new(alloc),
+        }
+    }
+
+    /// An act of a connection took so many microseconds of an account's time. Where memory is lacking less is known of it.
+    pub fn charge(&mut self, id: u32, account: Account, now: u64, micros: u64)
+        ensures { self.new.put_off ≡ self.old.put_off }
+    {
+        self.shares.add(self.alloc, &account, now, micros);
+        let _ = self.accounts.insert(id, account);
+    }
+
+    /// A connection is closed.
+    pub fn leave(&mut self, id: u32)
+        ensures { self.new.put_off.items ≡ filter (λ wake. not (o.is_of id wake)) self.old.put_off.items }
+    {
+        forget(&mut self.accounts, id);
+        self.put_off.retain(|wake| !is_of(id, *wake));
+    }
+
+    /// Whether somebody waits behind others.
+    pub fn has_waiting(&self) -> bool
+        ensures { IsTrue (not result) → self.now.put_off.items ≡ [] }
+    {
+        !self.put_off.is_empty()
+    }
+
+    /// Of what a wait told, and of those who waited, who goes on now: all of accounts that had little time of late, and where there are
+    /// none the first of the others. All others wait for the next call.
+    pub fn order(&mut self, now: u64, ready: &mut VecDeque<Wake>)
+        ensures { Orders now self.old ready.old.items self.new ready.new.items }
+    {
+        if !join(&mut self.put_off, ready) {
+            return;
+        }
+        let Ok(mut late) = late_of(&self.shares, &self.accounts, now, ready) else {
+            return;
+        };
+        part(&self.shares, &self.accounts, now, ready, &mut late);
+        self.put_off = late;
+    }
+}
+
+/// What a wait told joins those who waited, each once; nobody waits then. Where memory is lacking for that, the answer is false, and each
+/// stays where it is.
+fn join(waited: &mut VecDeque<Wake>, told: &mut VecDeque<Wake>) -> bool
+    ensures joined { result ≡ true → told.new.items ≡ o.all_of waited.old.items told.old.items }
+    ensures empty { result ≡ true → waited.new.items ≡ [] }
+    ensures apart { result ≡ false → told.new.items ≡ o.others waited.old.items told.old.items }
+    ensures stays { result ≡ false → waited.new.items ≡ waited.old.items }
+{
+    leave_others(waited, told);
+    if waited.append(told).is_err() {
+        return false;
+    }
+    swap(waited, told);
+    true
+}
+
+/// Of what a wait told those stay that didn't wait.
+fn leave_others(waited: &VecDeque<Wake>, told: &mut VecDeque<Wake>)
+    ensures { told.new.items ≡ o.others waited.now.items told.old.items }
+{
+    told.retain(|wake| !is_among(waited, wake));
+}
+
+fn is_among(waited: &VecDeque<Wake>, wake: &Wake) -> bool
+    ensures { result ≡ o.is_among waited.now.items wake.now }
+{
+    waited.iter().any(|other| is_same(*other, *wake))
+}
+
+fn is_same(wake: Wake, other: Wake) -> bool
+    ensures { result ≡ o.same_wake wake other }
+{
+    match (wake, other) {
+        (Wake::Ready(id), Wake::Ready(other)) => id == other,
+        (Wake::Knock(kind), Wake::Knock(other)) => kind == other,
+        _ => false,
+    }
+}
+
+/// Of all those go on that aren't among the late ones; where each is, the first of them.
+fn part(
+    shares: &Shares,
+    accounts: &BTreeMap<u32, Account>,
+    now: u64,
+    all: &mut VecDeque<Wake>,
+    late: &mut VecDeque<Wake>,
+)
+    requires { late.old.items ≡ filter (o.is_late shares.now.entries.items accounts.now now) all.old.items }
+    ensures served { all.new.items ≡ o.served (o.is_late shares.now.entries.items accounts.now now) all.old.items }
+    ensures waiting { late.new.items ≡ o.waiting (o.is_late shares.now.entries.items accounts.now now) all.old.items }
+{
+    if late.len() == all.len() {
+        all.truncate(1);
+        let _ = late.pop_front();
+    } else {
+        leave_early(shares, accounts, now, all);
+    }
+}
+
+/// Those stay that aren't late.
+fn leave_early(
+    shares: &Shares,
+    accounts: &BTreeMap<u32, Account>,
+    now: u64,
+    wakes: &mut VecDeque<Wake>,
+)
+    ensures { wakes.new.items ≡ filter (λ wake. not (o.is_late shares.now.entries.items accounts.now now wake)) wakes.old.items }
+{
+    wakes.retain(|wake| !is_late(shares, accounts, now, wake));
+}
+
+/// Nothing is known of a connection any more.
+fn forget(accounts: &mut BTreeMap<u32, Account>, id: u32) {
+    let _ = accounts.remove(&id);
+}
+
+/// Whether a wait told that of this connection.
+fn is_of(id: u32, wake: Wake) -> bool
+    ensures { result ≡ o.is_of id wake }
+{
+    match wake {
+        Wake::Ready(other) => other == id,
+        Wake::Knock(_) => false,
+    }
+}
+
+/// Whether it is of a connection whose account had too much time of late.
+fn is_late(shares: &Shares, accounts: &BTreeMap<u32, Account>, now: u64, wake: &Wake) -> bool
+    ensures { result ≡ o.is_late shares.now.entries.items accounts.now now wake.now }
+{
+    match wake {
+        Wake::Ready(id) => match accounts.get(id) {
+            Some(account) => shares.spent(account, now) > MAX_SPENT,
+            None => false,
+        },
+        Wake::Knock(_) => false,
+    }
+}
+
+/// Those of such connections.
+fn late_of(
+    shares: &Shares,
+    accounts: &BTreeMap<u32, Account>,
+    now: u64,
+    wakes: &VecDeque<Wake>,
+) -> Result<VecDeque<Wake>, AllocError>
+    ensures { IfOk result (λ late. late.items ≡ filter (o.is_late shares.now.entries.items accounts.now now) wakes.now.items) }
+{
+    let mut late = copied(wakes)?;
+    leave_late(shares, accounts, now, &mut late);
+    Ok(late)
+}
+
+/// Those stay that are late.
+fn leave_late(
+    shares: &Shares,
+    accounts: &BTreeMap<u32, Account>,
+    now: u64,
+    wakes: &mut VecDeque<Wake>,
+)
+    ensures { wakes.new.items ≡ filter (o.is_late shares.now.entries.items accounts.now now) wakes.old.items }
+{
+    wakes.retain(|wake| is_late(shares, accounts, now, wake));
+}
+
+fn copied(wakes: &VecDeque<Wake>) -> Result<VecDeque<Wake>, AllocError>
+    ensures { IfOk result (λ copy. copy.items ≡ wakes.now.items) }
+{
+    wakes.clone()
+}
