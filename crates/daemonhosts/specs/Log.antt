@@ -35,6 +35,15 @@ abbrev pub delivery_line : Parcel → Answer → List ℕ
 delivery_line parcel answer =
     line_of (word_of answer) (pair (codes "user") parcel.user ∷ pair (codes "from") parcel.sender ∷ pair (codes "to") parcel.recipient ∷ why_pairs answer)
 
+-- ---- what took long
+
+abbrev pub user_pairs : Option (List ℕ) → List Pair
+user_pairs (Some user) = pair (codes "user") user ∷ []
+user_pairs None = []
+
+abbrev pub slow_line : List ℕ → Option (List ℕ) → ℕ → List ℕ
+slow_line what user millis = line_of (codes "slow") (pair (codes "what") what ∷ (user_pairs user ++ pair (codes "ms") (decimal millis) ∷ []))
+
 -- whether it was filed
 abbrev pub is_filed : Answer → Bool
 is_filed (Delivered report) = true

@@ -31,13 +31,18 @@ use sqlite::ErrorCode;
 use std::alloc::Global;
 use std::collections::VecDeque;
 use std::io::Write;
+use std::mem::take;
 use std::net::Net;
 use std::time;
 use std::time::{Instant, SystemTime};
 use systemsockets::SystemSockets;
+use timeshares::{Account, Turns};
 use wires::act::Act;
 use wires::outcome::{self, Accepted, Input, Output, Wake};
 use wires::outside::{Clock, Outside, Sockets};
+
+/// Behind a step of more than so many microseconds another connection has its turn.
+const MAX_STEP: u64 = 5_000;
 
 /// The system's sockets and clock, and the store at a path, which other processes use too. It tells no acts.
 ///
@@ -62,6 +67,12 @@ pub struct Host<'a, N: Net + time::Clock, E: Write + Drop, K: Keeper + Drop, T: 
     queue: Queue,
     /// The moment at which nobody waited for it, where it was last looked.
     looked: Option<u64>,
+    /// Who had how much of the time, and who waits behind the others for it.
+    turns: Turns,
+    /// When the act began that goes on, where the clock could be read.
+    begun: Option<Instant>,
+    /// The last step took long.
+    long: bool,
     news: News<E>,
 }
 
@@ -100,6 +111,9 @@ impl<'a, N: Net + time::Clock, E: Write + Drop, K: Keeper + Drop, T: MailSink + 
             default,
             queue: Queue::new(alloc),
             looked: None,
+            turns: Turns::new(alloc),
+            begun: None,
+            long: false,
             news: News::new(alloc, errors, quiet),
         }
     }
@@ -112,6 +126,65 @@ impl<'a, N: Net + time::Clock, E: Write + Drop, K: Keeper + Drop, T: MailSink + 
     /// Tells of trouble that ends the daemon, and gives its exit status.
     pub fn refuse(&mut self, trouble: Trouble) -> u8 {
         self.news.refuse(trouble)
+    }
+
+    /// An act begins.
+    fn begin_act(&mut self)
+        ensures { StillShown K.S.Store K.tells K.holds self.old.held self.new.held }
+        ensures same { self.new.held ≡ self.old.held }
+        ensures default { self.new.default ≡ self.old.default }
+    {
+        self.begun = start(self.system);
+    }
+
+    /// An act of a connection ends, of that kind and for that account; the next one begins.
+    fn end_act(&mut self, id: u32, account: Account, what: &[u8])
+        ensures same { self.new.held ≡ self.old.held }
+        ensures default { self.new.default ≡ self.old.default }
+    {
+        let Some(micros) = micros_since(self.system, self.begun) else {
+            return;
+        };
+        self.begin_act();
+        self.long |= micros > MAX_STEP;
+        self.news.note_slow(what, &account, micros);
+        let now = self.sockets.now();
+        self.turns.charge(id, account, now, micros);
+    }
+
+    /// The same, for a user.
+    fn end_act_of(&mut self, id: u32, user: &[u8], what: &[u8])
+        ensures same { self.new.held ≡ self.old.held }
+        ensures default { self.new.default ≡ self.old.default }
+    {
+        if let Ok(name) = Octets::from_slice(self.alloc, user) {
+            self.end_act(id, Account::User(name), what);
+        }
+    }
+
+    /// The same of a step that asked no store, for the account for which the connection had its last act.
+    fn end_free_act(&mut self, id: u32)
+        ensures same { self.new.held ≡ self.old.held }
+        ensures default { self.new.default ≡ self.old.default }
+    {
+        let account = match self.turns.account(id) {
+            Some(account) => account.try_clone(self.alloc),
+            None => Ok(Account::Guests),
+        };
+        if let Ok(account) = account {
+            self.end_act(id, account, b"command");
+        }
+    }
+
+    /// The same, for who is logged in at a client of ManageSieve.
+    fn end_step(&mut self, id: u32, clients: &Clients)
+        ensures same { self.new.held ≡ self.old.held }
+        ensures default { self.new.default ≡ self.old.default }
+    {
+        match clients.session(id).and_then(|session| session.user()) {
+            Some(user) => self.end_act_of(id, user, b"command"),
+            None => self.end_act(id, Account::Guests, b"command"),
+        }
     }
 
     /// Whether the store may be asked now for a connection: it is its turn, the store didn't fail, and nobody waits for it.
@@ -367,8 +440,14 @@ impl<N: Net + time::Clock, E: Write + Drop, K: Keeper + Drop, T: MailSink + Drop
     fn wait(&mut self, within: u32, ready: &mut VecDeque<Wake>) -> Result<(), outcome::Fault> {
         let now = self.sockets.now();
         self.news.tell_status(now);
+        let within = if self.turns.has_waiting() { 0 } else { within };
         match self.sockets.wait(within, ready) {
-            Ok(()) => Ok(()),
+            Ok(()) => {
+                let now = self.sockets.now();
+                self.turns.order(now, ready);
+                self.begin_act();
+                Ok(())
+            }
             Err(fault) => {
                 self.broken = true;
                 Err(fault)
@@ -381,7 +460,9 @@ impl<N: Net + time::Clock, E: Write + Drop, K: Keeper + Drop, T: MailSink + Drop
     }
 
     fn read(&mut self, id: u32, buffer: &mut [u8]) -> Input {
-        self.sockets.read(id, buffer)
+        let input = self.sockets.read(id, buffer);
+        self.begin_act();
+        input
     }
 
     fn discard(&mut self, id: u32) -> Input {
@@ -389,7 +470,9 @@ impl<N: Net + time::Clock, E: Write + Drop, K: Keeper + Drop, T: MailSink + Drop
     }
 
     fn write(&mut self, id: u32, octets: &[u8]) -> Output {
-        self.sockets.write(id, octets)
+        let output = self.sockets.write(id, octets);
+        self.begin_act();
+        output
     }
 
     fn shut(&mut self, id: u32) {
@@ -398,6 +481,7 @@ impl<N: Net + time::Clock, E: Write + Drop, K: Keeper + Drop, T: MailSink + Drop
 
     fn close(&mut self, id: u32) {
         self.queue.leave(id);
+        self.turns.leave(id);
         self.sockets.close(id)
     }
 
@@ -424,6 +508,10 @@ impl<N: Net + time::Clock, E: Write + Drop, K: Keeper + Drop, T: MailSink + Drop
     fn now(&mut self) -> u64 {
         self.sockets.now()
     }
+
+    fn was_long(&mut self) -> bool {
+        take(&mut self.long)
+    }
 }
 
 impl<N: Net + time::Clock, E: Write + Drop, K: Keeper + Drop, T: MailSink + Drop> Desk
@@ -441,6 +529,7 @@ impl<N: Net + time::Clock, E: Write + Drop, K: Keeper + Drop, T: MailSink + Drop
             Some(answer) => {
                 self.queue.leave(id);
                 self.news.note_command();
+                self.end_step(id, clients);
                 Some(answer)
             }
             None => {
@@ -453,12 +542,14 @@ impl<N: Net + time::Clock, E: Write + Drop, K: Keeper + Drop, T: MailSink + Drop
     fn tell_freed(&mut self, id: u32, _event: &Event, _answer: &Answer) {
         self.queue.leave(id);
         self.news.note_command();
+        self.end_free_act(id);
     }
 
     fn look_up(&mut self, id: u32, _clients: &mut Clients, user: &[u8]) -> Option<Lookup> {
         match self.seek(id, user) {
             Some(lookup) => {
                 self.queue.leave(id);
+                self.end_act(id, Account::Senders, b"lookup");
                 Some(lookup)
             }
             None => {
@@ -472,6 +563,7 @@ impl<N: Net + time::Clock, E: Write + Drop, K: Keeper + Drop, T: MailSink + Drop
         match self.file(id, parcel) {
             Some(answer) => {
                 self.queue.leave(id);
+                self.end_act_of(id, parcel.user.as_slice(), b"delivery");
                 Some(answer)
             }
             None => {

@@ -4,7 +4,9 @@ ghost use Rattle.daemonhosts.specs.Events as events;
 ghost use Rattle.daemonhosts.specs.Log.{is_filed, has_moved, store_failed};
 ghost use Rattle.daemonhosts.specs.Pauses.{IsOver};
 
-use crate::log::{has_failed, is_delivered, is_moved, of_beginning, of_delivery, of_moving};
+use crate::log::{
+    has_failed, is_delivered, is_moved, of_beginning, of_delivery, of_moving, of_slow,
+};
 use crate::pause::Pause;
 use keepers::cause::of_sqlite;
 use lmtp::Lookup;
@@ -18,6 +20,10 @@ use sievedrun::trouble::{FirstTrouble, Trouble};
 use sqlite::ErrorCode;
 use std::alloc::{AllocError, Global};
 use std::io::{ErrorKind, Write};
+use timeshares::Account;
+
+/// An act of so many microseconds has a line of its own.
+const SLOW: u64 = 200_000;
 
 /// So many milliseconds are behind each line `status`.
 const STATUS_SPAN: u64 = 60000;
@@ -83,6 +89,18 @@ impl<E: Write + Drop> News<E> {
     /// An event that asked the store took so many microseconds.
     pub fn note_time(&mut self, micros: u64) {
         self.tally.times.note(micros);
+    }
+
+    /// An act of that kind took so many microseconds of an account's time: where that is long, it is told.
+    pub fn note_slow(&mut self, what: &[u8], account: &Account, micros: u64)
+        ensures failed { self.new.failed ≡ self.old.failed }
+        ensures tally { self.new.tally ≡ self.old.tally }
+    {
+        if micros < SLOW {
+            return;
+        }
+        let line = of_slow(self.alloc, what, user_of(account), micros / 1000);
+        self.tell_line(line);
     }
 
     /// A command of ManageSieve was answered.
@@ -239,6 +257,14 @@ impl<E: Write + Drop> News<E> {
                 self.failed = true;
             }
         }
+    }
+}
+
+/// The user whose time it is, where it is one's.
+fn user_of(account: &Account) -> Option<&[u8]> {
+    match account {
+        Account::User(name) => Some(name.as_slice()),
+        Account::Guests | Account::Senders => None,
     }
 }
 

@@ -1,5 +1,6 @@
 //! One client's session.
 ghost use Rattle.std.specs.Prelude.{◌≡◌, ◌≤◌, ◌++◌, cond, true, false, None, Some, is_some, length, IfOk, IfErr, OnOk, OnErr};
+ghost use Rattle.mailstore.specs.Cells.{contents};
 ghost use Rattle.msproto.specs.Replies.{spelled};
 ghost use Rattle.sessions.specs.Clients.{client_given, has_failed, is_item, is_ready, reach_in, without_first, left};
 ghost use Rattle.sessions.specs.Counts.{new_session, given_more, looked_in, scanned_past, scanned_in_step};
@@ -158,6 +159,16 @@ impl Session {
         ensures { result ≡ is_some self.now.client.user }
     {
         self.user.is_some()
+    }
+
+    /// Who is logged in, if somebody is. Takes no memory.
+    pub fn user(&self) -> Option<&[u8]>
+        ensures { contents result ≡ self.now.client.user }
+    {
+        match &self.user {
+            Some(user) => Some(user.as_slice()),
+            None => None,
+        }
     }
 
     /// Whether a login failed since nobody is logged in. Takes no memory.

@@ -57,7 +57,13 @@ fn claim_by(rank: Rank, place: &Place, session: &Session) -> Option<u64>
     ensures { result ≡ room.claim_by rank place.now session.now.client }
 {
     match rank {
-        Rank::Failed => { if session.has_failed() { owed(place, session) } else { None } }
+        Rank::Failed => {
+            if session.has_failed() {
+                owed(place, session)
+            } else {
+                None
+            }
+        }
         Rank::Silent => owed(place, session),
     }
 }
@@ -67,7 +73,13 @@ fn claim_of(clients: &Clients, rank: Rank, id: u32, place: &Place) -> Option<u64
     ensures { result ≡ room.claim_of clients.now.sessions rank id place.now }
 {
     match clients.session(id) {
-        Some(session) => { if session.is_logged_in() { None } else { claim_by(rank, place, session) } }
+        Some(session) => {
+            if session.is_logged_in() {
+                None
+            } else {
+                claim_by(rank, place, session)
+            }
+        }
         None => None,
     }
 }

@@ -108,7 +108,8 @@ impl<'n, N: Net + Clock> SystemSockets<'n, N> {
         self.moment
     }
 
-    /// Waits until something may be done, or for so many milliseconds, and puts what the system then tells into `ready`, in its order.
+    /// Waits until something may be done, or for so many milliseconds, and puts what the system then tells into `ready`, in its order. The
+    /// system is asked each time, so what it tells comes also where something is told again.
     ///
     /// # Errors
     ///
@@ -117,7 +118,8 @@ impl<'n, N: Net + Clock> SystemSockets<'n, N> {
         requires { ready.old.items ≡ [] }
         ensures { OnErr result (ready.new ≡ ready.old) }
     {
-        if self.told.is_empty() && self.ask(within).is_err() {
+        let within = if self.told.is_empty() { within } else { 0 };
+        if self.ask(within).is_err() && self.told.is_empty() {
             return Err(Fault::Wait);
         }
         for _ in 0..MAX_EVENTS {

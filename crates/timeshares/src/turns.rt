@@ -1,5 +1,5 @@
 //! Who waits behind the others.
-ghost use Rattle.std.specs.Prelude.{◌≡◌, ◌==◌, [], not, filter, true, false, IfOk, IsTrue};
+ghost use Rattle.std.specs.Prelude.{◌≡◌, ◌==◌, [], not, filter, true, false, IfOk, IsTrue, option_copied};
 ghost use Rattle.std.specs.Ordering.{nat_cmp};
 ghost use Rattle.std.specs.BTreeMap as tree;
 ghost use Rattle.timeshares.specs.Order as o;
@@ -44,6 +44,13 @@ impl Turns {
     {
         self.shares.add(self.alloc, &account, now, micros);
         let _ = self.accounts.insert(id, account);
+    }
+
+    /// For which account a connection had its last act, where that is known.
+    pub fn account(&self, id: u32) -> Option<&Account>
+        ensures { option_copied result ≡ tree.get nat_cmp self.now.accounts id }
+    {
+        self.accounts.get(&id)
     }
 
     /// A connection is closed.
