@@ -6,7 +6,7 @@ store beside it, and killed.
 
 Prints a line for each trial, a last one that counts them, and ends with 1 where one failed. `tests/run` runs it, with --quick, which
 does a tenth of what is done many times. It needs python3 alone.
-The trials: says, examples, octets, rubbish, silent, fifty, crowd, deaf, guesses, hostile, waits, away, fails, rests, tells, killed,
+The trials: says, examples, octets, rubbish, silent, fifty, crowd, places, busy, share, deaf, guesses, hostile, waits, away, fails, rests, tells, killed,
 growth; without a word, all.
 """
 import fcntl, os, random, re, select, shutil, socket, subprocess, threading, time
@@ -229,6 +229,53 @@ def crowd():
     end(server)
     assert farewell == b'BYE "Idle."\r\n' and waited and last, (farewell, waited)
     return "the 51st is greeted while one of 50 isn't logged in, which hears BYE; else once one of them is gone, and the next one behind a LOGOUT"
+
+
+def places():
+    """Beside 300 clients that say nothing each new one is greeted and logs in at once; one that failed a login makes room first."""
+    store = new_store("alice")
+    server, port = store.daemon()
+    began = time.time()
+    silent = [connect(port) for _ in range(300)]
+    opened = time.time() - began
+    worst = max(timed(lambda: logged_in(port).close()) for _ in range(20))
+    guests = [connect(port) for _ in range(49)]
+    failed = connect(port)
+    assert failed.ask(b'AUTHENTICATE "PLAIN" "AGFsaWNlAHdyb25n"')[-1].startswith(b"NO")
+    next_one = connect(port)
+    farewell = failed.reply()[-1]
+    longest = guests[0]
+    stays = not select.select([longest.sock], [], [], 0.2)[0]
+    end(server)
+    assert opened < 15 and worst < 1, (opened, worst)
+    assert farewell == b'BYE "Idle."\r\n' and stays and next_one, (farewell, stays)
+    return f"300 silent clients come within {opened:.1f} s, and beside them a new one logs in within {worst * 1000:.0f} ms; who failed a login goes first"
+
+
+def busy():
+    """One user's clients that have the daemon check large scripts without end: another user's commands come between them."""
+    store = new_store("alice", "bob")
+    server, port = store.daemon()
+    text = b"".join(b'if header :is "subject" "%d" { keep; }\r\n' % at for at in range(6000))
+    command = b"CHECKSCRIPT {%d+}\r\n%s\r\n" % (len(text), text)
+    assert len(text) < 262_144
+    over = threading.Event()
+
+    def flood(number):
+        client = logged_in(port)
+        while not over.is_set():
+            client.ask(command[:-2])
+
+    floods = [threading.Thread(target=flood, args=[number], daemon=True) for number in range(20)]
+    other = logged_in(port, "bob")
+    for thread in floods:
+        thread.start()
+    time.sleep(1)
+    times = sorted(timed(lambda: other.ask(b"NOOP")) for _ in range(trials.some(200)))
+    over.set()
+    end(server)
+    assert times[-1] < 0.6, times[-5:]
+    return f"20 clients of one user with a script of {len(text)} octets each: another user's NOOP takes {times[-1] * 1000:.0f} ms at most"
 
 
 def share():
@@ -554,7 +601,7 @@ def growth():
     return f"resident {figures[first][0]} kB after {first} connections, {figures[last][0]} kB after {last}; descriptors {figures[first][1]} and {figures[last][1]}"
 
 
-TRIALS = [says, examples, octets, rubbish, silent, fifty, crowd, share, deaf, guesses, hostile, waits, away, fails, rests, tells, killed, growth]
+TRIALS = [says, examples, octets, rubbish, silent, fifty, crowd, places, busy, share, deaf, guesses, hostile, waits, away, fails, rests, tells, killed, growth]
 
 
 if __name__ == "__main__":
