@@ -461,7 +461,7 @@ def killed():
     return done.stdout.strip()
 
 
-TRIALS = {"dialogues": dialogues, "names": names, "scripts": scripts, "default": default, "circles": circles, "thousand": thousand, "room": room, "little_room": little_room, "broken_off": broken_off, "away": away,
+TRIALS = {"dialogues": dialogues, "names": names, "places": places, "scripts": scripts, "default": default, "circles": circles, "thousand": thousand, "room": room, "little_room": little_room, "broken_off": broken_off, "away": away,
           "sockets": sockets, "killed": killed}
 
 
