@@ -74,7 +74,7 @@ for n in 1 2 3; do printf 'Subject: %s\\n\\nHi\\n' $n | sendmail -f carol@exampl
 for _ in $(seq 30); do sleep 1; runuser -u sieved -- sieved queue --db /var/lib/sieved/mail.db --wait alice | grep -q '^3 ' && break; done
 """,
     "cp -p /var/backups/sieved/mail.db /var/backups/sieved/before-upgrade.db": """systemctl start sieved-send.timer
-dpkg-deb -R sieved_*_amd64.deb newer && sed -i 's/^Version: .*/&+1/' newer/DEBIAN/control && rm sieved_*_amd64.deb && dpkg-deb -b newer sieved_1.0.0+1_amd64.deb
+dpkg-deb -R sieved_*_amd64.deb newer && sed -i 's/^Version: .*/&+1/' newer/DEBIAN/control && rm sieved_*_amd64.deb && dpkg-deb -b newer sieved_newer_amd64.deb
 """,
 }}
 # What the first command of a page that begins so has to print, somewhere.
