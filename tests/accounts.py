@@ -327,8 +327,8 @@ def largest():
     base = sqlite3.connect(old.file)
     assert base.execute("SELECT max(length(flags)) FROM copy").fetchall() == [(12_899,)]
     (last,) = base.execute("SELECT max(id) FROM outgoing").fetchone()
-    base.execute("UPDATE outgoing SET message = message || CAST(? AS BLOB) WHERE id = 2", (b"x" * 33_700_000,))
-    base.execute("UPDATE message SET bytes = bytes || CAST(? AS BLOB) WHERE id = (SELECT max(id) FROM message)", (b"x" * 10_000_000,))
+    base.execute("UPDATE outgoing SET message = CAST(message || ? AS BLOB) WHERE id = 2", (b"x" * 33_700_000,))
+    base.execute("UPDATE message SET bytes = CAST(bytes || ? AS BLOB) WHERE id = (SELECT max(id) FROM message)", (b"x" * 10_000_000,))
     base.commit()
     base.close()
     text = wrote(old, "export", name)
