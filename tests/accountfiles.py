@@ -69,8 +69,8 @@ right("The flags of copies: a field more, and none where there are none; any oct
 right(parts=[MAIL, COPY + (b"\\Flagged $Label1",)], numbers=(1, 3, 1, 1))
 right(parts=[MAIL + (b"\\Seen",), COPY + (b"\\Seen \\Deleted",), (b"copy", 3, b"b", 1)], numbers=(1, 4, 1, 1))
 right(parts=[MAIL + (b"a,5:b\n\x00\xff",), COPY + (b" ",)], numbers=(1, 3, 1, 1))
-right(parts=[MAIL + (Long(b"x" * LIMIT),)], numbers=(1, 2, 1, 1))
-right("Limits: rounds, counters, numbers, moments, 300 of each part, a message of 33,554,432 octets", numbers=(2**32 - 1, 2**63 - 1, 2**63 - 1, 2**63 - 1))
+right(parts=[MAIL + (Long(b"x" * (LIMIT + 1)),)], numbers=(1, 2, 1, 1))
+right("Limits: rounds, counters, numbers, moments, 300 of each part", numbers=(2**32 - 1, 2**63 - 1, 2**63 - 1, 2**63 - 1))
 right(parts=[(b"reply", b"k", b"s", 2**63 - 1), (b"mail", 2**63 - 2, b"a", b""), (b"redirect", 2**63 - 2, b"", b"", b""), (b"notice", 2**63 - 2, 2**63 - 1, b"")],
       numbers=(1, 2**63 - 1, 2**63 - 1, 2**63 - 1))
 right(parts=[(b"script", b"s%03d" % n, b"stop;") for n in range(300)], active=b"s299")
@@ -79,11 +79,11 @@ right(parts=[(b"mail", n + 1, b"f%d" % n, b"m%d" % n) for n in range(300)], numb
 right(parts=[(b"mail", 1, b"f0", b"m")] + [(b"copy", n + 1, b"f%d" % n, 1) for n in range(1, 300)], numbers=(1, 301, 1, 1))
 right(parts=[(b"redirect" if n % 2 else b"answer", n + 1, b"s", b"t%d" % n, b"m") for n in range(300)], numbers=(1, 1, 301, 1))
 right(parts=[(b"notice", n + 1, n, b"told") for n in range(300)], numbers=(1, 1, 1, 301))
-right(parts=[(b"mail", 1, b"a", Long(b"x" * LIMIT))], numbers=(1, 2, 1, 1))
+print("\n# A field has any length: one octet more than a message may have, a reply of a long subject, 40,000,000 octets")
+for part in [(b"mail", 1, b"a", Long(b"x" * (LIMIT + 1))), (b"answer", 1, b"", b"bob@example.net", Long(b"x" * 33_700_000)), (b"redirect", 1, b"", b"", Long(b"x" * 40_000_000))]:
+    right(parts=[part], numbers=(1, 2, 2, 1))
 
 print("\n# Past a limit")
-wrong(account(parts=[(b"mail", 1, b"a", Long(b"x" * (LIMIT + 1)))], numbers=(1, 2, 1, 1)))
-wrong(account(parts=[MAIL + (Long(b"x" * (LIMIT + 1)),)], numbers=(1, 2, 1, 1)))
 for numbers in [(2**32, 1, 1, 1), (1, 2**63, 1, 1), (1, 1, 2**63, 1), (1, 1, 1, 2**63), (1, 0, 1, 1), (1, 1, 0, 1), (1, 1, 1, 0), (1, 2**64, 1, 1)]:
     wrong(account(numbers=numbers))
 for part, numbers in [((b"reply", b"k", b"s", 2**63), NUMBERS), (MAIL, NUMBERS), ((b"mail", 0, b"a", b""), (1, 2, 1, 1)), (REDIRECT, NUMBERS), (NOTICE, NUMBERS),
@@ -136,7 +136,7 @@ print("\n# Numbers in another form; all with the right sum")
 for number in [b"01", b"+1", b"-1", b"", b" 1", b"1 ", b"0x1", b"1.0", b"\xd9\xa1", b"00"]:
     wrong(account(numbers=(1, number, 1, 1)))
     wrong(account(parts=[(b"reply", b"k", b"s", number)]))
-for front in [b"05:", b"+5:", b"5;", b"5 :", b":", b"6:", b"4:", b"33554433:", b"18446744073709551621:", b"-0:"]:
+for front in [b"05:", b"+5:", b"5;", b"5 :", b":", b"6:", b"4:", b"33554433:", b"9223372036854775807:", b"9223372036854775808:", b"9223372036854775813:", b"18446744073709551621:", b"-0:"]:
     wrong(ended(HEAD[0] + [b"7:account,", front, b"alice,", b"1:a,1:s,1:d,\n"] + HEAD[2]))
 wrong(ended(HEAD[0] + [b"7:account,5:alice;1:a,1:s,1:d,\n"] + HEAD[2]))
 wrong(ended(HEAD[0] + [b"7:account,5:alice,1:a,1:s,1:d,\r\n"] + HEAD[2]))

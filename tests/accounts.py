@@ -309,6 +309,36 @@ def exported():
     return f"{len(text):,} octets, which come back the same; {len(there)} answers of words are the same"
 
 
+def largest():
+    """What a store holds at the most goes out and comes in as it was: a script, a message, flags and names at their limits, and rows past
+    them, as programs of before left them."""
+    name, folder, script = "a" * 64, "é" * 127 + "x", "\N{MATHEMATICAL FRAKTUR SMALL S}" * 128
+    flags = ", ".join(f'"k{number:03}{"f" * 124}"' for number in range(100))
+    text = f'require ["fileinto", "copy", "imap4flags", "vacation"]; fileinto :flags [{flags}] "{folder}"; redirect :copy "carol@example.com"; vacation "Away."; keep;\n#'.encode()
+    head = f"From: bob@example.net\r\nTo: {name}@example.org\r\nSubject: {'x' * 900}\r\n\r\n".encode()
+    old, new = (Store(users, PROGRAM[0]) for users in ([name], []))
+    wrote(old, "put", "--activate", name, script, data=text.ljust(262_143, b"x") + b"\n")
+    for number in range(31):
+        wrote(old, "put", name, f"s{number}", data=b"keep;")
+    told = f"file {folder}\nfile INBOX\nsend carol@example.com\n".encode()
+    for sender, said in (("bob@example.net", b"vacation sent\n"), ("b" * 1_012 + "@example.net", None)):
+        whole = wrote(old, "deliver", "--from", sender, "--to", f"{name}@example.org", name, data=head.ljust(33_554_432, b"x"))
+        assert whole.startswith(told) and said in (None, whole[len(told):]), whole
+    base = sqlite3.connect(old.file)
+    assert base.execute("SELECT max(length(flags)) FROM copy").fetchall() == [(12_899,)]
+    (last,) = base.execute("SELECT max(id) FROM outgoing").fetchone()
+    base.execute("UPDATE outgoing SET message = CAST(message || ? AS BLOB) WHERE id = 2", (b"x" * 33_700_000,))
+    base.execute("UPDATE message SET bytes = CAST(bytes || ? AS BLOB) WHERE id = (SELECT max(id) FROM message)", (b"x" * 10_000_000,))
+    base.commit()
+    base.close()
+    text = wrote(old, "export", name)
+    wrote(new, "import", data=text)
+    assert wrote(new, "export", name) == text, "what came in goes out as something else"
+    for words in ("folders", name), ("queue", name), ("show", name, folder, "2"), ("scripts", name, script), *(("queue", name, str(id)) for id in range(1, last + 1)):
+        assert wrote(new, *words) == wrote(old, *words), words
+    return f"{len(text):,} octets; the largest row has {len(wrote(new, 'queue', name, '2')):,}"
+
+
 def exported_daemon():
     """Beside a daemon: an account is printed and closed, and is that of the other daemon's store then, with its password."""
     with Host("alice", "bob") as old, Host() as new:
@@ -393,7 +423,7 @@ def check():
     return "lines for those that are wrong, and the worst status"
 
 
-TRIALS = {trial.__name__: trial for trial in (password, salts, address, closed, removal, users, scripts, put_refused, notices, exported, exported_daemon, exported_short, check)}
+TRIALS = {trial.__name__: trial for trial in (password, salts, address, closed, removal, users, scripts, put_refused, notices, exported, largest, exported_daemon, exported_short, check)}
 
 if __name__ == "__main__":
     trials.main(TRIALS, lambda program: PROGRAM.__setitem__(0, program))

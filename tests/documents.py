@@ -1,10 +1,10 @@
 #!/usr/bin/env python3
-"""Tries the documents: every command of README as it stands, the limits of their lines, their links, the form of decisions,
-the completion for bash, and that scripts can be run.
+"""Tries the documents: every command of README as it stands, the limits of their lines, their links, those of the package and its
+version, the form of decisions, the completion for bash, and that scripts can be run.
 
   tests/documents.py [--sieved SIEVED] [TRIAL ..]
 """
-import os, re, shutil, subprocess, tempfile
+import contextlib, importlib.machinery, importlib.util, io, os, re, subprocess, tempfile
 import trials
 
 TOP = os.path.dirname(os.path.dirname(os.path.abspath(__file__)))
@@ -100,33 +100,76 @@ def anchor(heading):
     return re.sub(r"[^\w\- ]", "", text).replace(" ", "-")
 
 
-def links():
+def links_below(root, pages):
+    """How many links these pages below a folder have to others."""
     count, wrong = 0, []
-    for page in pages():
-        text = "\n".join(line for line in lines_of(page) if not is_code(line))
+    read = lambda path: open(path, encoding="utf-8").read().split("\n")
+    for page in pages:
+        text = "\n".join(line for line in read(f"{root}/{page}") if not is_code(line))
         for target in re.findall(r"\]\(([^)\s]+)\)", text):
             if re.match(r"[a-z]+://", target):
                 continue
             count += 1
             path, _, name = target.partition("#")
-            full = os.path.normpath(f"{TOP}/{os.path.dirname(page)}/{path}") if path else f"{TOP}/{page}"
+            full = os.path.normpath(f"{root}/{os.path.dirname(page)}/{path}") if path else f"{root}/{page}"
             if not os.path.exists(full):
                 wrong.append(f"{page}: {target}")
-            elif name and name not in [anchor(line.lstrip("#")) for line in lines_of(os.path.relpath(full, TOP)) if line.startswith("#")]:
+            elif name and name not in [anchor(line.lstrip("#")) for line in read(full) if line.startswith("#")]:
                 wrong.append(f"{page}: {target}")
     if wrong:
         raise Exception(f"leads nowhere: {', '.join(wrong)}")
-    return f"{count} links"
+    return count
+
+
+def links():
+    return f"{links_below(TOP, pages())} links"
+
+
+def make():
+    """release/make, which builds the program that is tried."""
+    loader = importlib.machinery.SourceFileLoader("make", f"{TOP}/release/make")
+    loaded = importlib.util.module_from_spec(importlib.util.spec_from_loader("make", loader))
+    loader.exec_module(loaded)
+    loaded.PROGRAM = SIEVED
+    return loaded
+
+
+def package():
+    """What is made of a release has one version, and is newer than the release before; no link of its pages leads nowhere."""
+    trials.need("dpkg-deb", "tar", "gzip")
+    with tempfile.TemporaryDirectory() as room:
+        with contextlib.redirect_stdout(io.StringIO()):
+            make().main([room])
+        found = subprocess.run([SIEVED, "--version"], capture_output=True, text=True, check=True).stdout.split()[-1]
+        deb, tarball = f"{room}/sieved_{found}_amd64.deb", f"{room}/sieved-{found}-linux-amd64.tar.gz"
+        assert subprocess.run(["dpkg-deb", "-f", deb, "Version"], capture_output=True, text=True).stdout == f"{found}\n"
+        released = [line.split()[1] for line in lines_of("CHANGELOG.md") if re.match(r"## [0-9.]+ - [0-9-]+$", line)]
+        older = [version for version in released if version != found]
+        for version in older:
+            subprocess.run(["dpkg", "--compare-versions", found, "gt", version], check=True)
+        subprocess.run(["dpkg-deb", "-x", deb, f"{room}/deb"], check=True)
+        os.mkdir(f"{room}/tar")
+        subprocess.run(["tar", "-C", f"{room}/tar", "-xf", tarball], check=True)
+        count = 0
+        for root in f"{room}/deb/usr/share/doc/sieved", f"{room}/tar/sieved-{found}":
+            laid = [os.path.relpath(f"{folder}/{name}", root) for folder, _, names in os.walk(root) for name in names if name.endswith(".md")]
+            assert sorted(laid) == sorted(pages()), laid
+            count += links_below(root, laid)
+    return f"{found}, {count} links"
 
 
 def version():
     with open(f"{TOP}/crates/sievedwords/src/program.rt") as file:
-        (found,) = re.findall(r'VERSION: &str = "([0-9.]+)"', file.read())
+        (found,) = re.findall(r'VERSION: &str = "([^"]*)"', file.read())
     said = subprocess.run([SIEVED, "--version"], capture_output=True, text=True).stdout.split()
     page = [line for line in lines_of("docs/sieved.1") if line.startswith(".Os")]
-    newest = [line.split() for line in lines_of("CHANGELOG.md") if re.match(r"## [0-9]", line)][0]
-    if said[-1:] != [found] or page != [f".Os sieved {found}"] or newest[1] != found:
-        raise Exception(f"{found}, {said}, {page}, {newest}")
+    newest = [line for line in lines_of("CHANGELOG.md") if line.startswith("## ")][0]
+    named = re.findall(r"sieved_(\S+)_amd64\.deb", "\n".join(lines_of("README.md")))
+    plain = found.removesuffix("~dev")
+    day = "unreleased" if found != plain else "[0-9]{4}-[0-9]{2}-[0-9]{2}"
+    right = re.fullmatch(r"[0-9]+\.[0-9]+\.[0-9]+", plain) and re.fullmatch(rf"## {re.escape(plain)} - {day}", newest)
+    if not right or said != ["sieved", found] or page != [f".Os sieved {found}"] or named != [found]:
+        raise Exception(f"{found}, {said}, {page}, {newest}, {named}")
     return found
 
 
@@ -161,7 +204,7 @@ def modes():
     return f"{len(scripts)} scripts"
 
 
-TRIALS = {"modes": modes, "readme": readme, "lines": lines, "links": links, "decisions": decisions, "version": version, "completion": completion}
+TRIALS = {"modes": modes, "readme": readme, "lines": lines, "links": links, "decisions": decisions, "version": version, "package": package, "completion": completion}
 
 
 def program(path):

@@ -196,7 +196,10 @@ def two_stores():
             assert log_in(client, user, password).startswith(b"OK")
             assert client.put(user.encode(), b"keep;").startswith(b"OK")
             assert client.ask(b"LISTSCRIPTS")[:-1] == [b'"%s"\r\n' % user.encode()]
-    return "each user reaches the store of the own line"
+        assert log_in(host.secured(), "Carol@example.org", "other").startswith(b"OK")
+        listed = subprocess.run(["doveadm", "-c", f"{host.room}/dovecot.conf", "user", "*"], capture_output=True, text=True).stdout.split()
+        assert listed == ["alice", "carol"], listed
+    return "each user reaches the store of the own line, also by an address, and doveadm lists them"
 
 
 def over_the_daemon():

@@ -28,8 +28,8 @@ pub struct Contents {
 ///
 /// # Errors
 ///
-/// `NoUser` without an account and where it is closed; `Memory`; `Store`, also of an account that has no text: what it has once is longer
-/// than 33,554,432 octets, a counter is past 2^63 - 1, or the active script isn't there.
+/// `NoUser` without an account and where it is closed; `Memory`; `Store`, also of an account that has no text: a counter is past 2^63 - 1,
+/// or the active script isn't there.
 pub fn list_contents<S: Alter>(
     alloc: Global,
     store: &mut Store<S>,

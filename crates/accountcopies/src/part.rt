@@ -22,8 +22,7 @@ use std::alloc::Global;
 ///
 /// # Errors
 ///
-/// `Memory`; `Store`, also where the part isn't there, and where no text can have it: a field is longer than 33,554,432 octets, or a
-/// moment is past 2^63 - 1.
+/// `Memory`; `Store`, also where the part isn't there, and where no text can have it: a moment is past 2^63 - 1.
 pub fn read_part<S: Alter>(
     alloc: Global,
     store: &mut Store<S>,

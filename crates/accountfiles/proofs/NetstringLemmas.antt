@@ -1,5 +1,5 @@
 -- A netstring and a line of them tell where they end.
-use Rattle.std.proofs.Common.{◌≡◌, ℕ, ◌<◌, ◌≤◌, true, List, [], ◌∷◌, ◌++◌, length, take, decimal, Option, Some, None, refl, sym, ap, ◌∙◌, subst, arith, append_assoc}
+use Rattle.std.proofs.Common.{◌≡◌, ℕ, ◌<◌, true, List, [], ◌∷◌, ◌++◌, length, take, decimal, Option, Some, None, refl, sym, ap, ◌∙◌, subst, arith, append_assoc}
 use Rattle.std.specs.Prelude.{IfSome, IfNone}
 use Rattle.std.specs.Borrow.{Bor}
 use Rattle.std.specs.List.{flat_map, list_all}
@@ -40,9 +40,9 @@ module _ (octets digits rest : List ℕ) (size : ℕ) (cut : CutsAt 58 octets di
   taken_made None h = tt
   taken_made (Some t) h = netstring_made octets digits rest t.0.now t.1.now size cut read h.0 h.1
 
-  pub taken_small : (r : Taken) → size ≤ 33554432 → IfSome r (λ taken. (rest ≡ taken.0.now ++ 44 ∷ taken.1.now) × (length taken.0.now ≡ size)) → IfSome r (λ taken. IsField taken.0.now)
-  taken_small None small h = tt
-  taken_small (Some t) small h = omega (arith, h.1)
+  pub taken_small : (r : Taken) → IfSome r (λ taken. (rest ≡ taken.0.now ++ 44 ∷ taken.1.now) × (length taken.0.now ≡ size)) → IfSome r (λ taken. IsField taken.0.now)
+  taken_small None h = tt
+  taken_small (Some t) h = let small = (number_written digits size (sym read)).1 in omega (arith, h.1, small)
 
   pub taken_none : (r : Taken) → IfNone r ((text more : List ℕ) → length text ≡ size → rest ≡ text ++ 44 ∷ more → ⊥) → IfNone r ((text more : List ℕ) → IsField text → octets ≡ netstring text ++ more → ⊥)
   taken_none None h = λ text more small is.

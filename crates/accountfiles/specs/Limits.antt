@@ -16,7 +16,7 @@ texts_of (Copy number folder first flags) = folder ∷ flags_fields flags
 texts_of (Letter id kind sender target message) = sender ∷ target ∷ message ∷ []
 texts_of (Notice number moment text) = text ∷ []
 
--- the account gave its numbers, a database can have its moment, and no field is longer than a message may be
+-- the account gave its numbers, a database can have its moment, and its fields are such as memory holds
 pub record MayHave (numbers : Numbers) (part : Part) : Type 0 where
   pub given : fits numbers part ≡ true
   pub small : AreFields (part_fields part)

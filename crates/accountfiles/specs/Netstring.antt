@@ -1,5 +1,5 @@
 -- Texts with their lengths before them, and lines of them.
-use Rattle.std.specs.Prelude.{◌≡◌, ◌≤◌, ◌^◌, ◌==◌, ◌&&◌, Bool, true, not, ℕ, List, [], ◌∷◌, ◌++◌, length, decimal, nat_eq, nat_lt, Option, Some, None, cond, map}
+use Rattle.std.specs.Prelude.{◌≡◌, ◌<◌, ◌^◌, ◌==◌, ◌&&◌, Bool, true, not, ℕ, List, [], ◌∷◌, ◌++◌, length, decimal, nat_eq, nat_lt, Option, Some, None, cond, map}
 use Rattle.std.specs.Borrow.{Bor}
 use Rattle.std.specs.List.{flat_map, AllByRecursion, list_all}
 use Rattle.std.specs.Cmp.Lexicographic.{pointwise}
@@ -13,9 +13,9 @@ netstring text = decimal (length text) ++ 58 ∷ (text ++ 44 ∷ [])
 unfoldable pub line : List (List ℕ) → List ℕ
 line fields = flat_map netstring fields ++ 10 ∷ []
 
--- a field has a message's limit
+-- a field has any length that memory has: no text there is longer
 abbrev pub IsField : List ℕ → Type 0
-IsField text = length text ≤ 33554432
+IsField text = length text < 2 ^ 63
 
 abbrev pub AreFields : List (List ℕ) → Type 0
 AreFields = AllByRecursion IsField

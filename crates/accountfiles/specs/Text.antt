@@ -11,14 +11,14 @@ use Rattle.accountfiles.specs.declared.part.Part.{Part}
 
 -- ---- an account that has a text
 
--- the numbers are such that a database can have them, and no field is longer than a message may be
+-- the numbers are such that a database can have them, and the fields are such as memory holds
 pub record IsHead (head : Head) : Type 0 where
   pub rounds : head.numbers.rounds < 2 ^ 32
   pub counters : are_numbers head.numbers ≡ true
   pub small : AreFields (owner_fields head.owner)
 
--- what is had once is such, the numbers of each part were given, the parts stand in their order, the active script is one of them, and no field is
--- longer than a message may be
+-- what is had once is such, the numbers of each part were given, the parts stand in their order, the active script is one of them, and the fields
+-- are such as memory holds
 pub record IsAccount (head : Head) (parts : List Part) : Type 0 where
   pub once : IsHead head
   pub given : list_all (fits head.numbers) parts ≡ true

@@ -17,7 +17,7 @@ mod writing;
 pub use account_file::{AccountFile, ReadError};
 pub use head::{Head, Numbers, Owner};
 pub use limits::{is_head, may_have};
-pub use netstring::FIELD_LIMIT;
+pub use netstring::MAX_FIELD;
 pub use part::{LetterKind, Part};
 pub use reading::read;
 pub use writing::{Line, Writer};

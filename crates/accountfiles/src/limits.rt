@@ -1,4 +1,4 @@
-//! What a text can have: numbers that were given, and fields that are no longer than a message may be.
+//! What a text can have: numbers that were given, and fields of any length.
 ghost use Rattle.std.specs.Prelude.{◌≡◌, ◌<◌, ◌^◌, ◌↔◌, true, IsTrue, option_copied, option_to_list};
 ghost use Rattle.accountfiles.specs.Fields.{owner_fields, flags_fields};
 ghost use Rattle.accountfiles.specs.Limits.{MayHave, texts_of};
@@ -7,12 +7,12 @@ ghost use Rattle.accountfiles.specs.Order.{are_numbers as are_numbers_in};
 ghost use Rattle.accountfiles.specs.Text.{IsHead};
 
 use crate::head::{Head, Numbers, Owner};
-use crate::netstring::FIELD_LIMIT;
+use crate::netstring::MAX_FIELD;
 use crate::order::{are_numbers, fits};
 use crate::part::Part;
 use octets::Octets;
 
-/// Whether a text can have this once: its counters are at least 1 and below 2^63, and no field has more than 33,554,432 octets.
+/// Whether a text can have this once: its counters are at least 1 and below 2^63. No field is too long: none in memory has 2^63 octets.
 pub fn is_head(head: &Head) -> bool
     ensures { IsTrue result ↔ IsHead head.now }
 {
@@ -26,8 +26,8 @@ fn has_counters(numbers: Numbers) -> bool
     are_numbers(numbers)
 }
 
-/// Whether the text of an account with these numbers can have the part: the account gave its numbers, its moment is below 2^63, and
-/// no field has more than 33,554,432 octets.
+/// Whether the text of an account with these numbers can have the part: the account gave its numbers, and its moment is below 2^63. No
+/// field is too long: none in memory has 2^63 octets.
 pub fn may_have(numbers: Numbers, part: &Part) -> bool
     ensures { IsTrue result ↔ MayHave numbers part.now }
 {
@@ -37,7 +37,7 @@ pub fn may_have(numbers: Numbers, part: &Part) -> bool
 fn is_field(text: &Octets) -> bool
     ensures { IsTrue result ↔ IsField text.now }
 {
-    text.len() as u64 <= FIELD_LIMIT
+    text.len() as u64 <= MAX_FIELD
 }
 
 fn has_owner_fields(owner: &Owner) -> bool

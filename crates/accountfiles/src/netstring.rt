@@ -7,8 +7,8 @@ use itoa::Buffer;
 use octets::{Octets, parse_decimal, write_decimal};
 use std::alloc::AllocError;
 
-/// How many octets a field has at most: a message's limit.
-pub const FIELD_LIMIT: u64 = 33_554_432;
+/// How many octets a field has at most: no memory holds more.
+pub const MAX_FIELD: u64 = 9_223_372_036_854_775_807;
 
 /// Appends what stands before a text of that many octets.
 pub(crate) fn push_length(out: &mut Octets, count: usize) -> Result<(), AllocError>
@@ -66,9 +66,6 @@ pub(crate) fn take_netstring(octets: &[u8]) -> Option<(&[u8], &[u8])>
     let Some(size) = number_of(digits) else {
         return None;
     };
-    if size > FIELD_LIMIT {
-        return None;
-    }
     take_text(rest, size as usize)
 }
 

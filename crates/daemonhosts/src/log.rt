@@ -15,7 +15,7 @@ use octets::Octets;
 use std::alloc::{AllocError, Global};
 use std::io::ErrorKind;
 
-/// The first line: `sieved: begins version=1.0.0 pid=1234`.
+/// The first line: `sieved: begins version=2.0.0 pid=1234`.
 ///
 /// Lack of memory is the only error.
 pub fn of_beginning(alloc: Global, version: &[u8], pid: u32) -> Result<Octets, AllocError>

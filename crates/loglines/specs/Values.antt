@@ -5,9 +5,9 @@ use Rattle.std.specs.List.{list_all}
 abbrev pub is_between : ℕ → ℕ → ℕ → Bool
 is_between low high octet = nat_le low octet && nat_le octet high
 
--- one of `+-./<>@_`
+-- one of `+-./<>@_~`
 abbrev pub is_mark : ℕ → Bool
-is_mark octet = (octet == 43) || (octet == 45) || (octet == 46) || (octet == 47) || (octet == 60) || (octet == 62) || (octet == 64) || (octet == 95)
+is_mark octet = (octet == 43) || (octet == 45) || (octet == 46) || (octet == 47) || (octet == 60) || (octet == 62) || (octet == 64) || (octet == 95) || (octet == 126)
 
 -- a digit, a letter or a mark
 abbrev pub is_plain : ℕ → Bool

@@ -7,7 +7,7 @@ ghost use Rattle.loglines.specs.Values as values;
 use octets::Octets;
 use std::alloc::AllocError;
 
-/// Appends a value: as it is where it has letters, digits and `+-./<>@_` alone, and is not empty; else in quotation marks, each
+/// Appends a value: as it is where it has letters, digits and `+-./<>@_~` alone, and is not empty; else in quotation marks, each
 /// other octet as `\xHH`. Four times its octets and two at most, in one pass.
 ///
 /// # Errors
@@ -72,7 +72,7 @@ fn is_plain(octet: u8) -> bool
 fn is_mark(octet: u8) -> bool
     ensures { result ≡ values.is_mark octet }
 {
-    matches!(octet, b'+' | b'-' | b'.' | b'/' | b'<' | b'>' | b'@' | b'_')
+    matches!(octet, b'+' | b'-' | b'.' | b'/' | b'<' | b'>' | b'@' | b'_' | b'~')
 }
 
 fn is_between(low: u8, high: u8, octet: u8) -> bool

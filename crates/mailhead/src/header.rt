@@ -16,7 +16,7 @@ pub struct Field<'a> {
     pub raw: &'a [u8],
 }
 
-/// ReadsMessage a logical line as a field, if it is one.
+/// Reads a logical line as a field, if it is one.
 pub fn read_field(line: &[u8]) -> Option<Field<'_>>
     ensures { option_map fields.text_of result ≡ fields.field_of line.now }
 {

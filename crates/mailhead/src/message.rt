@@ -33,7 +33,7 @@ impl<'a> Model for Head<'a> {
 }
 
 impl<'a> Head<'a> {
-    /// ReadsMessage the header of a message, up to its first empty line or its end.
+    /// Reads the header of a message, up to its first empty line or its end.
     ///
     /// One pass over the header; the body isn't looked at. The memory is that of the fields.
     pub fn read(alloc: Global, message: &'a [u8]) -> Result<Head<'a>, AllocError>

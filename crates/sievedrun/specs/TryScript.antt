@@ -92,9 +92,15 @@ pub record Runs (envelope : Envelope) (when : When) (given : Option (List ℕ)) 
   pub output : LeavesOutput envelope when given output_old output_new ending
   pub errors : LeavesErrors errors_old errors_new ending
 
--- `try` with these words: a whole run at the moment and in the zone that they have, or at moment 0 and in UTC; or one of them is wrong, which is told, and
--- nothing is printed
-abbrev pub Tries : Option (List ℕ) → Option (List ℕ) → Envelope → Option (List ℕ) → Option (List ℕ) → Option (List ℕ) → Option (List ℕ) → Option (List ℕ) → ℕ → Type 0
-Tries at zone envelope given output_old output_new errors_old errors_new status =
-    ((when : When) × IsWhen at zone (Some 0) when × Runs envelope when given output_old output_new errors_old errors_new status)
-    ⊎ (HasNoWhen at zone × (status ≡ 64) × (output_new ≡ output_old) × IsWritten errors_old errors_new (line_of BadArgument))
+-- nothing was tried or printed, and this fault is told
+abbrev pub TriesNothing : Fault → Option (List ℕ) → Option (List ℕ) → Option (List ℕ) → Option (List ℕ) → ℕ → Type 0
+TriesNothing fault output_old output_new errors_old errors_new status =
+    (status ≡ status_of fault) × (output_new ≡ output_old) × IsWritten errors_old errors_new (line_of fault)
+
+-- `try` with these words: a whole run at the moment that they have, or else the clock's, and in the zone that they have, or in UTC; or one of them is wrong;
+-- or they have no moment, and the clock has none
+abbrev pub Tries : Option (List ℕ) → Option (List ℕ) → Option ℕ → Envelope → Option (List ℕ) → Option (List ℕ) → Option (List ℕ) → Option (List ℕ) → Option (List ℕ) → ℕ → Type 0
+Tries at zone clock envelope given output_old output_new errors_old errors_new status =
+    ((when : When) × IsWhen at zone clock when × Runs envelope when given output_old output_new errors_old errors_new status)
+    ⊎ (HasNoWhen at zone × TriesNothing BadArgument output_old output_new errors_old errors_new status)
+    ⊎ ((at ≡ None) × (clock ≡ None) × TriesNothing Stream output_old output_new errors_old errors_new status)

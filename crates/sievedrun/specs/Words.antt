@@ -656,7 +656,7 @@ pub record Works (Did : Result (Unit {0}) Fault → Type 0) (Reached : Type 0) (
 module _ (Denied : StoreLocation → Fault → Type 0) (Sunk : SinkError → Type 0) (Given : StoreLocation → Type 0) (At : List ℕ → Type 0) (cause : Fault → Option (List ℕ)) (clock : Option ℕ) (random default : Option (List ℕ)) (given left : Option (List ℕ)) (tells : Bool) (had has : List KeptMail) (out_old out_new err_old err_new : Option (List ℕ)) (status : ℕ) (old new : Database) where
   -- what comes of words that were read so: a script was tried; a word did its work; or the words ask for nothing, which is told
   abbrev pub RunsAs : Result Subcommand ReadError → Type 0
-  RunsAs (Ok (word.Try a)) = Tries (option_copied a.at) (option_copied a.zone) (envelope_with a.from.now a.to.now) given out_old out_new err_old err_new status × Untouched tells had has old new
+  RunsAs (Ok (word.Try a)) = Tries (option_copied a.at) (option_copied a.zone) clock (envelope_with a.from.now a.to.now) given out_old out_new err_old err_new status × Untouched tells had has old new
   RunsAs (Ok asked) = Works (λ ending. Does Denied Sunk clock random default given left tells had has out_old out_new asked ending old new) (Reaches Given At asked) cause err_old err_new status
   RunsAs (Err error) = IsUnread error out_old out_new err_old err_new status × Untouched tells had has old new × (left ≡ given)
 

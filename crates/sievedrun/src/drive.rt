@@ -72,7 +72,7 @@ pub fn drive<R: Read, W: Write, E: Write, K: Keeper, T: MailSink>(
         Err(error) => return tell_unread(alloc, error, output, errors),
     };
     match asked {
-        Subcommand::Try(asked) => try_script(alloc, asked, input, output, errors),
+        Subcommand::Try(asked) => try_script(alloc, asked, clock, input, output, errors),
         _ => {
             let done = act(
                 alloc, asked, input, output, keeper, clock, random, default, sink,
@@ -82,20 +82,22 @@ pub fn drive<R: Read, W: Write, E: Write, K: Keeper, T: MailSink>(
     }
 }
 
-/// Tries a script on a message that comes with this envelope at the moment of the words, or else at 0, and answers the exit status.
+/// Tries a script on a message that comes with this envelope at the moment of the words, or else of the clock, and answers the exit
+/// status.
 fn try_script<R: Read, W: Write, E: Write>(
     alloc: Global,
     asked: Try<'_>,
+    clock: Option<u64>,
     input: &mut R,
     output: &mut W,
     errors: &mut E,
 ) -> u8
     ensures unread { result ≡ 64 → input.new ≡ input.old }
     ensures reads { result ≡ 0 → ReadsToEnd R.remaining input.old input.new }
-    ensures runs { Tries (option_copied asked.entry.at) (option_copied asked.entry.zone) (envelope_with asked.entry.from.now asked.entry.to.now) (R.remaining input.old)
-        (W.contents output.old) (W.contents output.new) (E.contents errors.old) (E.contents errors.new) result }
+    ensures runs { Tries (option_copied asked.entry.at) (option_copied asked.entry.zone) clock (envelope_with asked.entry.from.now asked.entry.to.now)
+        (R.remaining input.old) (W.contents output.old) (W.contents output.new) (E.contents errors.old) (E.contents errors.new) result }
 {
-    let when = match when_of(asked.at, asked.zone, Some(0)) {
+    let when = match when_of(asked.at, asked.zone, clock) {
         Ok(when) => when,
         Err(fault) => return refuse(errors, fault),
     };

@@ -14,7 +14,6 @@ pub enum Argument {
     To,
     AnyTo,
     At,
-    TrialAt,
     Zone,
     Default,
     Salt,
@@ -100,7 +99,6 @@ impl Argument {
             | Argument::To
             | Argument::AnyTo
             | Argument::At
-            | Argument::TrialAt
             | Argument::Zone
             | Argument::Default
             | Argument::Salt
@@ -141,7 +139,7 @@ impl Argument {
             Argument::Wait => "wait",
             Argument::From => "from",
             Argument::To | Argument::AnyTo => "to",
-            Argument::At | Argument::TrialAt => "at",
+            Argument::At => "at",
             Argument::Zone => "zone",
             Argument::Default => "default",
             Argument::Salt => "salt",
@@ -188,11 +186,7 @@ impl Argument {
             | Argument::AndClose => "",
             Argument::Separator => ".|/",
             Argument::From | Argument::To | Argument::AnyTo => "A",
-            Argument::At
-            | Argument::TrialAt
-            | Argument::Number
-            | Argument::Sessions
-            | Argument::Until => "N",
+            Argument::At | Argument::Number | Argument::Sessions | Argument::Until => "N",
             Argument::Zone => "ZONE",
             Argument::Most | Argument::MostRows => "K",
             Argument::Smtp => "ADDRESS:PORT|PATH",
@@ -221,7 +215,6 @@ impl Argument {
             Argument::To => "The envelope's recipient",
             Argument::AnyTo => "The envelope's recipient [default: none]",
             Argument::At => "Seconds since 1970 [default: the clock]",
-            Argument::TrialAt => "Seconds since 1970 [default: 0]",
             Argument::Zone =>
                 "The zone: +HHMM, or a rule as CET-1CEST,M3.5.0,M10.5.0/3 [default: +0000]",
             Argument::Default => "The script for accounts without an active one",
@@ -269,7 +262,6 @@ impl Argument {
                 | Argument::From
                 | Argument::AnyTo
                 | Argument::At
-                | Argument::TrialAt
                 | Argument::Zone
                 | Argument::Default
                 | Argument::AnyId

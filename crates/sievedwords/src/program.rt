@@ -3,8 +3,8 @@ use crate::subcommand::Word;
 use clap::Command;
 use std::alloc::{AllocError, Global};
 
-/// The program's version.
-pub const VERSION: &str = "1.0.0";
+/// The program's version, as a package has it: what ends with `~dev` is before that version.
+pub const VERSION: &str = "2.0.0~dev";
 
 /// The program with all words.
 pub fn sieved<'a>(alloc: Global) -> Result<Command<'a>, AllocError> {

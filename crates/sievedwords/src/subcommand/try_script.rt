@@ -14,7 +14,7 @@ Status 0: said. 64: wrong words. 65: not valid, or no such input. 75: memory, in
     arguments: &[
         Argument::From,
         Argument::AnyTo,
-        Argument::TrialAt,
+        Argument::At,
         Argument::Zone,
     ],
 };
@@ -26,7 +26,7 @@ pub struct Try<'a> {
     pub from: &'a [u8],
     /// The envelope's recipient.
     pub to: &'a [u8],
-    /// The moment in seconds since 1970, in decimal; 0 where it is left out.
+    /// The moment in seconds since 1970, in decimal; the clock's where it is left out.
     pub at: Option<&'a str>,
     /// The host's zone; UTC where it is left out.
     pub zone: Option<&'a str>,
@@ -39,7 +39,7 @@ impl<'a> Try<'a> {
         Try {
             from: given.address(Argument::From),
             to: given.address(Argument::AnyTo),
-            at: given.value(Argument::TrialAt),
+            at: given.value(Argument::At),
             zone: given.value(Argument::Zone),
         }
     }

@@ -1,23 +1,22 @@
--- The script was tried with the envelope, or there was no memory for one; or a value of the words is none.
-use Rattle.std.proofs.Common.{◌≡◌, None, Some, Err, inl, inr, refl, sym, ap, ◌∙◌, subst}
+-- The script was tried with the envelope, or there was no memory for one; or a value of the words is none; or the clock has no moment.
+use Rattle.std.proofs.Common.{◌≡◌, Err, inl, inr, refl, ap, ◌∙◌, subst}
 use Rattle.sievedrun.specs.Faults.{memory, status_of, line_of}
 use Rattle.sievedrun.specs.Streams.{IsWritten}
-use Rattle.sievedrun.specs.TryScript.{Runs}
+use Rattle.sievedrun.specs.TryScript.{Runs, TriesNothing}
 use Rattle.sievedrun.specs.declared.fault.Fault.{Fault}
+use Rattle.sievedrun.specs.declared.fault.Fault.TheVariants.{BadArgument, Stream}
 use Rattle.sievedrun.proofs.WordLemmas.{kept_same}
 use Rattle.sievedrun.proofs.drive.try_script.Goals as goal
 
 pub returns-in-Err-clause-runs : goal.returns-in-Err-clause-runs
 returns-in-Err-clause-runs g c =
     elim c.in-Err.ensures.fault [
-      | inl bad ↦ inr (
-        bad.1,
-        c.refuse.ensures.status ∙ ap status_of bad.0,
-        refl,
-        subst (λ (fault : Fault). IsWritten (g.E.Write.contents c.args.errors.now) (g.E.Write.contents c.refuse.new.errors) (line_of fault)) bad.0 c.refuse.ensures.line,
-      )
-      | inr clock ↦ let no : Some 0 ≡ None = clock.2 in absurd (cc)
+      | inl bad ↦ inr (inl (bad.1, nothing BadArgument bad.0))
+      | inr late ↦ inr (inr (late.1, late.2, nothing Stream late.0))
     ]
+  where
+    nothing : (fault : Fault) → c.in-Err.fault ≡ fault → TriesNothing fault (g.W.Write.contents c.args.output.now) (g.W.Write.contents c.args.output.now) (g.E.Write.contents c.args.errors.now) (g.E.Write.contents c.refuse.new.errors) c.refuse.result
+    nothing fault is = (c.refuse.ensures.status ∙ ap status_of is, refl, subst (λ (told : Fault). IsWritten (g.E.Write.contents c.args.errors.now) (g.E.Write.contents c.refuse.new.errors) (line_of told)) is c.refuse.ensures.line)
 
 pub returns-in-Ok-envelope_of-clause-runs : goal.returns-in-Ok-envelope_of-clause-runs
 returns-in-Ok-envelope_of-clause-runs g c =
