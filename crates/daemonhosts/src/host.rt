@@ -130,7 +130,6 @@ impl<'a, N: Net + time::Clock, E: Write + Drop, K: Keeper + Drop, T: MailSink + 
 
     /// An act begins.
     fn begin_act(&mut self)
-        ensures { StillShown K.S.Store K.tells K.holds self.old.held self.new.held }
         ensures same { self.new.held ≡ self.old.held }
         ensures default { self.new.default ≡ self.old.default }
     {
@@ -146,7 +145,9 @@ impl<'a, N: Net + time::Clock, E: Write + Drop, K: Keeper + Drop, T: MailSink + 
             return;
         };
         self.begin_act();
-        self.long |= micros > MAX_STEP;
+        if micros > MAX_STEP {
+            self.long = true;
+        }
         self.news.note_slow(what, &account, micros);
         let now = self.sockets.now();
         self.turns.charge(id, account, now, micros);
@@ -181,7 +182,7 @@ impl<'a, N: Net + time::Clock, E: Write + Drop, K: Keeper + Drop, T: MailSink + 
         ensures same { self.new.held ≡ self.old.held }
         ensures default { self.new.default ≡ self.old.default }
     {
-        match clients.session(id).and_then(|session| session.user()) {
+        match user_of(clients, id) {
             Some(user) => self.end_act_of(id, user, b"command"),
             None => self.end_act(id, Account::Guests, b"command"),
         }
@@ -333,6 +334,14 @@ impl<'a, N: Net + time::Clock, E: Write + Drop, K: Keeper + Drop, T: MailSink + 
         let refusal = self.held.give_back();
         let now = self.sockets.now();
         self.news.note_given(refusal, self.held.cause(), now);
+    }
+}
+
+/// Who is logged in at a client of ManageSieve, if somebody is.
+fn user_of(clients: &Clients, id: u32) -> Option<&[u8]> {
+    match clients.session(id) {
+        Some(session) => session.user(),
+        None => None,
     }
 }
 
