@@ -9,5 +9,4 @@ pub mod Truth
 pub mod Indexes
 pub mod Joined
 pub mod Outcomes
-pub mod Mailboxes
 pub mod Runs

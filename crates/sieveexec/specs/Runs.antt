@@ -10,18 +10,19 @@ use Rattle.sieveexec.specs.declared.machine.Turn.TheVariants.{Next, Stopped}
 use Rattle.sieveexec.specs.declared.machine.Turn.TheVariants as turn
 use Rattle.sieveexec.specs.declared.run_state.RunState.{RunState}
 use Rattle.sieveexec.specs.declared.outcome.Failure.{Failure}
-use Rattle.sieveexec.specs.declared.outcome.Failure.TheVariants.{TwoVacations, TooManyRedirects}
+use Rattle.sieveexec.specs.declared.outcome.Failure.TheVariants.{TwoVacations, TooManyRedirects, TooManyMailboxes}
 use Rattle.sieveexec.specs.declared.outcome.Outcome.{Outcome}
 use Rattle.sieveexec.specs.declared.outcome.Outcome.TheVariants.{Done, Failed}
 
 -- what was done so far
 abbrev pub run_state_of : RunState → RunStateSpec
-run_state_of state = record { filed = state.filed; flags = state.flags; sent = state.sent; reply = state.reply; cancelled = state.cancelled }
+run_state_of state = record { filed = state.filed.items; flags = state.flags; sent = state.sent; reply = state.reply; cancelled = state.cancelled }
 
 -- why a run failed
 abbrev pub failure_view : Failure → FailureSpec
 failure_view TwoVacations = F.TwoVacations
 failure_view TooManyRedirects = F.TooManyRedirects
+failure_view TooManyMailboxes = F.TooManyMailboxes
 
 -- how a run stands after an action
 abbrev pub flow_of : Option Failure → RunStateSpec → Flow

@@ -2,7 +2,8 @@
 ghost use Rattle.std.specs.Prelude.{◌≡◌, ℕ, ◌<◌, ◌+◌, ◌^◌, Option, Some, length, IfOk, OnOk};
 ghost use Rattle.sieveexec.specs.Truth.{truth_at};
 ghost use Rattle.sieveexec.specs.Runs.{run_state_of, outcome_view, after_turn, MovesOn};
-ghost use Rattle.sievesyntax.specs.Meaning.{Done, actions_of};
+ghost use Rattle.sievesyntax.specs.RunState.{Going};
+ghost use Rattle.sievesyntax.specs.Meaning.{ended};
 ghost use Rattle.sievecode.specs.Instructions.{instr_view};
 ghost use Rattle.sievecode.specs.Jumps.{LeadsForward, Run, jumps, turn as turn_of};
 
@@ -62,7 +63,7 @@ pub fn run(alloc: Global, code: &Code<'_>, mail: &Mail<'_>) -> Result<Outcome, A
 impl<'m, 'a> Machine<'m, 'a> {
     /// The outcome of a run that is over.
     fn finish(self, alloc: Global) -> Result<Outcome, AllocError>
-        ensures { IfOk result (λ done. outcome_view done ≡ Done (actions_of (run_state_of self.entry.state))) }
+        ensures { IfOk result (λ done. outcome_view done ≡ ended (Going (run_state_of self.entry.state))) }
     {
         self.state.finish(alloc)
     }

@@ -1,5 +1,5 @@
 -- What `imap4flags` says and does (RFC 5232), and near misses.
-use Rattle.std.proofs.Common.{◌≡◌, ◌∙◌, ◌∷◌, ℕ, Bool, true, false, List, [], Some, None, refl, ap, lit≤}
+use Rattle.std.proofs.Common.{◌≡◌, ◌∙◌, ◌∷◌, ◌||◌, ℕ, Bool, true, false, List, [], Some, None, refl, ap, lit≤}
 use Rattle.std.specs.Prelude.{codes, cond, length, nat_lt}
 use Rattle.mailflags.specs.Flags.{has}
 use Rattle.mailflags.specs.declared.placement.Placement.{Placement}
@@ -22,8 +22,9 @@ use Rattle.sievesyntax.specs.Before.{IsUnflaggedCheck, IsUnflaggedAction, EachIn
 use Rattle.sievesyntax.specs.Chains.{Chain}
 use Rattle.sievesyntax.specs.Languages.{lexeme_in, is_unflagged_capability, today, unflagged}
 use Rattle.sievesyntax.specs.Lexemes.{tag}
-use Rattle.sievesyntax.specs.Meaning.{Outcome, Done, outcome}
-use Rattle.sievesyntax.specs.RunState.{RunState, max_flagged, as_filed}
+use Rattle.sievesyntax.specs.Meaning.{Outcome, Done, Failed, done_by, ended, outcome}
+use Rattle.sievesyntax.specs.RunState.{RunState, TooManyMailboxes, Going, max_mailboxes, is_filed, has_room, with_filed, flags_given}
+use Rattle.sievesyntax.specs.RunState as F
 use Rattle.sievesyntax.specs.Positional.{one_list}
 use Rattle.sievesyntax.specs.Table.{SaysHasFlag, IsPlainCommand}
 use Rattle.sievesyntax.specs.Tags.{IsTagValue, IsAllowed}
@@ -148,9 +149,23 @@ given_in_place truth = refl
 given_none : (truth : RunState → Check → Bool) → outcome truth (in_row (SetFlag (codes "\\Seen" ∷ []) ∷ (Keep (Some (codes "" ∷ [])) ∷ []))) ≡ done (into (codes "INBOX") ∷ [])
 given_none truth = refl
 
--- one copy in a mailbox, with the flags of the first filing
-filed_once : (truth : RunState → Check → Bool) → outcome truth (in_row (Keep None ∷ (SetFlag (codes "\\Seen" ∷ []) ∷ (Keep None ∷ [])))) ≡ done (into (codes "INBOX") ∷ [])
+-- one copy in a mailbox, where it was, with the flags of the last filing (RFC 5232), be there none
+filed_once : (truth : RunState → Check → Bool) → outcome truth (in_row (Keep None ∷ (SetFlag (codes "\\Seen" ∷ []) ∷ (Keep None ∷ [])))) ≡ done (flagged (codes "INBOX") (codes "\\Seen") ∷ [])
 filed_once truth = refl
+
+bared : (truth : RunState → Check → Bool) → outcome truth (in_row (SetFlag (codes "\\Seen" ∷ []) ∷ (Keep None ∷ (Keep (Some (codes "" ∷ [])) ∷ [])))) ≡ done (into (codes "INBOX") ∷ [])
+bared truth = refl
+
+-- `x`
+abbrev copied : Action
+copied = FileInto (record { mailbox = codes "x"; copy = true; create = false; flags = None })
+
+filed_first_again : (truth : RunState → Check → Bool) → outcome truth (in_row (copied ∷ (Keep None ∷ (SetFlag (codes "\\Seen" ∷ []) ∷ (copied ∷ []))))) ≡ done (flagged (codes "x") (codes "\\Seen") ∷ (into (codes "INBOX") ∷ []))
+filed_first_again truth = refl
+
+-- the implicit keep is the last filing
+kept_last : (truth : RunState → Check → Bool) → outcome truth (in_row (FileInto (record { mailbox = codes "inbox"; copy = true; create = false; flags = None }) ∷ (SetFlag (codes "\\Seen" ∷ []) ∷ []))) ≡ done (flagged (codes "INBOX") (codes "\\Seen") ∷ [])
+kept_last truth = refl
 
 -- ---- what a test sees
 
@@ -181,11 +196,21 @@ not_run = refl
 no_test : EachAsksIn IsUnflaggedCheck (asking Discard Discard) → ⊥
 no_test each = each.1.0.0
 
--- ---- how many copies have flags
+-- ---- into how many mailboxes a message goes
 
--- the hundredth copy has its own, and the next one has none
-hundredth : (filed : List Placement) (new : Placement) → length filed ≡ 99 → as_filed filed new ≡ new
-hundredth filed new many = ap (λ n. record new { flags = cond (nat_lt n max_flagged) new.flags [] }) many
+-- there may be a hundredth one, and no other behind it; one that is there may be again
+hundredth : (filed : List Placement) (mailbox : List ℕ) → length filed ≡ 99 → has_room filed mailbox ≡ true
+hundredth filed mailbox many = ap (λ n. nat_lt n max_mailboxes || is_filed filed mailbox) many
 
-behind_hundred : (filed : List Placement) (new : Placement) → length filed ≡ 100 → (as_filed filed new).flags ≡ []
-behind_hundred filed new many = ap (λ n. cond (nat_lt n max_flagged) new.flags []) many
+behind_hundred : (filed : List Placement) (mailbox : List ℕ) → length filed ≡ 100 → is_filed filed mailbox ≡ false → has_room filed mailbox ≡ false
+behind_hundred filed mailbox many new = ap (λ n. nat_lt n max_mailboxes || is_filed filed mailbox) many ∙ new
+
+hundred_again : (filed : List Placement) (mailbox : List ℕ) → length filed ≡ 100 → is_filed filed mailbox ≡ true → has_room filed mailbox ≡ true
+hundred_again filed mailbox many there = ap (λ n. nat_lt n max_mailboxes || is_filed filed mailbox) many ∙ there
+
+-- so the implicit keep fails behind a hundred others, unless it is cancelled
+one_too_many : (state : RunState) → has_room state.filed (codes "INBOX") ≡ false → ended (Going (record state { cancelled = false })) ≡ Failed TooManyMailboxes
+one_too_many state full = ap (λ room. done_by (cond room (Going (record state { filed = with_filed state.filed (flagged (codes "INBOX") (flags_given None state)); cancelled = false })) (F.Failed TooManyMailboxes))) full
+
+just_enough : (state : RunState) → ended (Going (record state { cancelled = true })) ≡ done_by (Going (record state { cancelled = true }))
+just_enough state = refl

@@ -20,7 +20,7 @@ use Rattle.sievesyntax.specs.Languages.{Language, is_capability_before, is_forme
 use Rattle.sievesyntax.specs.Lexemes.{lexemes_of}
 use Rattle.sievesyntax.specs.Meaning.{holds, ended, outcome}
 use Rattle.sievesyntax.specs.Means.{MeansIn}
-use Rattle.sievesyntax.specs.RunState.{RunState, at_first, max_targets, TwoVacations, Flow, Going, Stopped, Failed, and_then, cancelled_after, same_target, sent_to, replied_by, performed}
+use Rattle.sievesyntax.specs.RunState.{RunState, at_first, max_targets, TwoVacations, TooManyMailboxes, Flow, Going, Stopped, Failed, and_then, inbox, mailbox_named, has_room, with_filed, flags_given, cancelled_after, filed_into, same_target, sent_to, replied_by, performed}
 use Rattle.sievesyntax.specs.Trace.{Trace, then_runs, runs_at, runs_by, runs_branch_by, runs_all_by, actions_run, in_turn_by, in_turn}
 use Rattle.sievesyntax.specs.Tree.{TestTree, yes, no, looks, not_of, all_of, any_of, Tests, no_tests, test, CommandTree, require, choose, stop, act, Branches, no_branches, branch, Commands, no_commands, command}
 use Rattle.sievesyntax.specs.Valid.{is_named, is_capability, granted_by, is_subaddress, is_relational, is_numeric, MayPart, MayMatch, MayCheck, MayTest, MayAllTest, MayAct, MayStand, MayBranch, MayAllStand, required, after_requires, IsValid, IsValidIn}
@@ -436,10 +436,18 @@ replied_cancelled args state = step state.reply
     step None = refl
     step (Some _) = refl
 
+filed_cancelled : (mailbox flags : List ℕ) (copy : Bool) (state : RunState) → with_cancelled (cancelled_after copy state) (filed_into mailbox flags copy state) ≡ filed_into mailbox flags copy state
+filed_cancelled mailbox flags copy state = step (has_room state.filed mailbox)
+  where
+    step : (room : Bool) → with_cancelled (cancelled_after copy state) (cond room (Going (record state { filed = with_filed state.filed (record { mailbox = mailbox; flags = flags }); cancelled = cancelled_after copy state })) (Failed TooManyMailboxes))
+        ≡ cond room (Going (record state { filed = with_filed state.filed (record { mailbox = mailbox; flags = flags }); cancelled = cancelled_after copy state })) (Failed TooManyMailboxes)
+    step true = refl
+    step false = refl
+
 cancelled_is : (action : Action) (state : RunState) → with_cancelled (cancelled_by action state) (performed action state) ≡ performed action state
-cancelled_is (Keep given) state = refl
+cancelled_is (Keep given) state = filed_cancelled inbox (flags_given given state) false state
 cancelled_is Discard state = refl
-cancelled_is (FileInto filing) state = refl
+cancelled_is (FileInto filing) state = filed_cancelled (mailbox_named filing.mailbox) (flags_given filing.flags state) filing.copy state
 cancelled_is (Redirect redirect) state = sent_cancelled redirect.target redirect.copy state
 cancelled_is (Vacation args) state = replied_cancelled args state
 cancelled_is (SetFlag texts) state = refl

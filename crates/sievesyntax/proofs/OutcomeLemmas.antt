@@ -6,9 +6,10 @@ use Rattle.std.specs.Cmp.{IsEquivalence}
 use Rattle.std.specs.Cmp.Lexicographic.{pointwise}
 use Rattle.std.proofs.lemmas.Bool.{ltb-true}
 use Rattle.std.proofs.lemmas.Cmp.{nat_list_eq_equiv}
-use Rattle.std.proofs.lemmas.List.{length-append, map-append}
-use Rattle.std.proofs.lemmas.List.Elements.{All-push}
+use Rattle.std.proofs.lemmas.List.{length-append, length-map, map-append}
+use Rattle.std.proofs.lemmas.List.Elements.{All-cons, All-head, All-tail}
 use Rattle.std.proofs.lemmas.Map.Keys.{IsDistinct-push}
+use Rattle.std.proofs.lemmas.Slice.Eq.{bytes_eq-Decides}
 use Rattle.mailflags.specs.Flags.{AreFlags, added, written}
 use Rattle.mailflags.specs.declared.placement.Placement.{Placement}
 use Rattle.mailflags.proofs.FlagLemmas.{no_flags, added_flags, removed_flags}
@@ -18,8 +19,8 @@ use Rattle.sievesyntax.specs.declared.tree.action.Action.TheVariants.{Keep, Disc
 use Rattle.sievesyntax.specs.declared.tree.checks.Check.{Check}
 use Rattle.sievesyntax.specs.declared.tree.vacation.VacArgs.{VacArgs}
 use Rattle.sievesyntax.specs.Before.{IsUnflaggedAction}
-use Rattle.sievesyntax.specs.RunState.{RunState, at_first, max_targets, max_flagged, as_filed, TwoVacations, TooManyRedirects, Flow, Going, Stopped, Failed, and_then, inbox, mailbox_named, with_filed, flags_given, cancelled_after, filed_into, same_target, sent_to, replied_by, performed}
-use Rattle.sievesyntax.specs.Meaning.{ended, outcome}
+use Rattle.sievesyntax.specs.RunState.{RunState, at_first, max_targets, max_mailboxes, TwoVacations, TooManyRedirects, TooManyMailboxes, Flow, Going, Stopped, Failed, and_then, inbox, mailbox_named, is_filed, has_room, with_filed, flags_given, cancelled_after, filed_into, same_target, sent_to, replied_by, performed}
+use Rattle.sievesyntax.specs.Meaning.{Actions, actions_of, done_by, ended, outcome}
 use Rattle.sievesyntax.specs.Trace.{actions_run, in_turn, KeepsImplicitly, OnDone, NamesWithoutRepeats, FilesIntoInboxAlone, FilesWithoutFlags, NamesFlags, FilesWithFlags}
 use Rattle.sievesyntax.specs.Tree.{Commands}
 use Rattle.sievesyntax.proofs.TraceLemmas.{outcome_in_turn}
@@ -48,7 +49,8 @@ mailboxes_of filed = map (λ (one : Placement). one.mailbox) filed
 pub record IsOrderly (state : RunState) : Type 0 where
   pub mailboxes : IsDistinct (pointwise nat_eq) (mailboxes_of state.filed)
   pub addresses : IsDistinct same_target state.sent
-  pub few : length state.sent ≤ max_targets
+  pub few_mailboxes : length state.filed ≤ max_mailboxes
+  pub few_addresses : length state.sent ≤ max_targets
 
 -- the same address, by both parts
 both : (a b : Bool) → (a && b) ≡ true → (a ≡ true) × (b ≡ true)
@@ -73,24 +75,106 @@ any_mailbox : (p : List ℕ → Bool) (filed : List Placement) → list_any p (m
 any_mailbox p [] = refl
 any_mailbox p (one ∷ more) = λ i. p one.mailbox || any_mailbox p more i
 
-mailbox_once : (filed : List Placement) (new : Placement) → IsDistinct (pointwise nat_eq) (mailboxes_of filed) → IsDistinct (pointwise nat_eq) (mailboxes_of (with_filed filed new))
-mailbox_once filed new once = step (list_any (λ there. pointwise nat_eq there.mailbox new.mailbox) filed) refl
+-- where a mailbox has a copy, one more adds no mailbox
+filed_again : (filed : List Placement) (new : Placement) → is_filed filed new.mailbox ≡ true → mailboxes_of (with_filed filed new) ≡ mailboxes_of filed
+filed_again [] new is = absurd (cc is)
+filed_again (there ∷ more) new is = step (filed_again more new) (pointwise nat_eq there.mailbox new.mailbox) refl is
   where
-    step : (there : Bool) → list_any (λ there. pointwise nat_eq there.mailbox new.mailbox) filed ≡ there → IsDistinct (pointwise nat_eq) (mailboxes_of (cond there filed (filed ++ as_filed filed new ∷ [])))
-    step true is = once
-    step false is =
-        subst (IsDistinct (pointwise nat_eq)) (sym (map-append (λ (one : Placement). one.mailbox) filed (as_filed filed new ∷ [])))
-        (IsDistinct-push nat_list_eq_equiv (mailboxes_of filed) new.mailbox once (turned nat_list_eq_equiv new.mailbox (mailboxes_of filed) ∙ any_mailbox (λ there. pointwise nat_eq there new.mailbox) filed ∙ is))
+    step : (is_filed more new.mailbox ≡ true → mailboxes_of (with_filed more new) ≡ mailboxes_of more) → (same : Bool) → pointwise nat_eq there.mailbox new.mailbox ≡ same
+        → (same || is_filed more new.mailbox) ≡ true → mailboxes_of (cond same (new ∷ more) (there ∷ with_filed more new)) ≡ there.mailbox ∷ mailboxes_of more
+    step later true same is = ap (λ (l : List ℕ). l ∷ mailboxes_of more) (sym ((bytes_eq-Decides there.mailbox new.mailbox).0 same))
+    step later false same is = ap (λ l. there.mailbox ∷ l) (later is)
 
-files : (mailbox flags : List ℕ) (copy : Bool) (state : RunState) → IsOrderly state → IsOrderly (filed_into mailbox flags copy state)
-files mailbox flags copy state so = record { mailboxes = mailbox_once state.filed (record { mailbox = mailbox; flags = flags }) so.mailboxes; addresses = so.addresses; few = so.few }
+-- and where it has none, it comes behind the others
+pub filed_anew : (filed : List Placement) (new : Placement) → is_filed filed new.mailbox ≡ false → with_filed filed new ≡ filed ++ new ∷ []
+filed_anew [] new is = refl
+filed_anew (there ∷ more) new is = step (filed_anew more new) (pointwise nat_eq there.mailbox new.mailbox) is
+  where
+    step : (is_filed more new.mailbox ≡ false → with_filed more new ≡ more ++ new ∷ []) → (same : Bool)
+        → (same || is_filed more new.mailbox) ≡ false → cond same (new ∷ more) (there ∷ with_filed more new) ≡ there ∷ (more ++ new ∷ [])
+    step later true is = absurd (cc is)
+    step later false is = ap (λ l. there ∷ l) (later is)
+
+-- what is so of each copy and of the new one
+all_filed : (P : Placement → Type 0) (filed : List Placement) (new : Placement) → All P filed → P new → All P (with_filed filed new)
+all_filed P [] new all so = All-cons P new [] so all
+all_filed P (there ∷ more) new all so = step (all_filed P more new (All-tail P there more all) so) (pointwise nat_eq there.mailbox new.mailbox)
+  where
+    step : All P (with_filed more new) → (same : Bool) → All P (cond same (new ∷ more) (there ∷ with_filed more new))
+    step later true = All-cons P new more so (All-tail P there more all)
+    step later false = All-cons P there (with_filed more new) (All-head P there more all) later
+
+-- a copy in a mailbox
+abbrev copy_in : List ℕ → List ℕ → Placement
+copy_in mailbox flags = record { mailbox = mailbox; flags = flags }
+
+-- a state with one copy more
+abbrev with_copy : List ℕ → List ℕ → (copy : Bool) → RunState → RunState
+with_copy mailbox flags copy state = record state { filed = with_filed state.filed (copy_in mailbox flags); cancelled = cancelled_after copy state }
+
+same_mailboxes : (mailbox flags : List ℕ) (copy : Bool) (state : RunState) → is_filed state.filed mailbox ≡ true → IsOrderly state → IsOrderly (with_copy mailbox flags copy state)
+same_mailboxes mailbox flags copy state is so =
+    let same = filed_again state.filed (copy_in mailbox flags) is in
+    let long = length-map (with_filed state.filed (copy_in mailbox flags)) (λ (one : Placement). one.mailbox) in
+    let was = length-map state.filed (λ (one : Placement). one.mailbox) in
+    record {
+      mailboxes = subst (IsDistinct (pointwise nat_eq)) (sym same) so.mailboxes;
+      addresses = so.addresses;
+      few_mailboxes = omega (arith, ap length same, long, was, so.few_mailboxes);
+      few_addresses = so.few_addresses;
+    }
+
+one_mailbox : (mailbox flags : List ℕ) (copy : Bool) (state : RunState) → nat_lt (length state.filed) max_mailboxes ≡ true → is_filed state.filed mailbox ≡ false → IsOrderly state → IsOrderly (with_copy mailbox flags copy state)
+one_mailbox mailbox flags copy state free is so =
+    let new = copy_in mailbox flags in
+    let longer = filed_anew state.filed new is in
+    let long = length-append state.filed (new ∷ []) in
+    let low = ltb-true (length state.filed) max_mailboxes free in
+    record {
+      mailboxes =
+          subst (IsDistinct (pointwise nat_eq)) (sym (ap mailboxes_of longer ∙ map-append (λ (one : Placement). one.mailbox) state.filed (new ∷ [])))
+          (IsDistinct-push nat_list_eq_equiv (mailboxes_of state.filed) mailbox so.mailboxes
+          (turned nat_list_eq_equiv mailbox (mailboxes_of state.filed) ∙ any_mailbox (λ there. pointwise nat_eq there mailbox) state.filed ∙ is));
+      addresses = so.addresses;
+      few_mailboxes = omega (arith, ap length longer, long, low);
+      few_addresses = so.few_addresses;
+    }
+
+files : (mailbox flags : List ℕ) (copy : Bool) (state : RunState) → IsOrderly state → OnState IsOrderly (filed_into mailbox flags copy state)
+files mailbox flags copy state so = step (nat_lt (length state.filed) max_mailboxes) (is_filed state.filed mailbox) refl refl
+  where
+    step : (room there : Bool) → nat_lt (length state.filed) max_mailboxes ≡ room → is_filed state.filed mailbox ≡ there
+        → OnState IsOrderly (cond (room || there) (Going (with_copy mailbox flags copy state)) (Failed TooManyMailboxes))
+    step true true free is = same_mailboxes mailbox flags copy state is so
+    step false true free is = same_mailboxes mailbox flags copy state is so
+    step true false free is = one_mailbox mailbox flags copy state free is so
+    step false false free is = tt
+
+-- what filing keeps, the implicit keep keeps too, and then it is so of what is done
+module _ (P : RunState → Type 0) (Q : Actions → Type 0) (shows : (state : RunState) → P state → Q (actions_of state)) where
+  on_done : (flow : Flow) → OnState P flow → OnDone Q (done_by flow)
+  on_done (Going state) so = shows state so
+  on_done (Stopped state) so = shows state so
+  on_done (Failed failure) so = tt
+
+  keeps_in_the_end : (state : RunState) → P state → OnState P (filed_into inbox (flags_given None state) true state) → OnDone Q (ended (Going state))
+  keeps_in_the_end state so filed = step state.cancelled
+    where
+      step : (cancelled : Bool) → OnDone Q (done_by (cond cancelled (Going state) (filed_into inbox (flags_given None state) true state)))
+      step true = shows state so
+      step false = on_done (filed_into inbox (flags_given None state) true state) filed
+
+  in_the_end : ((state : RunState) → P state → OnState P (filed_into inbox (flags_given None state) true state)) → (flow : Flow) → OnState P flow → OnDone Q (ended flow)
+  in_the_end keeps (Going state) so = keeps_in_the_end state so (keeps state so)
+  in_the_end keeps (Stopped state) so = keeps_in_the_end state so (keeps state so)
+  in_the_end keeps (Failed failure) so = tt
 
 sends : (target : Addr) (copy : Bool) (state : RunState) → IsOrderly state → OnState IsOrderly (sent_to target copy state)
 sends target copy state so = step (list_any (λ there. same_target there target) state.sent) (nat_lt (length state.sent) max_targets) refl refl
   where
     step : (there room : Bool) → list_any (λ there. same_target there target) state.sent ≡ there → nat_lt (length state.sent) max_targets ≡ room
         → OnState IsOrderly (cond there (Going (record state { cancelled = cancelled_after copy state })) (cond room (Going (record state { sent = state.sent ++ target ∷ []; cancelled = cancelled_after copy state })) (Failed TooManyRedirects)))
-    step true room is free = record { mailboxes = so.mailboxes; addresses = so.addresses; few = so.few }
+    step true room is free = record { mailboxes = so.mailboxes; addresses = so.addresses; few_mailboxes = so.few_mailboxes; few_addresses = so.few_addresses }
     step false false is free = tt
     step false true is free =
         let longer = length-append state.sent (target ∷ []) in
@@ -98,7 +182,8 @@ sends target copy state so = step (list_any (λ there. same_target there target)
         record {
           mailboxes = so.mailboxes;
           addresses = IsDistinct-push target_equiv state.sent target so.addresses (turned target_equiv target state.sent ∙ is);
-          few = omega arith;
+          few_mailboxes = so.few_mailboxes;
+          few_addresses = omega arith;
         }
 
 replies : (args : VacArgs) (state : RunState) → IsOrderly state → OnState IsOrderly (replied_by args state)
@@ -108,38 +193,27 @@ replies args state so = step state.reply
       | None ↦ Going (record state { reply = Some args })
       | Some _ ↦ Failed TwoVacations
     ])
-    step None = record { mailboxes = so.mailboxes; addresses = so.addresses; few = so.few }
+    step None = record { mailboxes = so.mailboxes; addresses = so.addresses; few_mailboxes = so.few_mailboxes; few_addresses = so.few_addresses }
     step (Some _) = tt
 
 orderly : (action : Action) (state : RunState) → Unit {0} → IsOrderly state → OnState IsOrderly (performed action state)
 orderly (Keep given) state may so = files inbox (flags_given given state) false state so
-orderly Discard state may so = record { mailboxes = so.mailboxes; addresses = so.addresses; few = so.few }
+orderly Discard state may so = record { mailboxes = so.mailboxes; addresses = so.addresses; few_mailboxes = so.few_mailboxes; few_addresses = so.few_addresses }
 orderly (FileInto filing) state may so = files (mailbox_named filing.mailbox) (flags_given filing.flags state) filing.copy state so
 orderly (Redirect redirect) state may so = sends redirect.target redirect.copy state so
 orderly (Vacation args) state may so = replies args state so
-orderly (SetFlag texts) state may so = record { mailboxes = so.mailboxes; addresses = so.addresses; few = so.few }
-orderly (AddFlag texts) state may so = record { mailboxes = so.mailboxes; addresses = so.addresses; few = so.few }
-orderly (RemoveFlag texts) state may so = record { mailboxes = so.mailboxes; addresses = so.addresses; few = so.few }
-
-in_the_end : (state : RunState) → IsOrderly state → OnDone NamesWithoutRepeats (ended (Going state))
-in_the_end state so = record { mailboxes = step state.cancelled; addresses = so.addresses; few = so.few }
-  where
-    step : (cancelled : Bool) → IsDistinct (pointwise nat_eq) (mailboxes_of (cond cancelled state.filed (with_filed state.filed (record { mailbox = inbox; flags = written state.flags }))))
-    step true = so.mailboxes
-    step false = mailbox_once state.filed (record { mailbox = inbox; flags = written state.flags }) so.mailboxes
+orderly (SetFlag texts) state may so = record { mailboxes = so.mailboxes; addresses = so.addresses; few_mailboxes = so.few_mailboxes; few_addresses = so.few_addresses }
+orderly (AddFlag texts) state may so = record { mailboxes = so.mailboxes; addresses = so.addresses; few_mailboxes = so.few_mailboxes; few_addresses = so.few_addresses }
+orderly (RemoveFlag texts) state may so = record { mailboxes = so.mailboxes; addresses = so.addresses; few_mailboxes = so.few_mailboxes; few_addresses = so.few_addresses }
 
 -- each mailbox and each address once
 pub named_once : (truth : RunState → Check → Bool) (commands : Commands) → OnDone NamesWithoutRepeats (outcome truth commands)
 unfolding IsDistinct
 named_once truth commands =
     subst (OnDone NamesWithoutRepeats) (sym (outcome_in_turn truth commands))
-    (step (in_turn (actions_run truth commands) at_first)
-    (kept_in_turn IsOrderly (λ action. Unit {0}) orderly (actions_run truth commands) (λ k other within. tt) at_first (record { mailboxes = tt; addresses = tt; few = omega arith })))
-  where
-    step : (flow : Flow) → OnState IsOrderly flow → OnDone NamesWithoutRepeats (ended flow)
-    step (Going state) so = in_the_end state so
-    step (Stopped state) so = in_the_end state so
-    step (Failed failure) so = tt
+    (in_the_end IsOrderly NamesWithoutRepeats (λ state so. record { mailboxes = so.mailboxes; addresses = so.addresses; few_mailboxes = so.few_mailboxes; few_addresses = so.few_addresses }) (λ state so. files inbox (flags_given None state) true state so)
+    (in_turn (actions_run truth commands) at_first)
+    (kept_in_turn IsOrderly (λ action. Unit {0}) orderly (actions_run truth commands) (λ k other within. tt) at_first (record { mailboxes = tt; addresses = tt; few_mailboxes = omega arith; few_addresses = omega arith })))
 
 -- the implicit keep is the only action
 pub record IsUntouched (state : RunState) : Type 0 where
@@ -165,10 +239,12 @@ untouched (AddFlag texts) state may so = record { filed = so.filed; sent = so.se
 untouched (RemoveFlag texts) state may so = record { filed = so.filed; sent = so.sent; kept = so.kept }
 
 untouched_end : (state : RunState) → IsUntouched state → OnDone FilesIntoInboxAlone (ended (Going state))
-untouched_end state so = record {
-  filed = (λ i. mailboxes_of (cond (so.kept i) (so.filed i) (with_filed (so.filed i) (record { mailbox = inbox; flags = written state.flags }))));
-  sent = so.sent;
-}
+untouched_end state so = step state.filed state.cancelled so.filed so.kept
+  where
+    step : (filed : List Placement) (cancelled : Bool) → filed ≡ [] → cancelled ≡ false → OnDone FilesIntoInboxAlone (ended (Going (record state { filed = filed; cancelled = cancelled })))
+    step [] true none kept = absurd (cc kept)
+    step [] false none kept = record { filed = refl; sent = so.sent }
+    step (one ∷ more) cancelled none kept = absurd (cc none)
 
 -- the implicit keep alone
 pub implicitly_kept : (truth : RunState → Check → Bool) (commands : Commands) → All KeepsImplicitly (actions_run truth commands) → OnDone FilesIntoInboxAlone (outcome truth commands)
@@ -191,22 +267,15 @@ record IsBare (state : RunState) : Type 0 where
   flags : state.flags ≡ []
   filed : All HasNone state.filed
 
-bare_more : (filed : List Placement) (new : Placement) → All HasNone filed → HasNone new → All HasNone (with_filed filed new)
-bare_more filed new bare so = step (list_any (λ there. pointwise nat_eq there.mailbox new.mailbox) filed)
-  where
-    cut : (room : Bool) → cond room new.flags [] ≡ []
-    cut true = so
-    cut false = refl
-
-    step : (there : Bool) → All HasNone (cond there filed (filed ++ as_filed filed new ∷ []))
-    step true = bare
-    step false = All-push HasNone filed (as_filed filed new) bare (cut (nat_lt (length filed) max_flagged))
-
 bare_given : (given : Option (List (List ℕ))) (state : RunState) → given ≡ None → IsBare state → flags_given given state ≡ []
 bare_given given state none so = ap (λ g. flags_given g state) none ∙ ap written so.flags
 
-bare_filed : (mailbox flags : List ℕ) (copy : Bool) (state : RunState) → flags ≡ [] → IsBare state → IsBare (filed_into mailbox flags copy state)
-bare_filed mailbox flags copy state none so = record { flags = so.flags; filed = bare_more state.filed (record { mailbox = mailbox; flags = flags }) so.filed none }
+bare_filed : (mailbox flags : List ℕ) (copy : Bool) (state : RunState) → flags ≡ [] → IsBare state → OnState IsBare (filed_into mailbox flags copy state)
+bare_filed mailbox flags copy state none so = step (has_room state.filed mailbox)
+  where
+    step : (room : Bool) → OnState IsBare (cond room (Going (with_copy mailbox flags copy state)) (Failed TooManyMailboxes))
+    step true = record { flags = so.flags; filed = all_filed HasNone state.filed (copy_in mailbox flags) so.filed none }
+    step false = tt
 
 bare_sent : (target : Addr) (copy : Bool) (state : RunState) → IsBare state → OnState IsBare (sent_to target copy state)
 bare_sent target copy state so = step (list_any (λ there. same_target there target) state.sent) (nat_lt (length state.sent) max_targets)
@@ -237,23 +306,12 @@ bare_action (SetFlag texts) state may so = absurd may
 bare_action (AddFlag texts) state may so = absurd may
 bare_action (RemoveFlag texts) state may so = absurd may
 
-bare_end : (state : RunState) → IsBare state → OnDone FilesWithoutFlags (ended (Going state))
-bare_end state so = record { bare = step state.cancelled }
-  where
-    step : (cancelled : Bool) → All HasNone (cond cancelled state.filed (with_filed state.filed (record { mailbox = inbox; flags = written state.flags })))
-    step true = so.filed
-    step false = bare_more state.filed (record { mailbox = inbox; flags = written state.flags }) so.filed (ap written so.flags)
-
 pub unflagged_bare : (truth : RunState → Check → Bool) (commands : Commands) → All IsUnflaggedAction (actions_run truth commands) → OnDone FilesWithoutFlags (outcome truth commands)
 unflagged_bare truth commands all =
     subst (OnDone FilesWithoutFlags) (sym (outcome_in_turn truth commands))
-    (step (in_turn (actions_run truth commands) at_first)
+    (in_the_end IsBare FilesWithoutFlags (λ state so. record { bare = so.filed }) (λ state so. bare_filed inbox (flags_given None state) true state (bare_given None state refl so) so)
+    (in_turn (actions_run truth commands) at_first)
     (kept_in_turn IsBare IsUnflaggedAction bare_action (actions_run truth commands) all at_first (record { flags = refl; filed = λ k other within. absurd (omega (arith, within)) })))
-  where
-    step : (flow : Flow) → OnState IsBare flow → OnDone FilesWithoutFlags (ended flow)
-    step (Going state) so = bare_end state so
-    step (Stopped state) so = bare_end state so
-    step (Failed failure) so = tt
 
 -- ---- whatever the texts are, the flags of a copy are flags
 
@@ -261,23 +319,16 @@ record IsFlagged (state : RunState) : Type 0 where
   flags : AreFlags state.flags
   filed : All NamesFlags state.filed
 
-named_more : (filed : List Placement) (new : Placement) → All NamesFlags filed → NamesFlags new → All NamesFlags (with_filed filed new)
-named_more filed new all so = step (list_any (λ there. pointwise nat_eq there.mailbox new.mailbox) filed)
-  where
-    cut : (room : Bool) → (flags : List (List ℕ)) × AreFlags flags × (cond room new.flags [] ≡ written flags)
-    cut true = so
-    cut false = ([], no_flags, refl)
+named_given : (given : Option (List (List ℕ))) (state : RunState) → IsFlagged state → (flags : List (List ℕ)) × AreFlags flags × (flags_given given state ≡ written flags)
+named_given None state so = (state.flags, so.flags, refl)
+named_given (Some texts) state so = (added [] texts, added_flags [] texts no_flags, refl)
 
-    step : (there : Bool) → All NamesFlags (cond there filed (filed ++ as_filed filed new ∷ []))
-    step true = all
-    step false = All-push NamesFlags filed (as_filed filed new) all (cut (nat_lt (length filed) max_flagged))
-
-flagged_filed : (mailbox : List ℕ) (given : Option (List (List ℕ))) (copy : Bool) (state : RunState) → IsFlagged state → IsFlagged (filed_into mailbox (flags_given given state) copy state)
-flagged_filed mailbox given copy state so = record { flags = so.flags; filed = named_more state.filed (record { mailbox = mailbox; flags = flags_given given state }) so.filed (step given) }
+flagged_filed : (mailbox : List ℕ) (given : Option (List (List ℕ))) (copy : Bool) (state : RunState) → IsFlagged state → OnState IsFlagged (filed_into mailbox (flags_given given state) copy state)
+flagged_filed mailbox given copy state so = step (has_room state.filed mailbox)
   where
-    step : (given : Option (List (List ℕ))) → (flags : List (List ℕ)) × AreFlags flags × (flags_given given state ≡ written flags)
-    step None = (state.flags, so.flags, refl)
-    step (Some texts) = (added [] texts, added_flags [] texts no_flags, refl)
+    step : (room : Bool) → OnState IsFlagged (cond room (Going (with_copy mailbox (flags_given given state) copy state)) (Failed TooManyMailboxes))
+    step true = record { flags = so.flags; filed = all_filed NamesFlags state.filed (copy_in mailbox (flags_given given state)) so.filed (named_given given state so) }
+    step false = tt
 
 flagged_sent : (target : Addr) (copy : Bool) (state : RunState) → IsFlagged state → OnState IsFlagged (sent_to target copy state)
 flagged_sent target copy state so = step (list_any (λ there. same_target there target) state.sent) (nat_lt (length state.sent) max_targets)
@@ -308,20 +359,9 @@ flagged_action (SetFlag texts) state may so = record { flags = added_flags [] te
 flagged_action (AddFlag texts) state may so = record { flags = added_flags state.flags texts so.flags; filed = so.filed }
 flagged_action (RemoveFlag texts) state may so = record { flags = removed_flags state.flags texts so.flags; filed = so.filed }
 
-flagged_end : (state : RunState) → IsFlagged state → OnDone FilesWithFlags (ended (Going state))
-flagged_end state so = record { named = step state.cancelled }
-  where
-    step : (cancelled : Bool) → All NamesFlags (cond cancelled state.filed (with_filed state.filed (record { mailbox = inbox; flags = written state.flags })))
-    step true = so.filed
-    step false = named_more state.filed (record { mailbox = inbox; flags = written state.flags }) so.filed (state.flags, so.flags, refl)
-
 pub flags_named : (truth : RunState → Check → Bool) (commands : Commands) → OnDone FilesWithFlags (outcome truth commands)
 flags_named truth commands =
     subst (OnDone FilesWithFlags) (sym (outcome_in_turn truth commands))
-    (step (in_turn (actions_run truth commands) at_first)
+    (in_the_end IsFlagged FilesWithFlags (λ state so. record { named = so.filed }) (λ state so. flagged_filed inbox None true state so)
+    (in_turn (actions_run truth commands) at_first)
     (kept_in_turn IsFlagged (λ action. Unit {0}) flagged_action (actions_run truth commands) (λ k other within. tt) at_first (record { flags = no_flags; filed = λ k other within. absurd (omega (arith, within)) })))
-  where
-    step : (flow : Flow) → OnState IsFlagged flow → OnDone FilesWithFlags (ended flow)
-    step (Going state) so = flagged_end state so
-    step (Stopped state) so = flagged_end state so
-    step (Failed failure) so = tt

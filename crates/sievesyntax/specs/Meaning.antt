@@ -1,11 +1,10 @@
 -- What commands do, over any truth of the tests that look at the message and at what was done so far (RFC 5228, 2.10, 3; RFC 5232, 4).
 use Rattle.std.specs.Prelude.{Bool, true, false, not, cond, ◌&&◌, ◌||◌, List, Option}
-use Rattle.mailflags.specs.Flags.{written}
 use Rattle.mailflags.specs.declared.placement.Placement.{Placement}
 use Rattle.addrparts.specs.declared.address.Addr.{Addr}
 use Rattle.sievesyntax.specs.declared.tree.checks.Check.{Check}
 use Rattle.sievesyntax.specs.declared.tree.vacation.VacArgs.{VacArgs}
-use Rattle.sievesyntax.specs.RunState.{RunState, at_first, Failure, Flow, and_then, inbox, with_filed, performed}
+use Rattle.sievesyntax.specs.RunState.{RunState, at_first, Failure, Flow, and_then, kept_implicitly, performed}
 use Rattle.sievesyntax.specs.RunState as F
 use Rattle.sievesyntax.specs.Tree.{TestTree, yes, no, looks, not_of, all_of, any_of, Tests, no_tests, test, CommandTree, require, choose, stop, act, Branches, no_branches, branch, Commands, no_commands, command}
 
@@ -58,13 +57,18 @@ pub data Outcome : Type 0 where
   Done : Actions → Outcome
   Failed : Failure → Outcome
 
--- the implicit keep comes last, unless it is cancelled, with the flags that are set in the end
 abbrev pub actions_of : RunState → Actions
-actions_of so_far = record { filed = cond so_far.cancelled so_far.filed (with_filed so_far.filed (record { mailbox = inbox; flags = written so_far.flags })); sent = so_far.sent; reply = so_far.reply }
+actions_of so_far = record { filed = so_far.filed; sent = so_far.sent; reply = so_far.reply }
 
+abbrev pub done_by : Flow → Outcome
+done_by (F.Going so_far) = Done (actions_of so_far)
+done_by (F.Stopped so_far) = Done (actions_of so_far)
+done_by (F.Failed failure) = Failed failure
+
+-- the implicit keep comes last
 abbrev pub ended : Flow → Outcome
-ended (F.Going so_far) = Done (actions_of so_far)
-ended (F.Stopped so_far) = Done (actions_of so_far)
+ended (F.Going so_far) = done_by (kept_implicitly so_far)
+ended (F.Stopped so_far) = done_by (kept_implicitly so_far)
 ended (F.Failed failure) = Failed failure
 
 -- the outcome of a script, where the tests that look at the message and at what was done so far have this truth

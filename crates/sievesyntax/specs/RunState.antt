@@ -1,5 +1,5 @@
 -- What a script has done so far, and what an action does (RFC 5228, 2.10, 4).
-use Rattle.std.specs.Prelude.{ℕ, Bool, true, false, cond, ◌&&◌, List, [], ◌∷◌, ◌++◌, length, codes, nat_eq, nat_lt, Option, Some, None}
+use Rattle.std.specs.Prelude.{ℕ, Bool, true, false, cond, ◌&&◌, ◌||◌, List, [], ◌∷◌, ◌++◌, length, codes, nat_eq, nat_lt, Option, Some, None}
 use Rattle.std.specs.List.{list_any}
 use Rattle.std.specs.Cmp.Lexicographic.{pointwise}
 use Rattle.octets.specs.Ascii.{lowered}
@@ -10,10 +10,10 @@ use Rattle.sievesyntax.specs.declared.tree.action.Action.{Action}
 use Rattle.sievesyntax.specs.declared.tree.action.Action.TheVariants.{Keep, Discard, FileInto, Redirect, Vacation, SetFlag, AddFlag, RemoveFlag}
 use Rattle.sievesyntax.specs.declared.tree.vacation.VacArgs.{VacArgs}
 
--- what a script has done so far: the mailboxes that the message goes into, each with the flags of its copy, and the
--- addresses that it is sent to, each in the order of the first command that says so; the flags that are set, which a
--- copy gets that has none of its own (RFC 5232, 3); the answer to the sender, if there is one; and whether the implicit
--- keep is cancelled (RFC 5228, 2.10.2)
+-- what a script has done so far: the mailboxes that the message goes into, each with the flags that the last command gives
+-- its copy, and the addresses that it is sent to, each in the order of the first command that says so; the flags that are
+-- set, which a copy gets that has none of its own (RFC 5232, 3); the answer to the sender, if there is one; and whether the
+-- implicit keep is cancelled (RFC 5228, 2.10.2)
 pub record RunState : Type 0 where
   pub filed : List Placement
   pub flags : List (List ℕ)
@@ -26,10 +26,11 @@ abbrev pub at_first : RunState
 at_first = record { filed = []; flags = []; sent = []; reply = None; cancelled = false }
 
 -- why a run fails (RFC 5228, 2.10.6): a second `vacation` is run (RFC 5230, 4.7), or the message would be
--- sent to more than 16 addresses
+-- sent to more than 16 addresses, or filed into more than 100 mailboxes
 pub data Failure : Type 0 where
   TwoVacations : Failure
   TooManyRedirects : Failure
+  TooManyMailboxes : Failure
 
 -- how a run stands: it goes on, `stop` was run, or it failed
 pub data Flow : Type 0 where
@@ -51,17 +52,23 @@ inbox = codes "INBOX"
 abbrev pub mailbox_named : List ℕ → List ℕ
 mailbox_named name = cond (pointwise nat_eq (lowered name) (codes "inbox")) inbox name
 
--- how many copies of a message have flags at most: those of the first mailboxes that it goes into
-abbrev pub max_flagged : ℕ
-max_flagged = 100
+-- into how many mailboxes a message goes at most, that of the implicit keep among them
+abbrev pub max_mailboxes : ℕ
+max_mailboxes = 100
 
--- a copy as it stands behind these: behind so many it has no flags
-abbrev pub as_filed : List Placement → Placement → Placement
-as_filed filed new = record new { flags = cond (nat_lt (length filed) max_flagged) new.flags [] }
+-- whether a mailbox has a copy
+abbrev pub is_filed : List Placement → List ℕ → Bool
+is_filed filed mailbox = list_any (λ there. pointwise nat_eq there.mailbox mailbox) filed
 
--- one copy more, unless its mailbox has one: a message goes into a mailbox once (RFC 5228, 2.10.3)
+-- whether a message may go into a mailbox: one more may be, or it goes there already
+abbrev pub has_room : List Placement → List ℕ → Bool
+has_room filed mailbox = nat_lt (length filed) max_mailboxes || is_filed filed mailbox
+
+-- one copy more, behind the others; a message goes into a mailbox once (RFC 5228, 2.10.3), and so the last one's flags are
+-- those of the copy that is there, where it stands (RFC 5232: the last flags win)
 abbrev pub with_filed : List Placement → Placement → List Placement
-with_filed filed new = cond (list_any (λ there. pointwise nat_eq there.mailbox new.mailbox) filed) filed (filed ++ as_filed filed new ∷ [])
+with_filed [] new = new ∷ []
+with_filed (there ∷ more) new = cond (pointwise nat_eq there.mailbox new.mailbox) (new ∷ more) (there ∷ with_filed more new)
 
 -- the text that names a copy's flags: those that its `:flags` names, or without one those that are set (RFC 5232, 5)
 abbrev pub flags_given : Option (List (List ℕ)) → RunState → List ℕ
@@ -72,9 +79,16 @@ flags_given (Some texts) so_far = written (added [] texts)
 abbrev pub cancelled_after : (copy : Bool) → RunState → Bool
 cancelled_after copy so_far = cond copy so_far.cancelled true
 
--- filed into a mailbox, with these flags
-abbrev pub filed_into : List ℕ → List ℕ → (copy : Bool) → RunState → RunState
-filed_into mailbox flags copy so_far = record so_far { filed = with_filed so_far.filed (record { mailbox = mailbox; flags = flags }); cancelled = cancelled_after copy so_far }
+-- filed into a mailbox, with these flags, and into no more than may be
+abbrev pub filed_into : List ℕ → List ℕ → (copy : Bool) → RunState → Flow
+filed_into mailbox flags copy so_far =
+    cond (has_room so_far.filed mailbox)
+    (Going (record so_far { filed = with_filed so_far.filed (record { mailbox = mailbox; flags = flags }); cancelled = cancelled_after copy so_far }))
+    (Failed TooManyMailboxes)
+
+-- the implicit keep: the message goes into INBOX unless that is cancelled, with the flags that are set (RFC 5228, 2.10.2; RFC 5232, 5)
+abbrev pub kept_implicitly : RunState → Flow
+kept_implicitly so_far = cond so_far.cancelled (Going so_far) (filed_into inbox (flags_given None so_far) true so_far)
 
 -- the same local part and the same domain, by octets
 abbrev pub same_target : Addr → Addr → Bool
@@ -100,9 +114,9 @@ replied_by args so_far = elim so_far.reply [
 
 -- what an action does (RFC 5228, 4; RFC 3894; RFC 5230; RFC 5232)
 abbrev pub performed : Action → RunState → Flow
-performed (Keep given) so_far = Going (filed_into inbox (flags_given given so_far) false so_far)
+performed (Keep given) so_far = filed_into inbox (flags_given given so_far) false so_far
 performed Discard so_far = Going (record so_far { cancelled = true })
-performed (FileInto filing) so_far = Going (filed_into (mailbox_named filing.mailbox) (flags_given filing.flags so_far) filing.copy so_far)
+performed (FileInto filing) so_far = filed_into (mailbox_named filing.mailbox) (flags_given filing.flags so_far) filing.copy so_far
 performed (Redirect redirect) so_far = sent_to redirect.target redirect.copy so_far
 performed (Vacation args) so_far = replied_by args so_far
 performed (SetFlag texts) so_far = Going (record so_far { flags = added [] texts })

@@ -7,7 +7,7 @@ use Rattle.mailflags.specs.declared.placement.Placement.{Placement}
 use Rattle.sievesyntax.specs.declared.tree.action.Action.{Action}
 use Rattle.sievesyntax.specs.declared.tree.action.Action.TheVariants.{Vacation, SetFlag, AddFlag, RemoveFlag}
 use Rattle.sievesyntax.specs.declared.tree.checks.Check.{Check}
-use Rattle.sievesyntax.specs.RunState.{RunState, at_first, max_targets, Flow, Going, Stopped, Failed, and_then, inbox, same_target, performed}
+use Rattle.sievesyntax.specs.RunState.{RunState, at_first, max_targets, max_mailboxes, Flow, Going, Stopped, Failed, and_then, inbox, same_target, performed}
 use Rattle.sievesyntax.specs.Meaning.{holds, Actions, Outcome}
 use Rattle.sievesyntax.specs.Meaning as M
 use Rattle.sievesyntax.specs.Tree.{CommandTree, require, choose, stop, act, Branches, no_branches, branch, Commands, no_commands, command}
@@ -77,11 +77,12 @@ abbrev pub OnDone : (Actions → Type 0) → Outcome → Type 0
 OnDone P (M.Done actions) = P actions
 OnDone P (M.Failed failure) = Unit {0}
 
--- each mailbox and each address stands once, and there are no more addresses than there may be
+-- each mailbox and each address stands once, and there are no more than there may be
 pub record NamesWithoutRepeats (actions : Actions) : Type 0 where
   pub mailboxes : IsDistinct (pointwise nat_eq) (map (λ (one : Placement). one.mailbox) actions.filed)
   pub addresses : IsDistinct same_target actions.sent
-  pub few : length actions.sent ≤ max_targets
+  pub few_mailboxes : length actions.filed ≤ max_mailboxes
+  pub few_addresses : length actions.sent ≤ max_targets
 
 -- the message goes into INBOX and nowhere else
 pub record FilesIntoInboxAlone (actions : Actions) : Type 0 where

@@ -20,7 +20,7 @@ pub fn outcome_of_the_actions()
     ensures { (truth : RunState → Check → Bool) (tree : Commands) → outcome truth tree ≡ ended (in_turn (actions_run truth tree) at_first) }
 {}
 
-/// Where a script doesn't fail, each mailbox and each address stands once, and no more than 16 addresses
+/// Where a script doesn't fail, each mailbox and each address stands once, and no more than 100 mailboxes and 16 addresses
 /// (RFC 5228, 2.10.3).
 pub fn without_repeats()
     ensures { (truth : RunState → Check → Bool) (tree : Commands) → OnDone NamesWithoutRepeats (outcome truth tree) }
