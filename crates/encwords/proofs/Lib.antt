@@ -10,4 +10,6 @@ pub mod PieceLaws
 pub mod QuotedLaws
 pub mod WordLaws
 pub mod TextLaws
+pub mod WrittenLaws
 pub mod Examples
+pub mod WrittenExamples

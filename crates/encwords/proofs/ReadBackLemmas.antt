@@ -112,6 +112,10 @@ unfold_plain : (text : List ℕ) → list_all is_other text ≡ true → unfold_
 unfold_plain [] all = refl
 unfold_plain (octet ∷ rest) all = ap joined (cut_open (octet ∷ rest) (λ none. absurd (cc none)) all) ∙ append-nil (octet ∷ rest)
 
+-- a printable text unfolds to itself
+pub unfold_printable : (text : List ℕ) → list_all is_printable text ≡ true → unfold_of text ≡ text
+unfold_printable text printable = unfold_plain text (list_all-weaker is_printable is_other text printable_other printable)
+
 -- CRLF before a blank is removed
 unfold_crlf : (front rest : List ℕ) → list_all is_other front ≡ true → begins_blank rest ≡ true → unfold_of ((front ++ (13 ∷ 10 ∷ [])) ++ rest) ≡ front ++ unfold_of rest
 unfold_crlf front rest all blank =
@@ -276,8 +280,7 @@ plain_back text plain =
     let rest : (list_all is_printable text && not (has_mark text)) ≡ true = and_right (nat_le (length text) 200) _ plain in
     let printable : list_all is_printable text ≡ true = and_left _ _ rest in
     let no_mark : has_mark text ≡ false = not_true (has_mark text) (and_right (list_all is_printable text) (not (has_mark text)) rest) in
-    let others = list_all-weaker is_printable is_other text printable_other printable in
-    ap text_of (unfold_plain text others) ∙ (given_plain (runs_of text) (no_marks text no_mark) ∙ concat-runs_of text)
+    ap text_of (unfold_printable text printable) ∙ (given_plain (runs_of text) (no_marks text no_mark) ∙ concat-runs_of text)
 
 -- words are read back
 worded_back : (text value : List ℕ) → IsBytes text → IsUtf8 text → IsWorded text value → text_of (unfold_of value) ≡ text

@@ -123,19 +123,54 @@ nothing_left (octet ∷ rest) begins none = let nonblank : is_nonblank octet ≡
   present : {run : List ℕ} → octet ∷ run ≡ [] → ⊥
   present same = cc same
 
--- the blanks at the front of a text and the other octets after_word them give this
-pub given_step : (after_word : Bool) (text blanks rest run after : List ℕ) → blanks ≡ take (prefix_len is_blank text) text → rest ≡ drop (prefix_len is_blank text) text
-    → run ≡ take (prefix_len is_nonblank rest) rest → after ≡ drop (prefix_len is_nonblank rest) rest
-    → given_from after_word (runs_of text) ≡ cond (after_word && is_word run) [] blanks ++ (unwrap_or (word_of run) run ++ given_from (is_word run) (runs_of after))
-given_step after_word text blanks rest run after b r d a =
-    let blank : list_all is_blank blanks ≡ true = ap (list_all is_blank) b ∙ list_all-prefix is_blank text in
-    let nonblank : list_all is_nonblank run ≡ true = ap (list_all is_nonblank) d ∙ list_all-prefix is_nonblank rest in
-    let ends : begins_nonblank after ≡ false = begins_nonblank-is after ∙ (ap (begins is_nonblank) a ∙ stops is_nonblank rest) in
+-- a text is blanks, then other octets, then what begins with a blank or is nothing
+pub record IsFront (text blanks run after : List ℕ) : Type 0 where
+  pub blank : list_all is_blank blanks ≡ true
+  pub nonblank : list_all is_nonblank run ≡ true
+  pub ends : begins_nonblank after ≡ false
+  pub last : run ≡ [] → after ≡ []
+  pub whole : text ≡ blanks ++ (run ++ after)
+
+-- the blanks at the front of a text and the other octets after them
+pub front_cut : (text blanks rest run after : List ℕ) → blanks ≡ take (prefix_len is_blank text) text → rest ≡ drop (prefix_len is_blank text) text
+    → run ≡ take (prefix_len is_nonblank rest) rest → after ≡ drop (prefix_len is_nonblank rest) rest → IsFront text blanks run after
+front_cut text blanks rest run after b r d a =
     let left : begins is_blank rest ≡ false = ap (begins is_blank) r ∙ stops is_blank text in
-    let last = λ (none : run ≡ []). a ∙ nothing_left rest left (sym d ∙ none) in
     let past_blanks : rest ≡ run ++ after = sym (take-append-drop (prefix_len is_nonblank rest) rest) ∙ (ap (λ t. t ++ drop (prefix_len is_nonblank rest) rest) (sym d) ∙ ap (λ t. run ++ t) (sym a)) in
-    let whole : text ≡ blanks ++ (run ++ after) = sym (take-append-drop (prefix_len is_blank text) text) ∙ (ap (λ t. t ++ drop (prefix_len is_blank text) text) (sym b) ∙ ap (λ t. blanks ++ t) (sym r ∙ past_blanks)) in
-    ap (λ t. given_from after_word (runs_of t)) whole ∙ given_front after_word blanks run after blank nonblank ends last
+    record {
+      blank = ap (list_all is_blank) b ∙ list_all-prefix is_blank text;
+      nonblank = ap (list_all is_nonblank) d ∙ list_all-prefix is_nonblank rest;
+      ends = begins_nonblank-is after ∙ (ap (begins is_nonblank) a ∙ stops is_nonblank rest);
+      last = λ none. a ∙ nothing_left rest left (sym d ∙ none);
+      whole = sym (take-append-drop (prefix_len is_blank text) text) ∙ (ap (λ t. t ++ drop (prefix_len is_blank text) text) (sym b) ∙ ap (λ t. blanks ++ t) (sym r ∙ past_blanks));
+    }
+
+-- they give this
+pub given_step : (after_word : Bool) (text blanks run after : List ℕ) → IsFront text blanks run after
+    → given_from after_word (runs_of text) ≡ cond (after_word && is_word run) [] blanks ++ (unwrap_or (word_of run) run ++ given_from (is_word run) (runs_of after))
+given_step after_word text blanks run after front =
+    ap (λ t. given_from after_word (runs_of t)) front.whole ∙ given_front after_word blanks run after front.blank front.nonblank front.ends front.last
+
+-- what passes of the runs that they begin, where blanks pass
+passes_front : (p : List ℕ → Bool) (blanks run after : List ℕ) → list_all is_blank blanks ≡ true → list_all is_nonblank run ≡ true → begins_nonblank after ≡ false → (run ≡ [] → after ≡ [])
+    → p [] ≡ true → p blanks ≡ true → list_all p (runs_of (blanks ++ (run ++ after))) ≡ (p run && list_all p (runs_of after))
+passes_front p [] [] after blank nonblank ends last none pass = let end = last refl in rw (end, none) refl
+passes_front p [] (octet ∷ run) after blank nonblank ends last none pass =
+    ap (list_all p) (runs_nonblank (octet ∷ run) after (λ empty. absurd (cc empty)) nonblank ends)
+passes_front p (blank ∷ blanks) [] after all nonblank ends last none pass =
+    let end = last refl in
+    let runs = runs_blank (blank ∷ blanks) [] (λ empty. absurd (cc empty)) all refl in
+    rw (end, runs, none, pass) refl
+passes_front p (blank ∷ blanks) (octet ∷ run) after all nonblank ends last none pass =
+    let other : is_blank octet ≡ false = not_blank_from octet (and_left _ _ nonblank) in
+    let runs = runs_blank (blank ∷ blanks) ((octet ∷ run) ++ after) (λ empty. absurd (cc empty)) all other in
+    let more = runs_nonblank (octet ∷ run) after (λ empty. absurd (cc empty)) nonblank ends in
+    rw (runs, more, pass) refl
+
+pub passes_step : (p : List ℕ → Bool) (text blanks run after : List ℕ) → IsFront text blanks run after → p [] ≡ true → p blanks ≡ true
+    → list_all p (runs_of text) ≡ (p run && list_all p (runs_of after))
+passes_step p text blanks run after front none pass =
+    ap (λ t. list_all p (runs_of t)) front.whole ∙ passes_front p blanks run after front.blank front.nonblank front.ends front.last none pass
 
 -- one front more was read
 pub read_front : (value text with_blanks with_run rest blanks tail run after kept shown : List ℕ) (after_word before now : Bool) (word : Option (List ℕ))
@@ -146,7 +181,7 @@ pub read_front : (value text with_blanks with_run rest blanks tail run after kep
     → kept ≡ cond (after_word && before) [] blanks → shown ≡ unwrap_or word run → with_blanks ≡ text ++ kept → with_run ≡ with_blanks ++ shown
     → with_run ++ given_from now (runs_of after) ≡ value
 read_front value text with_blanks with_run rest blanks tail run after kept shown after_word before now word so_far b r d a w f n k s first second =
-    let step = given_step after_word rest blanks tail run after b r d a in
+    let step = given_step after_word rest blanks run after (front_cut rest blanks tail run after b r d a) in
     let more = given_from (is_word run) (runs_of after) in
     let known : is_some word ≡ is_word run = ap is_some w in
     let keeps : kept ≡ cond (after_word && is_word run) [] blanks = k ∙ ap (λ t. cond (after_word && t) [] blanks) (f ∙ known) in

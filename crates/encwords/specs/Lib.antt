@@ -4,4 +4,5 @@ pub mod Quoted
 pub mod Words
 pub mod Values
 pub mod Headers
+pub mod Written
 pub mod Laws

@@ -1,13 +1,14 @@
 //! Laws of the definitions, each the contract of a function that does nothing.
-ghost use Rattle.std.specs.Prelude.{◌≡◌, ◌↔◌, ℕ, List, IsUtf8, Some};
+ghost use Rattle.std.specs.Prelude.{◌≡◌, ◌↔◌, ℕ, List, IsUtf8, Some, false};
 ghost use Rattle.base64.specs.Engines.{standard};
 ghost use Rattle.base64.specs.GeneralPurpose.{IsBytes};
-ghost use Rattle.encwords.specs.Headers.{ArePieces, IsHeaderText};
+ghost use Rattle.encwords.specs.Headers.{ArePieces, IsHeaderText, has_mark};
 ghost use Rattle.encwords.specs.Quoted.{IsQEncoded, quoted_of};
 ghost use Rattle.encwords.specs.Runs.{AreRuns, runs_of};
 ghost use Rattle.encwords.specs.Words.{IsWord, SaysWord, word_of};
 ghost use Rattle.encwords.specs.Values.{IsTextOf, text_of};
-ghost use Rattle.encwords.specs.Laws.{HasStandardAlphabet, IsReadBack};
+ghost use Rattle.encwords.specs.Laws.{HasStandardAlphabet, IsReadBack, IsSaid};
+ghost use Rattle.encwords.specs.Written.{IsWrittenText};
 
 /// A value has one list of runs.
 pub fn runs_of_a_value()
@@ -47,4 +48,12 @@ pub fn value_of_a_text()
 pub fn text_read_back()
     ensures alphabet { HasStandardAlphabet standard }
     ensures back { (text value : List ℕ) → IsBytes text → IsUtf8 text → IsReadBack text value }
+{}
+
+/// A text that was written with its writer's words says what it decodes to where they stand, and else itself; one without `=?` is
+/// written as header text is, and each is written in one way.
+pub fn written_text_said()
+    ensures said { (text value : List ℕ) → IsBytes text → IsUtf8 text → IsSaid text value }
+    ensures plain { (text value : List ℕ) → has_mark text ≡ false → IsWrittenText text value → IsHeaderText text value }
+    ensures only { (text one two : List ℕ) → IsWrittenText text one → IsWrittenText text two → one ≡ two }
 {}

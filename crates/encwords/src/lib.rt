@@ -8,6 +8,8 @@ pub mod laws;
 mod quoted;
 mod run;
 mod word;
+mod written;
 
 pub use decoding::decoded;
 pub use encoding::header_text;
+pub use written::{has_written_words, written_text};

@@ -1,0 +1,21 @@
+use Rattle.std.proofs.Common.{◌∙◌}
+use Rattle.encwords.proofs.RunLemmas.{filled, shorter}
+use Rattle.encwords.proofs.WrittenLaws.{run_passed, run_failed}
+use Rattle.encwords.proofs.written.are_written_runs.Goals as goal
+
+pub returns-then-not-branch : goal.returns-then-not-branch
+returns-then-not-branch c =
+    run_failed c.loop-rest.rest.now _ c.blank_run.result.1.now c.nonblank_run.result.0.now _ c.in_ok-is_written_run.field-0 c.blank_run.ensures.front c.blank_run.ensures.back
+    c.nonblank_run.ensures.front c.nonblank_run.ensures.back c.in_ok-is_written_run.ensures c.if-not-branch.true
+    ∙ c.loop-rest.invariant
+
+pub loop-rest-smaller : goal.loop-rest-smaller
+loop-rest-smaller c =
+    shorter c.loop-rest.rest.now c.blank_run.result.1.now c.nonblank_run.result.1.now c.blank_run.ensures.back c.nonblank_run.ensures.back
+    (filled c.loop-rest.rest.now c.is_empty.result c.is_empty.ensures c.loop-rest-test.true)
+
+pub loop-rest-preserved : goal.loop-rest-preserved
+loop-rest-preserved c =
+    run_passed c.loop-rest.rest.now _ c.blank_run.result.1.now c.nonblank_run.result.0.now _ c.in_ok-is_written_run.field-0 c.blank_run.ensures.front c.blank_run.ensures.back
+    c.nonblank_run.ensures.front c.nonblank_run.ensures.back c.in_ok-is_written_run.ensures c.if-not-branch.false
+    ∙ c.loop-rest.invariant
