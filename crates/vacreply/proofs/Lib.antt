@@ -11,5 +11,6 @@ pub mod AddressLemmas
 pub mod ReasonExamples
 pub mod TextLemmas
 pub mod ReplyLemmas
+pub mod SubjectLemmas
 pub mod ReplyLaws
 pub mod ReplyExamples

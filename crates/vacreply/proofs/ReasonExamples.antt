@@ -7,7 +7,7 @@ use Rattle.sieveexec.specs.Mails.{MailSpec}
 use Rattle.sievesyntax.specs.declared.tree.vacation.VacArgs.{VacArgs}
 use Rattle.vacreply.specs.declared.reason.Reason.TheVariants as R
 use Rattle.vacreply.specs.declared.reason.Decision.TheVariants as D
-use Rattle.vacreply.specs.Cases.{is_robot, is_automatic, is_bulk, is_users, is_early, has_value, list_fields}
+use Rattle.vacreply.specs.Cases.{is_robot, is_automatic, is_suppressing, is_bulk, is_users, is_early, has_value, list_fields}
 use Rattle.vacreply.specs.Reasons.{holds, first_of, reasons}
 
 abbrev alice : Addr
@@ -42,6 +42,11 @@ users = (refl, refl, refl, refl)
 
 automatic : (is_automatic (codes " No ; x=no") ≡ false) × (is_automatic (codes "no (comment)") ≡ true) × (is_automatic [] ≡ true) × (is_automatic (codes "auto-replied") ≡ true)
 automatic = (refl, refl, refl, refl)
+
+-- each of the three values, in other case, in a list and with blanks; and other values
+suppressing : (is_suppressing (codes " All") ≡ true) × (is_suppressing (codes "DR, oof ,RN") ≡ true) × (is_suppressing (codes "None,\tAUTOREPLY") ≡ true)
+    × (is_suppressing (codes "None") ≡ false) × (is_suppressing (codes "DR") ≡ false) × (is_suppressing (codes "AllOf, A ll") ≡ false) × (is_suppressing [] ≡ false) × (is_suppressing (codes ",") ≡ false)
+suppressing = (refl, refl, refl, refl, refl, refl, refl, refl)
 
 -- `LIST-ID` and `List-Ids`; `bulk`, folded, and `bulks`
 lists : (has_value list_fields (λ value. true) (line (codes "LIST-ID") []) ≡ true) × (has_value list_fields (λ value. true) (line (codes "List-Ids") []) ≡ false)

@@ -1,8 +1,10 @@
 -- Lines of a response worked out by hand.
-use Rattle.std.proofs.Common.{◌≡◌, ℕ, true, false, [], ◌∷◌, ◌++◌, List, refl}
+use Rattle.std.proofs.Common.{◌≡◌, ℕ, true, false, [], ◌∷◌, ◌++◌, List, replicate, refl}
 use Rattle.std.specs.Prelude.{codes, Some, None}
+use Rattle.std.specs.Str.{chars}
+use lib.Utf8.{encode}
 use Rattle.mailhead.specs.Fields.{FieldText}
-use Rattle.vacreply.specs.Layout.{line_end, first_raw, auto_subject, is_quotable, answered, has_version, ended, to_line}
+use Rattle.vacreply.specs.Layout.{line_end, first_raw, shortened, auto_subject, is_quotable, is_phrase, answered, has_version, ended, to_line}
 
 abbrev field : List ℕ → List ℕ → FieldText
 field name raw = record { name = name; raw = raw }
@@ -13,7 +15,19 @@ first_field : (first_raw (codes "subject") (field (codes "To") (codes "a") ∷ (
 first_field = (refl, refl)
 
 subjects : (auto_subject (Some (codes "Lunch")) ≡ codes "Auto: Lunch") × (auto_subject (Some []) ≡ codes "Automated reply") × (auto_subject None ≡ codes "Automated reply")
+unfolding chars encode
 subjects = (refl, refl, refl)
+
+-- 256 characters, and 257, the first of which has four octets
+long : (shortened (replicate 256 97) ≡ replicate 256 97) × (shortened (replicate 257 97) ≡ replicate 256 97 ++ codes "...")
+    × (shortened (240 ∷ (159 ∷ (152 ∷ (128 ∷ replicate 255 97)))) ≡ 240 ∷ (159 ∷ (152 ∷ (128 ∷ replicate 255 97))))
+    × (shortened (240 ∷ (159 ∷ (152 ∷ (128 ∷ replicate 256 97)))) ≡ 240 ∷ (159 ∷ (152 ∷ (128 ∷ (replicate 255 97 ++ codes "...")))))
+unfolding chars encode
+long = (refl, refl, refl, refl)
+
+-- atoms and words that the script's writer encoded; a mark that stands in no atom, and atoms alone
+phrases : (is_phrase (codes "Anna =?US-ASCII?Q?B?=") ≡ true) × (is_phrase (codes "Dr. =?US-ASCII?Q?B?=") ≡ false) × (is_phrase (codes "=?US-ASCII?Q?a,b?=") ≡ false) × (is_phrase (codes "Anna B") ≡ false)
+phrases = (refl, refl, refl, refl)
 
 displays : (is_quotable (codes "Alice \"A\"") ≡ true) × (is_quotable (9 ∷ []) ≡ false) × (is_quotable (195 ∷ (169 ∷ [])) ≡ false)
 displays = (refl, refl, refl)

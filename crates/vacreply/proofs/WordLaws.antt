@@ -1,12 +1,13 @@
 -- A value without the blanks at its ends is a word exactly where the word stands after its first blanks and blanks alone follow.
-use Rattle.std.proofs.Common.{◌≡◌, ℕ, suc, ◌+◌, ◌<◌, Bool, true, false, cond, nat_eq, ◌&&◌, not, List, [], ◌∷◌, length, take, drop, refl, ap, sym, ◌∙◌, arith, drop-cons}
+use Rattle.std.proofs.Common.{◌≡◌, ℕ, suc, ◌+◌, ◌<◌, Bool, true, false, cond, nat_eq, ◌==◌, ◌&&◌, ◌||◌, not, List, [], ◌∷◌, length, take, drop, refl, ap, sym, ◌∙◌, arith, drop-cons}
 use Rattle.std.specs.Prelude.{Option, Some, None}
 use Rattle.std.proofs.lemmas.Bool.Decides.{nat_tests}
-use Rattle.std.specs.List.{before_first, position_or_len, list_all}
+use Rattle.std.specs.List.{before_first, position_or_len, list_all, list_any}
 use Rattle.std.specs.Char.{to_ascii_lowercase}
+use Rattle.mailhead.specs.Lines.{at_front}
 use Rattle.octets.specs.Ascii.{is_blank, trim_front, trim_back, trimmed, before}
-use Rattle.vacreply.specs.Cases.{same_text, is_empty, is_semicolon}
-use Rattle.vacreply.specs.Folds.{after_word, is_small, ends_parameter}
+use Rattle.vacreply.specs.Cases.{same_text, is_empty, is_comma, between_commas}
+use Rattle.vacreply.specs.Folds.{after_word, after_comma, is_small, is_mark, ends_by_mark}
 
 -- a text up to the first octet that stops it
 abbrev cut_at : (ℕ → Bool) → List ℕ → List ℕ
@@ -33,14 +34,14 @@ record IsApart (stop : ℕ → Bool) : Type 0 where
 never_apart : IsApart (λ octet. false)
 never_apart = record { blanks = λ octet blank. refl; letters = λ letter octet small same. refl }
 
-semicolon_blanks : (octet : ℕ) → is_blank octet ≡ true → is_semicolon octet ≡ false
-semicolon_blanks octet blank = grind (arith, nat_tests)
+mark_blanks : (mark octet : ℕ) → is_mark mark ≡ true → is_blank octet ≡ true → (octet == mark) ≡ false
+mark_blanks mark octet apart blank = grind (arith, nat_tests)
 
-semicolon_letters : (letter octet : ℕ) → is_small letter ≡ true → nat_eq (to_ascii_lowercase letter) (to_ascii_lowercase octet) ≡ true → is_semicolon octet ≡ false
-semicolon_letters letter octet small same = grind (arith, nat_tests)
+mark_letters : (mark letter octet : ℕ) → is_mark mark ≡ true → is_small letter ≡ true → nat_eq (to_ascii_lowercase letter) (to_ascii_lowercase octet) ≡ true → (octet == mark) ≡ false
+mark_letters mark letter octet apart small same = grind (arith, nat_tests)
 
-semicolon_apart : IsApart is_semicolon
-semicolon_apart = record { blanks = semicolon_blanks; letters = semicolon_letters }
+mark_apart : (mark : ℕ) → is_mark mark ≡ true → IsApart (λ octet. octet == mark)
+mark_apart mark apart = record { blanks = λ octet. mark_blanks mark octet apart; letters = λ letter octet. mark_letters mark letter octet apart }
 
 -- a letter is no blank
 letter_apart : (letter octet : ℕ) → is_small letter ≡ true → is_blank octet ≡ true → nat_eq (to_ascii_lowercase letter) (to_ascii_lowercase octet) ≡ false
@@ -128,30 +129,63 @@ word_isnt word value small found =
     let whole = rw (cut_never (trim_front value)) at at in
     sym (whole ∙ ap (ends_by (λ octet. false)) (sym found))
 
-parameter_cut : (text : List ℕ) → is_empty (cut_at is_semicolon text) ≡ ends_parameter text
-parameter_cut [] = refl
-parameter_cut (octet ∷ rest) = cut_head (is_semicolon octet)
+mark_cut : (mark : ℕ) (text : List ℕ) → is_empty (cut_at (λ octet. octet == mark) text) ≡ ends_by_mark mark text
+mark_cut mark [] = refl
+mark_cut mark (octet ∷ rest) = cut_head (octet == mark)
   where
-    cut_head : (stops : Bool) → is_empty (cond stops [] (octet ∷ cut_at is_semicolon rest)) ≡ stops
+    cut_head : (stops : Bool) → is_empty (cond stops [] (octet ∷ cut_at (λ o. o == mark) rest)) ≡ stops
     cut_head true = refl
     cut_head false = refl
 
--- the word that a value is up to its first `;`
-parameter_is : (word value : List ℕ) → list_all is_small word ≡ true
-    → same_text word (trimmed (before_first is_semicolon value)) ≡ ends_by is_semicolon (after_word word (trim_front value))
-parameter_is word value small =
-    let front = ap trim_front (cut_first is_semicolon value) ∙ front_cut is_semicolon value semicolon_apart in
-    ap (λ t. same_text word (trim_back t)) front ∙ word_at is_semicolon word (trim_front value) semicolon_apart small
+-- the word that a value is up to its first octet of a mark
+mark_is : (mark : ℕ) (word value : List ℕ) → is_mark mark ≡ true → list_all is_small word ≡ true
+    → same_text word (trimmed (before_first (λ octet. octet == mark) value)) ≡ ends_by (λ octet. octet == mark) (after_word word (trim_front value))
+mark_is mark word value apart small =
+    let front = ap trim_front (cut_first (λ octet. octet == mark) value) ∙ front_cut (λ octet. octet == mark) value (mark_apart mark apart) in
+    ap (λ t. same_text word (trim_back t)) front ∙ word_at (λ octet. octet == mark) word (trim_front value) (mark_apart mark apart) small
 
-pub parameter_word : (word value after : List ℕ) → list_all is_small word ≡ true → Some after ≡ after_word word (trim_front value)
-    → ends_parameter (trim_front after) ≡ same_text word (trimmed (before_first is_semicolon value))
-parameter_word word value after small found =
-    sym (parameter_is word value small ∙ (ap (ends_by is_semicolon) (sym found)
-    ∙ (ap is_empty (front_cut is_semicolon after semicolon_apart) ∙ parameter_cut (trim_front after))))
+pub mark_word : (mark : ℕ) (word value after : List ℕ) → is_mark mark ≡ true → list_all is_small word ≡ true → Some after ≡ after_word word (trim_front value)
+    → ends_by_mark mark (trim_front after) ≡ same_text word (trimmed (before_first (λ octet. octet == mark) value))
+mark_word mark word value after apart small found =
+    sym (mark_is mark word value apart small ∙ (ap (ends_by (λ octet. octet == mark)) (sym found)
+    ∙ (ap is_empty (front_cut (λ octet. octet == mark) after (mark_apart mark apart)) ∙ mark_cut mark (trim_front after))))
 
-pub parameter_other : (word value : List ℕ) → list_all is_small word ≡ true → None ≡ after_word word (trim_front value)
-    → false ≡ same_text word (trimmed (before_first is_semicolon value))
-parameter_other word value small found = sym (parameter_is word value small ∙ ap (ends_by is_semicolon) (sym found))
+pub mark_other : (mark : ℕ) (word value : List ℕ) → is_mark mark ≡ true → list_all is_small word ≡ true → None ≡ after_word word (trim_front value)
+    → false ≡ same_text word (trimmed (before_first (λ octet. octet == mark) value))
+mark_other mark word value apart small found = sym (mark_is mark word value apart small ∙ ap (ends_by (λ octet. octet == mark)) (sym found))
+
+-- the values of a list from here on, where there are more
+abbrev more_values : Option (List ℕ) → List (List ℕ)
+more_values None = []
+more_values (Some rest) = between_commas rest
+
+values_step : (comma : Bool) (octet : ℕ) (rest : List ℕ) → between_commas rest ≡ cut_at is_comma rest ∷ more_values (after_comma rest)
+    → cond comma ([] ∷ between_commas rest) (at_front octet (between_commas rest)) ≡ cond comma [] (octet ∷ cut_at is_comma rest) ∷ more_values (cond comma (Some rest) (after_comma rest))
+values_step true octet rest later = refl
+values_step false octet rest later = rw later refl
+
+-- the first value, and the others
+values_cut : (text : List ℕ) → between_commas text ≡ cut_at is_comma text ∷ more_values (after_comma text)
+values_cut [] = refl
+values_cut (octet ∷ rest) = values_step (is_comma octet) octet rest (values_cut rest)
+
+-- a list whose first value passes
+pub first_passes : (p : List ℕ → Bool) (text : List ℕ) → p (before_first is_comma text) ≡ true → list_any p (between_commas text) ≡ true
+first_passes p text pass =
+    let first : p (cut_at is_comma text) ≡ true = ap p (sym (cut_first is_comma text)) ∙ pass in
+    rw (values_cut text, first) refl
+
+-- a list whose first value doesn't pass
+pub others_pass : (p : List ℕ → Bool) (text rest : List ℕ) → p (before_first is_comma text) ≡ false → Some rest ≡ after_comma text
+    → list_any p (between_commas rest) ≡ list_any p (between_commas text)
+others_pass p text rest fail found =
+    let first : p (cut_at is_comma text) ≡ false = ap p (sym (cut_first is_comma text)) ∙ fail in
+    rw (values_cut text, first, ← found) refl
+
+pub none_passes : (p : List ℕ → Bool) (text : List ℕ) → p (before_first is_comma text) ≡ false → None ≡ after_comma text → list_any p (between_commas text) ≡ false
+none_passes p text fail found =
+    let first : p (cut_at is_comma text) ≡ false = ap p (sym (cut_first is_comma text)) ∙ fail in
+    rw (values_cut text, first, ← found) refl
 
 -- an empty value has no more letters
 pub none_after : (word : List ℕ) (i : ℕ) → i < length word → after_word (drop i word) [] ≡ None

@@ -4,6 +4,7 @@ use Rattle.std.specs.List.{list_any, flat_map, before_first}
 use Rattle.std.specs.Cmp.Lexicographic.{pointwise}
 use Rattle.octets.specs.Ascii.{lowered, trimmed}
 use Rattle.mailhead.specs.Fields.{FieldText}
+use Rattle.mailhead.specs.Lines.{at_front}
 use Rattle.mailhead.specs.Heads.{unfold_of}
 use Rattle.addrparts.specs.declared.address.Addr.{Addr}
 use Rattle.addrparts.specs.Spelling.{all_of}
@@ -60,6 +61,23 @@ is_semicolon octet = octet == 59
 -- what stands before the first `;`, without the blanks at its ends, isn't `no` (RFC 3834, 5)
 abbrev pub is_automatic : List ℕ → Bool
 is_automatic value = not (same_text (codes "no") (trimmed (before_first is_semicolon value)))
+
+-- `,`
+abbrev pub is_comma : ℕ → Bool
+is_comma octet = octet == 44
+
+-- what stands before, between and after the commas of a text
+abbrev pub between_commas : List ℕ → List (List ℕ)
+between_commas [] = [] ∷ []
+between_commas (octet ∷ rest) = cond (is_comma octet) ([] ∷ between_commas rest) (at_front octet (between_commas rest))
+
+-- `All`, `OOF` or `AutoReply`, without the blanks at the ends
+abbrev pub refuses_answer : List ℕ → Bool
+refuses_answer value = is_one_of (codes "all" ∷ (codes "oof" ∷ (codes "autoreply" ∷ []))) (trimmed value)
+
+-- one of its values refuses an answer (X-Auto-Response-Suppress, a field of Microsoft's: [MS-OXCMAIL])
+abbrev pub is_suppressing : List ℕ → Bool
+is_suppressing value = list_any refuses_answer (between_commas value)
 
 -- the names of the fields that mailing lists add (RFC 2369; RFC 2919)
 abbrev pub list_fields : List (List ℕ)

@@ -23,7 +23,16 @@ after_word (letter ∷ word) (octet ∷ rest) = cond (nat_eq (to_ascii_lowercase
 abbrev pub is_small : ℕ → Bool
 is_small octet = nat_le 97 octet && nat_le octet 122
 
--- nothing, or a `;`, stands first
-abbrev pub ends_parameter : List ℕ → Bool
-ends_parameter [] = true
-ends_parameter (octet ∷ rest) = octet == 59
+-- a mark that is no blank and no letter: 33 to 64
+abbrev pub is_mark : ℕ → Bool
+is_mark octet = nat_le 33 octet && nat_le octet 64
+
+-- nothing, or this mark, stands first
+abbrev pub ends_by_mark : ℕ → List ℕ → Bool
+ends_by_mark mark [] = true
+ends_by_mark mark (octet ∷ rest) = octet == mark
+
+-- what stands after the first comma
+abbrev pub after_comma : List ℕ → Option (List ℕ)
+after_comma [] = None
+after_comma (octet ∷ rest) = cond (octet == 44) (Some rest) (after_comma rest)

@@ -1,11 +1,12 @@
 -- The octets of a response (RFC 5230, 5; RFC 3834, 3).
-use Rattle.std.specs.Prelude.{◌≡◌, ℕ, nat_le, nat_eq, Bool, true, false, ◌&&◌, cond, List, [], ◌∷◌, ◌++◌, length, codes, Option, None, Some, option_map, unwrap_or, is_some}
+use Rattle.std.specs.Prelude.{◌≡◌, ℕ, nat_le, nat_lt, nat_eq, Bool, true, false, ◌==◌, ◌&&◌, ◌||◌, not, cond, List, [], ◌∷◌, ◌++◌, length, take, codes, encode_utf8_all, Option, None, Some, option_map, unwrap_or, is_some}
 use Rattle.std.specs.List.{list_all, ends_with}
-use Rattle.std.specs.Str.{is_utf8}
+use Rattle.std.specs.Str.{is_utf8, chars}
 use Rattle.octets.specs.Ascii.{is_printable, trimmed}
 use Rattle.mailhead.specs.Fields.{FieldText}
 use Rattle.mailhead.specs.Heads.{fields_of, unfold_of}
 use Rattle.encwords.specs.Headers.{IsHeaderText, IsWorded}
+use Rattle.encwords.specs.Written.{has_written_words, IsWrittenText}
 use Rattle.addrparts.specs.declared.address.Addr.{Addr}
 use Rattle.addrparts.specs.Spelling.{spelling, quoted}
 use Rattle.sievesyntax.specs.declared.tree.vacation.VacArgs.{VacArgs}
@@ -40,9 +41,24 @@ display_of from = unwrap_or (usable (Some from.display)) []
 abbrev pub is_quotable : List ℕ → Bool
 is_quotable display = nat_le (length display) 200 && list_all is_printable display
 
--- a display is written as a quoted string (RFC 5322, 3.2.4) where it can be, else as encoded words (RFC 2047, 5)
+-- a mark that stands in no atom (RFC 5322, 3.2.3: specials): one of `( ) < > [ ] : ; @ \ , . "`
+abbrev pub is_special : ℕ → Bool
+is_special octet =
+    octet == 34 || (octet == 40 || (octet == 41 || (octet == 44 || (octet == 46 || (octet == 58 || (octet == 59 || (octet == 60
+    || (octet == 62 || (octet == 64 || (octet == 91 || (octet == 92 || octet == 93)))))))))))
+
+abbrev pub is_phrase_octet : ℕ → Bool
+is_phrase_octet octet = not (is_special octet)
+
+-- atoms, and words that the script's writer encoded (RFC 5322, 3.2.5; RFC 2047, 5); of octets 32 to 126
+abbrev pub is_phrase : List ℕ → Bool
+is_phrase display = list_all is_phrase_octet display && has_written_words display
+
+-- a display with such words is written as it stands where it is a phrase, else as a quoted string (RFC 5322, 3.2.4) where it can be,
+-- else as encoded words (RFC 2047, 5)
 pub record IsDisplay (display value : List ℕ) : Type 0 where
-  pub string : is_quotable display ≡ true → value ≡ quoted display
+  pub phrase : is_quotable display ≡ true → is_phrase display ≡ true → value ≡ display
+  pub string : is_quotable display ≡ true → is_phrase display ≡ false → value ≡ quoted display
   pub words : is_quotable display ≡ false → IsWorded display value
 
 -- an address with a display before it, or alone where that is empty
@@ -60,15 +76,20 @@ IsFrom (Some from) own value = IsNamed (display_of from) (spelling from.address)
 abbrev pub subject_of : MailSpec → Option (List ℕ)
 subject_of mail = option_map (λ raw. text_shown (unfold_of raw)) (first_raw (codes "subject") mail.fields)
 
--- `Auto: ` and that text; `Automated reply` without one or where it is empty
+-- the first 256 characters of a text, then `...` where it has more
+abbrev pub shortened : List ℕ → List ℕ
+shortened text = encode_utf8_all (take 256 (chars text)) ++ cond (nat_lt 256 (length (chars text))) (codes "...") []
+
+-- `Auto: ` and that text, shortened; `Automated reply` without one or where it is empty
 abbrev pub auto_subject : Option (List ℕ) → List ℕ
 auto_subject None = codes "Automated reply"
 auto_subject (Some []) = codes "Automated reply"
-auto_subject (Some (octet ∷ rest)) = codes "Auto: " ++ (octet ∷ rest)
+auto_subject (Some (octet ∷ rest)) = codes "Auto: " ++ shortened (octet ∷ rest)
 
--- the subject that is told: the text of `:subject`, or one made of the mail's
-abbrev pub subject_told : VacArgs → MailSpec → List ℕ
-subject_told args mail = unwrap_or (usable args.subject) (auto_subject (usable (subject_of mail)))
+-- the value of Subject: the text of `:subject`, with the words that the script's writer encoded, or one made of the mail's
+abbrev pub IsSubject : Option (List ℕ) → MailSpec → List ℕ → Type 0
+IsSubject None mail value = IsHeaderText (auto_subject (usable (subject_of mail))) value
+IsSubject (Some text) mail value = IsWrittenText text value
 
 -- 33 to 126
 abbrev pub is_visible : ℕ → Bool
@@ -125,7 +146,7 @@ pub record IsReply (args : VacArgs) (mail : MailSpec) (own : Addr) (moment : ℕ
   pub subject : List ℕ
   pub date : List ℕ
   pub is_from : IsFrom args.from own from
-  pub is_subject : IsHeaderText (subject_told args mail) subject
+  pub is_subject : IsSubject (usable args.subject) mail subject
   pub is_date : IsDateText moment date
   pub spelled : reply ≡ reply_text from mail.from subject date (body_text args mail)
 

@@ -10,7 +10,7 @@ use Rattle.vacreply.specs.declared.reason.Reason.{Reason}
 use Rattle.vacreply.specs.declared.reason.Reason.TheVariants as R
 use Rattle.vacreply.specs.declared.reason.Decision.{Decision}
 use Rattle.vacreply.specs.declared.reason.Decision.TheVariants as D
-use Rattle.vacreply.specs.Cases.{is_empty, is_robot, is_users, is_automatic, is_bulk, list_fields, recipients_of, some_value, is_early}
+use Rattle.vacreply.specs.Cases.{is_empty, is_robot, is_users, is_automatic, is_suppressing, is_bulk, list_fields, recipients_of, some_value, is_early}
 
 -- whether a reason stands against a response to this mail, of the user with this address, at this moment;
 -- `last` is the moment kept for the response and the sender, if one is
@@ -19,7 +19,8 @@ holds args mail own last moment R.NullSender = is_empty mail.from
 holds args mail own last moment R.BadSender = is_empty (local_of mail.from) || is_empty (domain_of mail.from)
 holds args mail own last moment R.RobotSender = is_robot (local_of mail.from)
 holds args mail own last moment R.OwnSender = is_users args mail own mail.from
-holds args mail own last moment R.Automatic = some_value (codes "auto-submitted" ∷ []) is_automatic mail
+holds args mail own last moment R.Automatic =
+    some_value (codes "auto-submitted" ∷ []) is_automatic mail || some_value (codes "x-auto-response-suppress" ∷ []) is_suppressing mail
 holds args mail own last moment R.ListMail = some_value list_fields (λ value. true) mail
 holds args mail own last moment R.Bulk = some_value (codes "precedence" ∷ []) is_bulk mail
 holds args mail own last moment R.NotAddressed = not (list_any (is_users args mail own) (recipients_of mail))

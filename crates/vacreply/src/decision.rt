@@ -27,7 +27,7 @@ const MAX_SECONDS: u64 = MAX_DAYS * DAY_LEN;
 /// stands against it.
 ///
 /// `last` is the moment that is kept for this response and this sender, if one is. A moment is in seconds since 1 January
-/// 1970. One pass over the fields for each of three reasons, none over the body; takes no memory.
+/// 1970. Two passes over the fields for one reason, and one for each of two others, none over the body; takes no memory.
 pub fn decide(
     args: &VacArgs,
     mail: &AddressedMail<'_, '_>,
@@ -50,7 +50,7 @@ pub fn decide(
     if is_users(args, mail.mail(), own, sender) {
         return Decision::Quiet(Reason::OwnSender);
     }
-    if has_sign(mail.mail(), Sign::Automatic) {
+    if has_sign(mail.mail(), Sign::Automatic) || has_sign(mail.mail(), Sign::Suppressing) {
         return Decision::Quiet(Reason::Automatic);
     }
     if has_sign(mail.mail(), Sign::ListMail) {

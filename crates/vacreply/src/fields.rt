@@ -1,6 +1,6 @@
 //! Fields that say what sort of mail it is.
 ghost use Rattle.std.specs.Prelude.{◌≡◌, option_map};
-ghost use Rattle.std.specs.List.{list_any};
+ghost use Rattle.std.specs.List.{list_any, before_first};
 ghost use Rattle.mailhead.specs.Fields.{text_of, texts_of};
 ghost use Rattle.mailhead.specs.Heads.{unfold_of};
 ghost use Rattle.vacreply.specs.Cases as cases;
@@ -8,7 +8,7 @@ ghost use Rattle.vacreply.specs.Layout.{first_raw};
 ghost use Rattle.vacreply.specs.Signs.{is_sign};
 
 use crate::text::{is_one_of, is_same};
-use crate::value::{is_word, is_word_before_parameters};
+use crate::value::{after_comma, is_word, is_word_before};
 use mailhead::Field;
 use sieveexec::Mail;
 
@@ -28,6 +28,9 @@ const LIST_FIELDS: [&[u8]; 7] = [
 pub(crate) enum Sign {
     /// An Auto-Submitted field says other than `no` (RFC 3834, 5).
     Automatic,
+    /// An X-Auto-Response-Suppress field, as Exchange writes it into its own notices, has `All`, `OOF` or `AutoReply` among its
+    /// values.
+    Suppressing,
     /// The field is one that mailing lists add (RFC 2369; RFC 2919).
     ListMail,
     /// A Precedence field says `bulk`, `list` or `junk` (RFC 3834, 2).
@@ -52,6 +55,9 @@ fn says(field: &Field<'_>, sign: Sign) -> bool
 {
     match sign {
         Sign::Automatic => is_same(b"auto-submitted", field.name) && is_automatic(field.raw),
+        Sign::Suppressing => {
+            is_same(b"x-auto-response-suppress", field.name) && is_suppressing(field.raw)
+        }
         Sign::ListMail => is_one_of(&LIST_FIELDS, field.name),
         Sign::Bulk => is_same(b"precedence", field.name) && is_bulk(field.raw),
     }
@@ -60,7 +66,29 @@ fn says(field: &Field<'_>, sign: Sign) -> bool
 fn is_automatic(raw: &[u8]) -> bool
     ensures { result ≡ cases.is_automatic (unfold_of raw.now) }
 {
-    !is_word_before_parameters(raw, b"no")
+    !is_word_before(raw, b"no", b';')
+}
+
+fn is_suppressing(raw: &[u8]) -> bool
+    ensures { result ≡ cases.is_suppressing (unfold_of raw.now) }
+{
+    let mut rest = raw;
+    while !refuses_answer(rest) {
+        let Some(after) = after_comma(rest) else {
+            return false;
+        };
+        rest = after;
+    }
+    true
+}
+
+/// Whether what stands before the value's first comma refuses an answer.
+fn refuses_answer(raw: &[u8]) -> bool
+    ensures { result ≡ cases.refuses_answer (before_first cases.is_comma (unfold_of raw.now)) }
+{
+    is_word_before(raw, b"all", b',')
+        || is_word_before(raw, b"oof", b',')
+        || is_word_before(raw, b"autoreply", b',')
 }
 
 fn is_bulk(raw: &[u8]) -> bool

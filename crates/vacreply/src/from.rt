@@ -9,7 +9,7 @@ ghost use Rattle.vacreply.specs.Layout as layout;
 use crate::layout::push_parts;
 use crate::text::usable;
 use addrparts::{Addr, quote, spell};
-use encwords::header_text;
+use encwords::{has_written_words, header_text};
 use octets::{Octets, is_printable};
 use sievesyntax::ReplyFrom;
 use std::alloc::{AllocError, Global};
@@ -55,14 +55,44 @@ fn named(alloc: Global, from: &ReplyFrom) -> Result<Octets, AllocError>
     Ok(value)
 }
 
-/// A display as a quoted string where it can be, else as encoded words.
+/// A display as it stands where it is a phrase with encoded words in it, else as a quoted string where it can be, else as encoded
+/// words.
 fn display_value(alloc: Global, display: &str) -> Result<Octets, AllocError>
     ensures { IfOk result (layout.IsDisplay display.now) }
 {
-    if is_quotable(display.as_bytes()) {
-        return quoted(alloc, display.as_bytes());
+    if !is_quotable(display.as_bytes()) {
+        return Ok(Octets::from_vec(header_text(alloc, display)?));
     }
-    Ok(Octets::from_vec(header_text(alloc, display)?))
+    if is_phrase(alloc, display.as_bytes())? {
+        return Octets::from_slice(alloc, display.as_bytes());
+    }
+    quoted(alloc, display.as_bytes())
+}
+
+/// Whether a display of octets 32 to 126 is a phrase of atoms and of words that the script's writer encoded.
+fn is_phrase(alloc: Global, display: &[u8]) -> Result<bool, AllocError>
+    ensures { IfOk result (λ is. is ≡ layout.is_phrase display.now) }
+{
+    if are_phrase_octets(display) {
+        has_written_words(alloc, display)
+    } else {
+        Ok(false)
+    }
+}
+
+fn are_phrase_octets(text: &[u8]) -> bool
+    ensures { result ≡ list_all layout.is_phrase_octet text.now }
+{
+    text.iter().all(|octet| !is_special(*octet))
+}
+
+fn is_special(octet: u8) -> bool
+    ensures { result ≡ layout.is_special octet }
+{
+    matches!(
+        octet,
+        b'"' | b'(' | b')' | b',' | b'.' | b':' | b';' | b'<' | b'>' | b'@' | b'[' | b'\\' | b']'
+    )
 }
 
 fn quoted(alloc: Global, text: &[u8]) -> Result<Octets, AllocError>

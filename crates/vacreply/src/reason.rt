@@ -13,7 +13,8 @@ pub enum Reason {
     RobotSender = 3,
     /// The sender is an address of the user.
     OwnSender = 4,
-    /// An Auto-Submitted field says other than `no` (RFC 3834, 2 and 5).
+    /// An Auto-Submitted field says other than `no` (RFC 3834, 2 and 5), or an X-Auto-Response-Suppress field `All`, `OOF` or
+    /// `AutoReply`.
     Automatic = 5,
     /// A mailing list sent the mail: it has a field that lists add (RFC 5230, 4.6; RFC 2369; RFC 2919).
     ListMail = 6,

@@ -1,12 +1,12 @@
 //! What the response is about.
-ghost use Rattle.std.specs.Prelude.{◌≡◌, codes, IfOk, OnOk, Some, option_copied};
+ghost use Rattle.std.specs.Prelude.{◌≡◌, codes, IfOk, OnOk, Some, option_copied, string_bytes};
 ghost use Rattle.encwords.specs.Headers.{IsHeaderText};
 ghost use Rattle.vacreply.specs.Layout as layout;
 
 use crate::fields::first_raw;
 use crate::layout::push_parts;
 use crate::text::usable;
-use encwords::{decoded, header_text};
+use encwords::{decoded, header_text, written_text};
 use mailhead::unfolded;
 use octets::{Octets, trim_blanks};
 use sieveexec::Mail;
@@ -16,6 +16,10 @@ use std::alloc::{AllocError, Global};
 /// The subject where neither the script nor the mail has a usable one.
 const AUTOMATED: &str = "Automated reply";
 
+/// How many characters of a mail's subject a response has at most: whoever wrote it chose how long it is, and a response is kept
+/// until it is sent.
+const MAX_SUBJECT: usize = 256;
+
 /// Appends the line Subject.
 pub(crate) fn write_subject(
     alloc: Global,
@@ -23,17 +27,17 @@ pub(crate) fn write_subject(
     args: &VacArgs,
     mail: &Mail<'_>,
 ) -> Result<(), AllocError>
-    ensures { OnOk result (layout.WritesLine (codes "Subject: ") (IsHeaderText (layout.subject_told args.now mail.now)) out.old out.new) }
+    ensures { OnOk result (layout.WritesLine (codes "Subject: ") (layout.IsSubject (layout.usable args.now.subject) mail.now) out.old out.new) }
 {
     let value = subject_value(alloc, args, mail)?;
     push_parts(out, b"Subject: ", value.as_slice(), b"\r\n")
 }
 
 fn subject_value(alloc: Global, args: &VacArgs, mail: &Mail<'_>) -> Result<Vec<u8>, AllocError>
-    ensures { IfOk result (λ value. IsHeaderText (layout.subject_told args.now mail.now) value.items) }
+    ensures { IfOk result (λ value. layout.IsSubject (layout.usable args.now.subject) mail.now value.items) }
 {
     if let Some(text) = given(&args.subject) {
-        return header_text(alloc, text);
+        return written_text(alloc, text);
     }
     auto_subject(alloc, mail)
 }
@@ -70,6 +74,24 @@ fn auto_text(alloc: Global, first: &[u8]) -> Result<Vec<u8>, AllocError>
     if text.is_empty() {
         return header_text(alloc, AUTOMATED);
     }
-    let told = format!(in alloc; "Auto: {text}")?;
+    let short = shortened(alloc, text)?;
+    let told = format!(in alloc; "Auto: {short}")?;
     header_text(alloc, told.as_str())
+}
+
+/// The first [`MAX_SUBJECT`] characters of a text, then `...` where it has more.
+fn shortened(alloc: Global, text: &str) -> Result<String, AllocError>
+    ensures { IfOk result (λ short. string_bytes short ≡ layout.shortened text.now) }
+{
+    let mut short = String::new(alloc);
+    let mut count = 0;
+    for character in text.chars() {
+        if count == MAX_SUBJECT {
+            short.push_str("...")?;
+            return Ok(short);
+        }
+        short.push(character)?;
+        count += 1;
+    }
+    Ok(short)
 }

@@ -1,10 +1,10 @@
 //! What the unfolded value of a field says, read from the raw one without memory (RFC 5322, 2.2.3).
-ghost use Rattle.std.specs.Prelude.{◌≡◌, ◌<◌, ◌≤◌, [], ◌∷◌, length, true, MatchOption, IfSome, option_map};
+ghost use Rattle.std.specs.Prelude.{◌≡◌, ◌==◌, ◌<◌, ◌≤◌, [], ◌∷◌, length, true, MatchOption, IfSome, option_map};
 ghost use Rattle.std.specs.List.{list_all, before_first};
 ghost use Rattle.octets.specs.Ascii.{trimmed, trim_front};
 ghost use Rattle.mailhead.specs.Heads.{unfold_of};
-ghost use Rattle.vacreply.specs.Cases.{same_text, is_empty, is_semicolon};
-ghost use Rattle.vacreply.specs.Folds.{begins_feed_fold, fold_len, after_word, ends_parameter, is_small};
+ghost use Rattle.vacreply.specs.Cases.{same_text, is_empty};
+ghost use Rattle.vacreply.specs.Folds.{begins_feed_fold, fold_len, after_word, after_comma, ends_by_mark, is_mark, is_small};
 
 use octets::is_blank;
 
@@ -19,15 +19,32 @@ pub(crate) fn is_word(raw: &[u8], word: &[u8]) -> bool
     is_blank_value(after)
 }
 
-/// Whether what stands before the value's first `;`, without the blanks at its ends, is a word of small letters; case ignored.
-pub(crate) fn is_word_before_parameters(raw: &[u8], word: &[u8]) -> bool
-    requires { list_all is_small word.now ≡ true }
-    ensures { result ≡ same_text word.now (trimmed (before_first is_semicolon (unfold_of raw.now))) }
+/// Whether what stands before the value's first octet of this mark, without the blanks at its ends, is a word of small letters;
+/// case ignored.
+pub(crate) fn is_word_before(raw: &[u8], word: &[u8], mark: u8) -> bool
+    requires small { list_all is_small word.now ≡ true }
+    requires apart { is_mark mark ≡ true }
+    ensures { result ≡ same_text word.now (trimmed (before_first (λ octet. octet == mark) (unfold_of raw.now))) }
 {
     let Some(after) = after_word(skip_blanks(raw), word) else {
         return false;
     };
-    ends_parameter(after)
+    ends_by_mark(after, mark)
+}
+
+/// What stands after the value's first comma.
+pub(crate) fn after_comma(raw: &[u8]) -> Option<&[u8]>
+    ensures value { option_map (λ rest. unfold_of rest.now) result ≡ after_comma (unfold_of raw.now) }
+    ensures shorter { IfSome result (λ rest. length rest.now < length raw.now) }
+{
+    let mut rest = raw;
+    while let Some((octet, after)) = next_octet(rest) {
+        if octet == b',' {
+            return Some(after);
+        }
+        rest = after;
+    }
+    None
 }
 
 /// Whether the value has blanks alone.
@@ -40,12 +57,12 @@ fn is_blank_value(raw: &[u8]) -> bool
     }
 }
 
-/// Whether nothing but blanks stands before the value's first `;`.
-fn ends_parameter(raw: &[u8]) -> bool
-    ensures { result ≡ ends_parameter (trim_front (unfold_of raw.now)) }
+/// Whether nothing but blanks stands before the value's first octet of this mark.
+fn ends_by_mark(raw: &[u8], mark: u8) -> bool
+    ensures { result ≡ ends_by_mark mark (trim_front (unfold_of raw.now)) }
 {
     match next_octet(skip_blanks(raw)) {
-        Some((octet, _)) => octet == b';',
+        Some((octet, _)) => octet == mark,
         None => true,
     }
 }
