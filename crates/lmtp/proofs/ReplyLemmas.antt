@@ -8,7 +8,7 @@ use Rattle.lmtp.specs.Lines.{line_end}
 use Rattle.lmtp.specs.Replies.{line_of, shown_octet, shown, delivered, IsOneLine, RepliesAreLines}
 use Rattle.lmtp.specs.declared.reply.Outcome.TheVariants.{Delivered, Refused}
 use Rattle.lmtp.specs.declared.reply.Reply.{Reply}
-use Rattle.lmtp.specs.declared.reply.Reply.TheVariants.{Done, SenderTaken, RecipientTaken, Unverified, GoAhead, Helped, Goodbye, UnknownCommand, NotSmtp, LineTooLong, BadArgument, BadSender, BadRecipient, OutOfOrder, NoRecipient, BadParameter, NoSuchUser, AccountClosed, MessageTooLarge, MailLoop, NoRoom, TooManyRecipients, StoreAway, LocalFault, Idle}
+use Rattle.lmtp.specs.declared.reply.Reply.TheVariants.{Done, SenderTaken, RecipientTaken, Unverified, GoAhead, Helped, Goodbye, UnknownCommand, NotSmtp, LineTooLong, BadArgument, BadSender, BadRecipient, OutOfOrder, NoRecipient, BadParameter, NoSuchUser, AccountClosed, MessageTooLarge, HeaderTooLarge, MailLoop, NoRoom, TooManyRecipients, StoreAway, LocalFault, Idle}
 
 ended : (line : List ℕ) → list_all is_printable line ≡ true → length (line ++ line_end) ≤ 512 → IsOneLine (line ++ line_end)
 ended line printable short = record { line = line; written = refl; printable = printable; short = short }
@@ -33,6 +33,7 @@ one_line BadParameter = ended (codes "555 5.5.4 Parameter not known") refl (lit�
 one_line NoSuchUser = ended (codes "550 5.1.1 No such user") refl (lit≤ tt)
 one_line AccountClosed = ended (codes "451 4.2.1 Account is closed, try later") refl (lit≤ tt)
 one_line MessageTooLarge = ended (codes "552 5.3.4 Message too large") refl (lit≤ tt)
+one_line HeaderTooLarge = ended (codes "552 5.3.4 Header too large") refl (lit≤ tt)
 one_line MailLoop = ended (codes "554 5.4.6 Mail loop") refl (lit≤ tt)
 one_line NoRoom = ended (codes "452 4.3.1 Out of memory, try later") refl (lit≤ tt)
 one_line TooManyRecipients = ended (codes "452 4.5.3 Too many recipients") refl (lit≤ tt)

@@ -6,7 +6,7 @@ use Rattle.lmtp.specs.Lines.{line_end}
 use Rattle.lmtp.specs.declared.reply.Outcome.{Outcome}
 use Rattle.lmtp.specs.declared.reply.Outcome.TheVariants.{Delivered, Refused}
 use Rattle.lmtp.specs.declared.reply.Reply.{Reply}
-use Rattle.lmtp.specs.declared.reply.Reply.TheVariants.{Done, SenderTaken, RecipientTaken, Unverified, GoAhead, Helped, Goodbye, UnknownCommand, NotSmtp, LineTooLong, BadArgument, BadSender, BadRecipient, OutOfOrder, NoRecipient, BadParameter, NoSuchUser, AccountClosed, MessageTooLarge, MailLoop, NoRoom, TooManyRecipients, StoreAway, LocalFault, Idle}
+use Rattle.lmtp.specs.declared.reply.Reply.TheVariants.{Done, SenderTaken, RecipientTaken, Unverified, GoAhead, Helped, Goodbye, UnknownCommand, NotSmtp, LineTooLong, BadArgument, BadSender, BadRecipient, OutOfOrder, NoRecipient, BadParameter, NoSuchUser, AccountClosed, MessageTooLarge, HeaderTooLarge, MailLoop, NoRoom, TooManyRecipients, StoreAway, LocalFault, Idle}
 
 -- a line with its code, and what it says for people
 abbrev pub line_of : Reply → List ℕ
@@ -29,6 +29,7 @@ line_of BadParameter = codes "555 5.5.4 Parameter not known" ++ line_end
 line_of NoSuchUser = codes "550 5.1.1 No such user" ++ line_end
 line_of AccountClosed = codes "451 4.2.1 Account is closed, try later" ++ line_end
 line_of MessageTooLarge = codes "552 5.3.4 Message too large" ++ line_end
+line_of HeaderTooLarge = codes "552 5.3.4 Header too large" ++ line_end
 line_of MailLoop = codes "554 5.4.6 Mail loop" ++ line_end
 line_of NoRoom = codes "452 4.3.1 Out of memory, try later" ++ line_end
 line_of TooManyRecipients = codes "452 4.5.3 Too many recipients" ++ line_end
@@ -62,6 +63,7 @@ is_of_host NoRecipient = false
 is_of_host BadParameter = false
 is_of_host NoSuchUser = false
 is_of_host MessageTooLarge = false
+is_of_host HeaderTooLarge = false
 is_of_host MailLoop = false
 
 abbrev pub first_octet : List ℕ → ℕ

@@ -56,6 +56,8 @@ pub enum Reply {
     AccountClosed,
     /// The message has more octets than are taken.
     MessageTooLarge,
+    /// Its header has.
+    HeaderTooLarge,
     /// The message was delivered to this recipient before.
     MailLoop,
     /// There is no memory, or no room on the disk.
@@ -95,6 +97,7 @@ impl Reply {
             Reply::NoSuchUser => b"550 5.1.1 No such user\r\n",
             Reply::AccountClosed => b"451 4.2.1 Account is closed, try later\r\n",
             Reply::MessageTooLarge => b"552 5.3.4 Message too large\r\n",
+            Reply::HeaderTooLarge => b"552 5.3.4 Header too large\r\n",
             Reply::MailLoop => b"554 5.4.6 Mail loop\r\n",
             Reply::NoRoom => b"452 4.3.1 Out of memory, try later\r\n",
             Reply::TooManyRecipients => b"452 4.5.3 Too many recipients\r\n",

@@ -1,6 +1,7 @@
 -- The definitions at a few texts: what they hold of, and what is near it that they don't.
-use Rattle.std.proofs.Common.{refl}
+use Rattle.std.proofs.Common.{◌≡◌, refl}
 use Rattle.std.specs.Prelude.{codes}
+use Rattle.mailhead.specs.Heads.{body_start}
 use Rattle.mailfronts.specs.Fronts.{HasHeaderOf}
 use Rattle.mailfronts.specs.Sizes.{CountsSize}
 
@@ -19,3 +20,10 @@ counts-return = record { size = refl; last = refl }
 -- and the first LF is
 counts-not_octets : CountsSize (codes "a\n\r") (record { size = 3; last = 13 }) → ⊥
 counts-not_octets counts = let no = counts.size in cc no
+
+-- a header ends behind its empty line; a text without one is all header
+header-ends : body_start (codes "a: b\r\n\r\nc\n\n") ≡ 8
+header-ends = refl
+
+header-open : body_start (codes "a: b\r\nc") ≡ 7
+header-open = refl

@@ -1,11 +1,13 @@
 -- A front of a message that has an empty line has all of its fields.
-use Rattle.std.proofs.Common.{◌≡◌, ℕ, Bool, true, false, cond, ◌||◌, List, [], ◌∷◌, ◌++◌, refl, sym, ap, ◌∙◌, inl, inr, arith}
+use Rattle.std.proofs.Common.{◌≡◌, ℕ, ◌≤◌, Bool, true, false, cond, ◌||◌, Some, None, List, [], ◌∷◌, ◌++◌, length, refl, sym, ap, ◌∙◌, subst, inl, inr, arith, length-append}
 use Rattle.std.proofs.lemmas.List.{append_assoc}
-use Rattle.std.specs.List.{list_all, list_any, filter_map}
+use Rattle.std.specs.List.{list_all, list_any, filter_map, concat}
 use Rattle.mailhead.specs.Lines.{is_other, lines_of, IsEnded, AreLines, is_empty_line, header_lines, logical_lines}
+use Rattle.mailhead.specs.Cuts.{after_empty}
 use Rattle.mailhead.specs.Fields.{field_of}
 use Rattle.mailhead.specs.Heads.{fields_of}
 use Rattle.mailhead.proofs.CutLemmas.{cut_ended, lines_found, lines_only}
+use Rattle.mailhead.proofs.LineLemmas.{concat-lines_of}
 use Rattle.mailfronts.specs.Fronts.{HasHeaderOf}
 
 -- a line without LF isn't empty
@@ -48,3 +50,17 @@ pub fields_in_front : (front message : List ℕ) → HasHeaderOf front message �
 fields_in_front front message has =
     let header = header_in (lines_of front) front has.rest (lines_found front) has.ended in
     ap (λ lines. filter_map field_of (logical_lines lines)) (sym header) ∙ ap fields_of (sym has.spelled)
+
+shorter_by : (test : Bool) (line body : List ℕ) (more : List (List ℕ)) → Some body ≡ cond test (Some (concat more)) None → length body ≤ length (line ++ concat more)
+shorter_by true line body more is =
+    let same : body ≡ concat more = cc in
+    rw same (omega (arith, length-append line (concat more)))
+shorter_by false line body more is = absurd (cc is)
+
+shorter_in : (lines : List (List ℕ)) (body : List ℕ) → Some body ≡ after_empty lines → length body ≤ length (concat lines)
+shorter_in [] body is = absurd (cc is)
+shorter_in (line ∷ more) body is = shorter_by (is_empty_line line) line body more is
+
+-- what follows an empty line is no longer than the text
+pub body_shorter : (text body : List ℕ) → Some body ≡ after_empty (lines_of text) → length body ≤ length text
+body_shorter text body is = subst (λ (t : List ℕ). length body ≤ length t) (concat-lines_of text) (shorter_in (lines_of text) body is)

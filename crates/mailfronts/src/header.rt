@@ -1,5 +1,6 @@
 //! Whether a front of a message has its header.
 ghost use Rattle.std.specs.Prelude.{◌≡◌};
+ghost use Rattle.mailhead.specs.Heads.{body_start};
 ghost use Rattle.mailfronts.specs.Fronts as fronts;
 
 use mailhead::{after_empty_line, first_line};
@@ -18,4 +19,21 @@ pub fn has_empty_line(text: &[u8]) -> bool
         (_, rest) = first_line(rest);
     }
     false
+}
+
+/// How many octets the header of a message has, with the empty line that ends it: where the body starts, and all of a message in
+/// which no line is empty.
+///
+/// One pass up to that line; takes no memory.
+pub fn header_len(message: &[u8]) -> usize
+    ensures { result ≡ body_start message.now }
+{
+    let mut rest = message;
+    while !rest.is_empty() {
+        if let Some(body) = after_empty_line(rest) {
+            return message.len() - body.len();
+        }
+        (_, rest) = first_line(rest);
+    }
+    message.len()
 }

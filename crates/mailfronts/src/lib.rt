@@ -5,5 +5,5 @@ mod header;
 pub mod laws;
 mod size;
 
-pub use header::has_empty_line;
+pub use header::{has_empty_line, header_len};
 pub use size::SizeCount;

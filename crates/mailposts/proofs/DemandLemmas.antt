@@ -8,10 +8,10 @@ use Rattle.lmtp.specs.Names.{AreForms}
 use Rattle.lmtp.specs.Receivers.{StandsIn, IsDelivery, IsKept}
 use Rattle.lmtp.specs.Turns.{max_text}
 use Rattle.lmtp.specs.declared.receiver.Delivery.{Delivery}
-use Rattle.lmtp.specs.declared.reply.Reply.TheVariants.{MailLoop, StoreAway}
+use Rattle.lmtp.specs.declared.reply.Reply.TheVariants.{HeaderTooLarge, MailLoop, StoreAway}
 use Rattle.lmtp.specs.declared.text.Trouble.{Trouble}
 use Rattle.lmtp.specs.declared.text.Trouble.TheVariants as trouble
-use Rattle.mailposts.specs.Posts.{Post, IsOwed, earlier, IsNew, Becomes, TooLarge, Lacked, Again, Circles, PutOff}
+use Rattle.mailposts.specs.Posts.{Post, IsOwed, earlier, IsNew, Becomes, TooLarge, Lacked, Again, LongHeader, Circles, PutOff, has_long_header}
 use Rattle.mailposts.specs.Stands.{reply_for, Stands, Demands, IsNext, Follows, told_before, Owes}
 use Rattle.mailposts.specs.Tallies.{MayAsk, HasWaited}
 use Rattle.mailposts.specs.declared.addressee.Addressee.{Addressee}
@@ -125,22 +125,27 @@ module _ (now : ℕ) (c : Code) (it : Addressee) (sender text : List ℕ) (owes 
       let o = owes p stands in
       (told_before c, it, o.0, sender, text, o.1, Again is)
 
+  pub too_long : has_long_header text ≡ true → Demands now c (demand.Reply (Refused HeaderTooLarge))
+  too_long is = λ p stands.
+      let o = owes p stands in
+      (told_before c, it, o.0, sender, text, o.1, LongHeader is refl)
+
   pub goes_round : was_delivered it.address text ≡ true → Demands now c (demand.Reply (Refused MailLoop))
   goes_round is = λ p stands.
       let o = owes p stands in
       (told_before c, it, o.0, sender, text, o.1, Circles is refl)
 
-  new_one : earlier (told_before c) it ≡ None → was_delivered it.address text ≡ false → (p : Post) → Stands c p → IsNew (told_before c) it text
-  new_one once straight p stands = record { small = (owes p stands).2; once = once; straight = straight }
+  new_one : earlier (told_before c) it ≡ None → has_long_header text ≡ false → was_delivered it.address text ≡ false → (p : Post) → Stands c p → IsNew (told_before c) it text
+  new_one once headed straight p stands = record { small = (owes p stands).2; once = once; headed = headed; straight = straight }
 
-  pub puts_off : earlier (told_before c) it ≡ None → was_delivered it.address text ≡ false → HasWaited now c.tally → Demands now c (demand.Reply (Refused StoreAway))
-  puts_off once straight waited = λ p stands.
+  pub puts_off : earlier (told_before c) it ≡ None → has_long_header text ≡ false → was_delivered it.address text ≡ false → HasWaited now c.tally → Demands now c (demand.Reply (Refused StoreAway))
+  puts_off once headed straight waited = λ p stands.
       let o = owes p stands in
-      (told_before c, it, o.0, sender, text, o.1, PutOff (new_one once straight p stands) (subst (HasWaited now) stands.holds.tally waited) refl)
+      (told_before c, it, o.0, sender, text, o.1, PutOff (new_one once headed straight p stands) (subst (HasWaited now) stands.holds.tally waited) refl)
 
-  pub delivery : earlier (told_before c) it ≡ None → was_delivered it.address text ≡ false → MayAsk now c.tally → (parcel : Parcel) → parcel.user ≡ it.user → parcel.sender ≡ sender
+  pub delivery : earlier (told_before c) it ≡ None → has_long_header text ≡ false → was_delivered it.address text ≡ false → MayAsk now c.tally → (parcel : Parcel) → parcel.user ≡ it.user → parcel.sender ≡ sender
       → parcel.recipient ≡ it.address → IsCopy sender it.address text parcel.message → Demands now c (demand.Delivery parcel)
-  delivery once straight may parcel user from to copy = λ p stands.
+  delivery once headed straight may parcel user from to copy = λ p stands.
       let o = owes p stands in (
         subst (MayAsk now) stands.holds.tally may,
         (
@@ -153,7 +158,7 @@ module _ (now : ℕ) (c : Code) (it : Addressee) (sender text : List ℕ) (owes 
             user = user;
             recipient = to;
             copy = subst (λ x. IsCopy x parcel.recipient text parcel.message) (sym from) (subst (λ x. IsCopy sender x text parcel.message) (sym to) copy);
-            new = new_one once straight p stands;
+            new = new_one once headed straight p stands;
           },
         ),
       )

@@ -1,11 +1,12 @@
 -- Right cases of the definitions, and near misses.
 use Rattle.std.proofs.Common.{◌≡◌, ◌∙◌, ℕ, ◌+◌, true, false, List, [], ◌∷◌, Option, Some, None, codes, refl, sym, arith}
+use Rattle.mailhead.specs.Heads.{body_start}
 use Rattle.lmtp.specs.Dialogues.{Asking}
 use Rattle.lmtp.specs.Replies.{line_of, first_octet}
 use Rattle.lmtp.specs.declared.name.Names.TheVariants.{Local}
 use Rattle.lmtp.specs.declared.receiver.Lookup.TheVariants.{Known, Unknown, Away}
 use Rattle.lmtp.specs.declared.reply.Reply.TheVariants.{NoSuchUser, NoRoom, StoreAway}
-use Rattle.mailposts.specs.Posts.{Post, Finds, IsFound, IsNew, Becomes, TooLarge, Lacked, Again, Circles, PutOff, IsParcel, earlier, taken_with, next_form}
+use Rattle.mailposts.specs.Posts.{Post, Finds, IsFound, IsNew, Becomes, TooLarge, Lacked, Again, LongHeader, Circles, PutOff, IsParcel, earlier, has_long_header, taken_with, next_form}
 use Rattle.mailposts.specs.Tallies.{fresh, MayAsk, HasWaited, done}
 use Rattle.mailposts.specs.declared.addressee.Addressee.{Addressee}
 use Rattle.mailposts.specs.declared.addressee.Became.{Became}
@@ -64,8 +65,20 @@ nothing_without_the_store : (now : ℕ) (p : Post) (before : List Addressee) (it
 nothing_without_the_store now p before it text became new may (TooLarge large is) = absurd (omega (arith, large, new.small))
 nothing_without_the_store now p before it text became new may (Lacked is) = is
 nothing_without_the_store now p before it text became new may (Again there) = absurd (let never : None ≡ Some became = sym new.once ∙ there in cc)
+nothing_without_the_store now p before it text became new may (LongHeader large is) = absurd (let never : true ≡ false = sym large ∙ new.headed in cc)
 nothing_without_the_store now p before it text became new may (Circles circles is) = absurd (let never : true ≡ false = sym circles ∙ new.straight in cc)
 nothing_without_the_store now p before it text became new may (PutOff again has is) = absurd (omega (arith, has, may))
+
+-- a header ends behind its empty line; without one all of the text is header
+headers : (body_start (codes "a: b\r\n\r\nc") ≡ 8) × (body_start (codes "a: b\r\nc") ≡ 7)
+headers = (refl, refl)
+
+-- one of 1,046,376 octets is taken, and one more is too many
+longest_header : (text : List ℕ) → body_start text ≡ 1046376 → has_long_header text ≡ false
+longest_header text is = rw is refl
+
+too_long_header : (text : List ℕ) → body_start text ≡ 1046377 → has_long_header text ≡ true
+too_long_header text is = rw is refl
 
 -- for the same account and address nothing is brought twice
 not_twice : (p : Post) (other it : Addressee) (after : List Addressee) (text : List ℕ) (parcel : Parcel) (became : Became) → earlier (other ∷ []) it ≡ Some became

@@ -1,6 +1,7 @@
 -- One connection of LMTP, as a daemon serves it: what goes on in it, and what may be done for it.
-use Rattle.std.specs.Prelude.{◌≡◌, ◌⊎◌, ℕ, ◌+◌, ◌<◌, ◌≤◌, ◌&&◌, nat_eq, Bool, true, false, if◌then◌else◌, List, [], ◌∷◌, ◌++◌, length, find, Option, Some, None}
+use Rattle.std.specs.Prelude.{◌≡◌, ◌⊎◌, ℕ, ◌+◌, ◌<◌, ◌≤◌, ◌&&◌, nat_eq, nat_lt, Bool, true, false, if◌then◌else◌, List, [], ◌∷◌, ◌++◌, length, find, Option, Some, None}
 use Rattle.std.specs.Cmp.Lexicographic.{pointwise}
+use Rattle.mailhead.specs.Heads.{body_start}
 use Rattle.lmtp.specs.Copies.{IsCopy, was_delivered}
 use Rattle.lmtp.specs.Dialogues.{Phase, Greeted, Ready, Opened, Asking, Sending, Over, Dialogue, new_dialogue, given, Message, IsFirst}
 use Rattle.lmtp.specs.Names.{AreForms}
@@ -9,7 +10,7 @@ use Rattle.lmtp.specs.Turns.{max_text, Answers, Declines, Resolves, replied}
 use Rattle.lmtp.specs.declared.name.Names.{Names}
 use Rattle.lmtp.specs.declared.receiver.Lookup.{Lookup}
 use Rattle.lmtp.specs.declared.receiver.Lookup.TheVariants.{Known, Unknown, Away as Absent}
-use Rattle.lmtp.specs.declared.reply.Reply.TheVariants.{MessageTooLarge, NoRoom, MailLoop, StoreAway}
+use Rattle.lmtp.specs.declared.reply.Reply.TheVariants.{MessageTooLarge, HeaderTooLarge, NoRoom, MailLoop, StoreAway}
 use Rattle.mailposts.specs.declared.addressee.Addressee.{Addressee}
 use Rattle.mailposts.specs.declared.addressee.Became.{Became}
 use Rattle.mailposts.specs.declared.addressee.Became.TheVariants.{Delivered, Refused}
@@ -151,18 +152,30 @@ became_of (Some other) = other.became
 abbrev pub earlier : List Addressee → Addressee → Option Became
 earlier before it = became_of (find (is_same it) before)
 
--- a message that the store may be brought: it is kept, was brought for no such recipient before, and didn't come to it before
+-- the most octets of a text's header, with the empty line that ends it: a message's own, 1,048,576, less 2,200 for the two fields that a
+-- delivery has in front
+abbrev pub max_header : ℕ
+max_header = 1046376
+
+-- whether a text's header has more: where no line is empty all of the text is its header
+abbrev pub has_long_header : List ℕ → Bool
+has_long_header text = nat_lt max_header (body_start text)
+
+-- a message that the store may be brought: it is kept, was brought for no such recipient before, its header is no longer than one may be, and
+-- it didn't come to it before
 pub record IsNew (before : List Addressee) (it : Addressee) (text : List ℕ) : Type 0 where
   pub small : length text ≤ max_text
   pub once : earlier before it ≡ None
+  pub headed : has_long_header text ≡ false
   pub straight : was_delivered it.address text ≡ false
 
--- what became of it without the store: it is too large; memory was lacking for it; it has become of it already, for the same recipient; it
--- went in a circle; or the store was away for too long
+-- what became of it without the store: it is too large; memory was lacking for it; it has become of it already, for the same recipient; its
+-- header is too large; it went in a circle; or the store was away for too long
 pub data Becomes (now : ℕ) (p : Post) (before : List Addressee) (it : Addressee) (text : List ℕ) (became : Became) : Type 0 where
   TooLarge : max_text < length text → became ≡ Refused MessageTooLarge → Becomes now p before it text became
   Lacked : became ≡ Refused NoRoom → Becomes now p before it text became
   Again : earlier before it ≡ Some became → Becomes now p before it text became
+  LongHeader : has_long_header text ≡ true → became ≡ Refused HeaderTooLarge → Becomes now p before it text became
   Circles : was_delivered it.address text ≡ true → became ≡ Refused MailLoop → Becomes now p before it text became
   PutOff : IsNew before it text → HasWaited now p.tally → became ≡ Refused StoreAway → Becomes now p before it text became
 

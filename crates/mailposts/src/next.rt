@@ -11,9 +11,14 @@ use crate::addressee::{Addressee, Became};
 use crate::demand::{Demand, Parcel, Question};
 use crate::post::Post;
 use lmtp::{Delivery, Next, Reply, Trouble, copy_for, name_forms, was_delivered};
+use mailfronts::header_len;
 use mailhead::Head;
 use octets::Octets;
 use std::alloc::{AllocError, Global};
+
+/// The most octets of a text's header, with the empty line that ends it: that of a message, 1,048,576 (1 MiB, as Exim has it), less
+/// 2,200 for the two fields that a delivery has in front. A program reads all fields of a header at once.
+const MAX_HEADER: usize = 1_046_376;
 
 impl Post {
     /// What is to be done next. Time is linear in the text that is delivered, or in the address that is asked for.
@@ -110,6 +115,9 @@ impl Post {
         requires once { posts.earlier (s.told_before self.now) addressee.now ≡ None }
         ensures { IfOk result (s.Demands now self.now) }
     {
+        if has_long_header(text) {
+            return Ok(Demand::Reply(Became::Refused(Reply::HeaderTooLarge)));
+        }
         if circles(self.alloc, text, addressee.address.as_slice())? {
             return Ok(Demand::Reply(Became::Refused(Reply::MailLoop)));
         }
@@ -181,6 +189,13 @@ fn is_same(addressee: &Addressee, other: &Addressee) -> bool
     ensures { result ≡ posts.is_same addressee.now other.now }
 {
     other.user == addressee.user && other.address == addressee.address
+}
+
+// Whether the header of a text is longer than one may be.
+fn has_long_header(text: &[u8]) -> bool
+    ensures { result ≡ posts.has_long_header text.now }
+{
+    header_len(text) > MAX_HEADER
 }
 
 // Whether the message came to this recipient before.
