@@ -58,8 +58,10 @@ def heard(server, front):
             time.sleep(0.3)
             break
     timer.cancel()
+    server.kill()
+    lines += server.stderr.read().decode().splitlines()
     end(server)
-    return lines + server.stderr.read().decode().splitlines()
+    return lines
 
 
 def words():
@@ -161,6 +163,8 @@ def links():
         for part in parts:
             os.makedirs(f"{away.name}/{part}")
         os.makedirs(away.name, exist_ok=True)
+        if os.path.islink(link):
+            os.remove(link)
         shutil.rmtree(link, ignore_errors=True)
         os.makedirs(os.path.dirname(link), exist_ok=True)
         os.symlink(away.name, link)

@@ -369,20 +369,20 @@ def renumbered():
         for text in texts:
             house.deliver("alice", text=text)
 
-    def hand_over(texts, told):
+    def hand_over(number, texts, told):
         server = Server(before_dot=lambda: put_back(*texts))
         status, lines, errors = house.send(server.place)
-        assert (status, lines) == (0, ["sent alice 1", "sent 1, wait 0"]), (status, lines, errors)
+        assert (status, lines) == (0, [f"sent alice {number}", "sent 1, wait 0"]), (status, lines, errors)
         assert len(server.taken) == 1 and errors == told, (errors, house.queue("alice"), server.taken)
         server.stop()
         return server.taken[0][2]
 
-    assert b"Subject: one" in hand_over([second], "sieved: alice 1: another message has the number now\n")
+    assert b"Subject: one" in hand_over(1, [second], "sieved: alice 1: another message has the number now\n")
     assert [line.split()[:2] for line in house.queue("alice")] == [["1", "redirect"]], house.queue("alice")
     # It goes next; the same message put in again is the row that goes, and a row that is gone is nothing to tell.
-    assert b"Subject: two" in hand_over([second], "") and not house.queue("alice")
+    assert b"Subject: two" in hand_over(1, [second], "") and not house.queue("alice")
     house.deliver("alice", text=first)
-    assert b"Subject: one" in hand_over([], "") and not house.queue("alice")
+    assert b"Subject: one" in hand_over(2, [], "") and not house.queue("alice")
     return "another message stays in the queue, and goes next; the same one leaves"
 
 
