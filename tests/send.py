@@ -357,6 +357,35 @@ def moved():
     return "the text waited for the 250, and its row went once"
 
 
+def renumbered():
+    """The account is put back as it was while its row is handed over, and a message comes that has the row's number: it stays, and that is told."""
+    house, first, second = House(), b"Subject: one\r\n\r\nHi\r\n", b"Subject: two\r\n\r\nHi\r\n"
+    older = house.store.run("export", "alice")
+    house.deliver("alice", text=first)
+
+    def put_back(*texts):
+        house.store.run("remove", "--wait", "--mail", "alice")
+        house.store.run("import", "--wait", data=older)
+        for text in texts:
+            house.deliver("alice", text=text)
+
+    def hand_over(number, texts, told):
+        server = Server(before_dot=lambda: put_back(*texts))
+        status, lines, errors = house.send(server.place)
+        assert (status, lines) == (0, [f"sent alice {number}", "sent 1, wait 0"]), (status, lines, errors)
+        assert len(server.taken) == 1 and errors == told, (errors, house.queue("alice"), server.taken)
+        server.stop()
+        return server.taken[0][2]
+
+    assert b"Subject: one" in hand_over(1, [second], "sieved: alice 1: another message has the number now\n")
+    assert [line.split()[:2] for line in house.queue("alice")] == [["1", "redirect"]], house.queue("alice")
+    # It goes next; the same message put in again is the row that goes, and a row that is gone is nothing to tell.
+    assert b"Subject: two" in hand_over(1, [second], "") and not house.queue("alice")
+    house.deliver("alice", text=first)
+    assert b"Subject: one" in hand_over(2, [], "") and not house.queue("alice")
+    return "another message stays in the queue, and goes next; the same one leaves"
+
+
 def full():
     """The store refuses a row right behind its 250 while it is had, since its files may not grow: it leaves once they may, and goes once."""
     house = House()
@@ -475,6 +504,32 @@ def waits():
     return "put off for a minute; no server 75; a second run 75"
 
 
+def ahead():
+    """Waits that a clock noted which was years ahead hold nothing: what lies a day ahead waits, what lies further is tried."""
+    house = House()
+    house.deliver("alice")
+    server = Server({"dot": b"550 no\r\n"})
+    assert house.send(server.place)[1] == ["waits alice 1: refused with 550", "sent 0, wait 1"]
+    server.stop()
+    path = f"{house.store.file}.send.waits"
+    noted = open(path).read()
+    moment = noted.split()[0]
+    assert abs(int(moment) - 86_400 - time.time()) < 60, noted
+    server = Server()
+    for later, lines in ((0, ["sent 0, wait 0"]), (-86_400 + 60, ["sent 0, wait 0"]), (120, ["sent alice 1", "sent 1, wait 0"])):
+        with open(path, "w") as file:
+            file.write(noted.replace(moment, str(int(moment) + later)))
+        assert house.send(server.place)[1] == lines, (later, noted)
+    for later in 3_650 * 86_400, 2 ** 64 - 1 - int(moment):
+        house.deliver("alice")
+        number = house.queue("alice")[0].split()[0]
+        with open(path, "w") as file:
+            file.write(noted.replace(moment, str(int(moment) + later)).replace(" 1 alice", f" {number} alice"))
+        assert house.send(server.place)[1] == [f"sent alice {number}", "sent 1, wait 0"], later
+    server.stop()
+    return "a day ahead, and a minute: kept; two minutes more, ten years, the largest number: tried at once"
+
+
 def most():
     """`--most K` rows at once."""
     house = House()
@@ -563,7 +618,7 @@ def dovecot():
     return f"{count} rows, each once and as it stands; without a login 530"
 
 
-TRIALS = {"sends": sends, "replies": replies, "pieces": pieces, "lost": lost, "busy": busy, "refusing": refusing, "held": held, "shared": shared, "moved": moved, "full": full, "octets": octets, "addresses": addresses, "waits": waits, "most": most, "killed": killed, "postfix": postfix, "dovecot": dovecot}
+TRIALS = {"sends": sends, "replies": replies, "pieces": pieces, "lost": lost, "busy": busy, "refusing": refusing, "held": held, "shared": shared, "moved": moved, "renumbered": renumbered, "full": full, "octets": octets, "addresses": addresses, "waits": waits, "ahead": ahead, "most": most, "killed": killed, "postfix": postfix, "dovecot": dovecot}
 
 
 def program(path):

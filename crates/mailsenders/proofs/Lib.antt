@@ -1,3 +1,4 @@
 pub mod DeedLemmas
 pub mod TalkLemmas
 pub mod WireLemmas
+mod Examples

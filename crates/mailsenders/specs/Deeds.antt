@@ -1,13 +1,14 @@
 -- What a run does with rows.
-use Rattle.std.specs.Prelude.{◌≡◌, Bool, true, false, List, [], ◌∷◌, Result, Ok, Err}
+use Rattle.std.specs.Prelude.{◌≡◌, Bool, true, List, [], ◌∷◌, Option, Some, None, IsSome, Result, Ok, Err}
 use Rattle.std.specs.List.{All}
 use Rattle.smtpclient.specs.Letters.{Mail, LeavesPath}
 use Rattle.smtpclient.specs.declared.extension.Extensions.{Extensions}
 use Rattle.smtpclient.specs.declared.dialogue.Ending.{Ending}
 use Rattle.smtpclient.specs.declared.dialogue.Ending.TheVariants.{Sent}
-use Rattle.mailsenders.specs.Rows.{Rows, IsThere, TakesOut}
+use Rattle.mailsenders.specs.Rows.{Rows, IsThere, TakesRow}
 use Rattle.mailsenders.specs.Talks.{Talk, Treats}
 use Rattle.mailsenders.specs.declared.queue.Row.{Row}
+use Rattle.mailsenders.specs.declared.queue.TakenOut.{TakenOut}
 use Rattle.mailsenders.specs.declared.row.Stop.{Stop}
 use Rattle.mailsenders.specs.declared.row.Stop.TheVariants.{Memory, Store, Output, Kept, Unreachable}
 
@@ -23,8 +24,8 @@ pub record Deed : Type 0 where
   -- what the server offers
   pub offered : Extensions
   pub ending : Ending
-  -- whether the row left the queue
-  pub is_taken : Bool
+  -- what became of the row where it was to be taken out
+  pub taken : Option TakenOut
 
 pub record State : Type 0 where
   pub rows : Rows
@@ -33,10 +34,10 @@ pub record State : Type 0 where
 abbrev pub state : Rows → Talk → State
 state rows talk = record { rows = rows; talk = talk }
 
--- the row leaves only where it was sent; else no row changes
-abbrev pub Leaves : Bool → Row → Ending → Rows → Rows → Type 0
-Leaves true row ending before after = (ending ≡ Sent) × TakesOut row.user row.id before after
-Leaves false row ending before after = after ≡ before
+-- the row is taken out only where it was sent; else no row changes
+abbrev pub Leaves : Option TakenOut → Row → Ending → Rows → Rows → Type 0
+Leaves (Some taken) row ending before after = (ending ≡ Sent) × TakesRow row taken before after
+Leaves None row ending before after = after ≡ before
 
 -- one row: it is in the queue and due, its letter is handed to the server, and then it leaves or stays
 pub record Does (may_eight_bit : Bool) (deed : Deed) (before after : State) : Type 0 where
@@ -44,16 +45,16 @@ pub record Does (may_eight_bit : Bool) (deed : Deed) (before after : State) : Ty
   pub mail : Mail
   pub letter : IsLetterOf deed.row mail
   pub treats : Treats deed.offered may_eight_bit mail before.talk after.talk deed.ending
-  pub leaves : Leaves deed.is_taken deed.row deed.ending before.rows after.rows
+  pub leaves : Leaves deed.taken deed.row deed.ending before.rows after.rows
 
 -- deeds, the last one first
 abbrev pub Leads : Bool → List Deed → State → State → Type 0
 Leads may_eight_bit [] before after = after ≡ before
 Leads may_eight_bit (deed ∷ earlier) before after = (mid : State) × Leads may_eight_bit earlier before mid × Does may_eight_bit deed mid after
 
--- a row that was sent has left
+-- a row that was sent was taken out, or it didn't stand there any more
 abbrev pub HasLeft : Deed → Type 0
-HasLeft deed = deed.ending ≡ Sent → deed.is_taken ≡ true
+HasLeft deed = deed.ending ≡ Sent → IsSome deed.taken
 
 -- deeds lead to rows that are shown, and to what was said; where the run ended well each row that was sent has left
 pub record Reaches (may_eight_bit : Bool) (Shows : Rows → Type 0) (Said : Talk → Type 0) (before : State) (is_whole : Bool) : Type 0 where
@@ -67,18 +68,18 @@ pub record Reaches (may_eight_bit : Bool) (Shows : Rows → Type 0) (Said : Talk
 -- ---- one row
 
 -- what is done with a row that is there
-pub record Handles (offered : Extensions) (may_eight_bit : Bool) (row : Row) (before after : State) (ending : Ending) (is_taken : Bool) : Type 0 where
+pub record Handles (offered : Extensions) (may_eight_bit : Bool) (row : Row) (before after : State) (ending : Ending) (taken : Option TakenOut) : Type 0 where
   pub mail : Mail
   pub letter : IsLetterOf row mail
   pub treats : Treats offered may_eight_bit mail before.talk after.talk ending
-  pub leaves : Leaves is_taken row ending before.rows after.rows
+  pub leaves : Leaves taken row ending before.rows after.rows
 
 -- it was handed over; or there was no memory, and nothing happened; or it was sent and can't be taken out
 abbrev pub EndsRow : Extensions → Bool → Row → State → State → Result Ending Stop → Type 0
 EndsRow offered may_eight_bit row before after (Ok ending) =
-    (is_taken : Bool) × Handles offered may_eight_bit row before after ending is_taken × (ending ≡ Sent → is_taken ≡ true)
+    (taken : Option TakenOut) × Handles offered may_eight_bit row before after ending taken × (ending ≡ Sent → IsSome taken)
 EndsRow offered may_eight_bit row before after (Err Memory) = after ≡ before
-EndsRow offered may_eight_bit row before after (Err Kept) = Handles offered may_eight_bit row before after Sent false
+EndsRow offered may_eight_bit row before after (Err Kept) = Handles offered may_eight_bit row before after Sent None
 EndsRow offered may_eight_bit row before after (Err Store) = ⊥
 EndsRow offered may_eight_bit row before after (Err Output) = ⊥
 EndsRow offered may_eight_bit row before after (Err Unreachable) = ⊥

@@ -1,6 +1,8 @@
 -- The rows of all queues.
 use Rattle.std.specs.Prelude.{◌≡◌, ℕ, Bool, true, List, Option, Some, None}
 use Rattle.mailsenders.specs.declared.queue.Row.{Row}
+use Rattle.mailsenders.specs.declared.queue.TakenOut.{TakenOut}
+use Rattle.mailsenders.specs.declared.queue.TakenOut.TheVariants.{Removed, Gone, Changed}
 
 -- what a row has, and whether it is due
 pub record Content : Type 0 where
@@ -25,3 +27,23 @@ IsThere row rows = rows row.user row.id ≡ Some (content_of row)
 pub record TakesOut (user : List ℕ) (id : ℕ) (before after : Rows) : Type 0 where
   pub gone : after user id ≡ None
   pub others : (other : List ℕ) (number : ℕ) → (other ≡ user → number ≡ id → ⊥) → after other number ≡ before other number
+
+-- what a row has is a row's own sender, target and message, be it due or not
+pub record HasOctets (row : Row) (content : Content) : Type 0 where
+  pub sender : content.sender ≡ row.sender
+  pub target : content.target ≡ row.target
+  pub message : content.message ≡ row.message
+
+-- a row stands in its user's queue: its number is there, and its octets are
+abbrev pub Stands : Row → Rows → Type 0
+Stands row rows = (content : Content) × (rows row.user row.id ≡ Some content) × HasOctets row content
+
+-- another row has its number
+abbrev pub IsChanged : Row → Rows → Type 0
+IsChanged row rows = (content : Content) × (rows row.user row.id ≡ Some content) × (HasOctets row content → ⊥)
+
+-- what became of a row that was to be taken out: it stood there, and left; or it didn't, and no row changed
+abbrev pub TakesRow : Row → TakenOut → Rows → Rows → Type 0
+TakesRow row Removed before after = Stands row before × TakesOut row.user row.id before after
+TakesRow row Gone before after = (before row.user row.id ≡ None) × (after ≡ before)
+TakesRow row Changed before after = IsChanged row before × (after ≡ before)

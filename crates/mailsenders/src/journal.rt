@@ -13,6 +13,9 @@ pub trait Journal {
     /// Tells what became of the user's row with the number, and notes when it is tried again.
     fn note(&mut self, user: &[u8], id: u64, ending: Ending) -> Result<(), Unwritten>;
 
+    /// Tells that another row has the number of the user's row that was sent: it stays.
+    fn tell_changed(&mut self, user: &[u8], id: u64);
+
     /// The milliseconds of a clock that never goes back.
     fn uptime(&mut self) -> u64;
 

@@ -16,7 +16,7 @@ pub use client::Client;
 pub use dialogue::send_letter;
 pub use journal::{Journal, Unwritten};
 pub use peer::{MOMENT, Patience, Peer};
-pub use queue::{Queue, Row, Unavailable};
+pub use queue::{Queue, Row, TakenOut, Unavailable};
 pub use row::{Stop, send_row};
 pub use run::{Tally, send_queue};
 pub use server::{Lost, Server};

@@ -1,6 +1,6 @@
 //! What the queues of all users promise.
-ghost use Rattle.std.specs.Prelude.{◌≡◌, ℕ, List, OnOk, OnErr, IfOk, IfSome};
-ghost use Rattle.mailsenders.specs.Rows.{Rows, TakesOut};
+ghost use Rattle.std.specs.Prelude.{◌≡◌, ℕ, List, OnErr, IfOk, IfSome};
+ghost use Rattle.mailsenders.specs.Rows.{Rows, TakesRow};
 
 use octets::Octets;
 
@@ -14,6 +14,17 @@ pub struct Row {
     pub sender: Octets,
     pub target: Octets,
     pub message: Octets,
+}
+
+/// What became of a row that was to be taken out.
+#[derive(Clone, Copy, Debug, PartialEq, Eq)]
+pub enum TakenOut {
+    /// It left its queue.
+    Removed,
+    /// No row has its number any more: another took it out.
+    Gone,
+    /// Another row has its number now, which stays.
+    Changed,
 }
 
 /// Why a row can't be read, or can't be taken out.
@@ -38,14 +49,15 @@ pub trait Queue {
         ensures there { IfOk result (λ found. IfSome found (λ row. (rows : Rows) → shows self.old rows → IsThere row rows)) }
         ensures same { (rows : Rows) → shows self.old rows → shows self.new rows };
 
-    /// Takes the user's row with the number out, and what is taken out stays so whatever stops later. The store is taken for it, where it
-    /// isn't had, waited for without an end, and had then. A row that isn't there any more counts as taken out.
+    /// Takes a row out, and what is taken out stays so whatever stops later. It is the row that has its user, its number, its sender, its
+    /// target and its message; where there is no such row nothing changes. The store is taken for it, where it isn't had, waited for without
+    /// an end, and had then.
     ///
     /// # Errors
     ///
     /// The store refuses; then nothing changed.
-    fn take_out(&mut self, user: &[u8], id: u64) -> Result<(), Unavailable>
-        ensures taken { OnOk result ((rows : Rows) → shows self.old rows → (after : Rows) × TakesOut user.now id rows after × shows self.new after) }
+    fn take_out(&mut self, row: &Row) -> Result<TakenOut, Unavailable>
+        ensures taken { IfOk result (λ taken. (rows : Rows) → shows self.old rows → (after : Rows) × TakesRow row.now taken rows after × shows self.new after) }
         ensures kept { OnErr result ((rows : Rows) → shows self.old rows → shows self.new rows) };
 
     /// Gives the store back where it is had and somebody waits for it, or it was had for long, at a moment in milliseconds. Answers

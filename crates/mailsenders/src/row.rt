@@ -1,12 +1,12 @@
 //! One row: its letter is sent, and then it leaves the queue.
-ghost use Rattle.std.specs.Prelude.{OnOk, OnErr};
+ghost use Rattle.std.specs.Prelude.{IfOk, OnErr};
 ghost use Rattle.smtpclient.specs.Letters.{mail_of};
-ghost use Rattle.mailsenders.specs.Rows.{Rows, TakesOut};
+ghost use Rattle.mailsenders.specs.Rows.{Rows, TakesRow};
 ghost use Rattle.mailsenders.specs.Deeds as s;
 
 use crate::dialogue::send_letter;
 use crate::journal::Journal;
-use crate::queue::{Queue, Row, Unavailable};
+use crate::queue::{Queue, Row, TakenOut, Unavailable};
 use crate::server::Server;
 use smtpclient::{Ending, Extensions, Letter, without_path};
 use std::alloc::Global;
@@ -33,7 +33,7 @@ pub enum Stop {
 }
 
 /// Hands a row's letter to the server. Behind the 250 to its text the row is taken out; where the store refuses that it is tried again for
-/// ten minutes.
+/// ten minutes. Another row that has its number by then stays, which is told.
 ///
 /// Time is linear in the message's octets.
 pub fn send_row<Q: Queue, S: Server, J: Journal>(
@@ -62,7 +62,10 @@ pub fn send_row<Q: Queue, S: Server, J: Journal>(
     };
     match ending {
         Ending::Sent => match take_out(queue, journal, row) {
-            Ok(()) => Ok(ending),
+            Ok(taken) => {
+                tell_taken(journal, row, taken);
+                Ok(ending)
+            }
             Err(_) => Err(Stop::Kept),
         },
         _ => Ok(ending),
@@ -80,19 +83,26 @@ pub(crate) fn letter_of(row: &Row) -> Letter<'_>
     }
 }
 
+// What is to be told of a row that was sent and was to be taken out.
+fn tell_taken<J: Journal>(journal: &mut J, row: &Row, taken: TakenOut) {
+    if taken == TakenOut::Changed {
+        journal.tell_changed(row.user.as_slice(), row.id);
+    }
+}
+
 // Takes the row out. What is refused is tried again, a second between, until ten minutes are over since the first refusal.
 fn take_out<Q: Queue, J: Journal>(
     queue: &mut Q,
     journal: &mut J,
     row: &Row,
-) -> Result<(), Unavailable>
-    ensures taken { OnOk result ((rows : Rows) → Q.shows queue.old rows → (after : Rows) × TakesOut row.now.user row.now.id rows after × Q.shows queue.new after) }
+) -> Result<TakenOut, Unavailable>
+    ensures taken { IfOk result (λ taken. (rows : Rows) → Q.shows queue.old rows → (after : Rows) × TakesRow row.now taken rows after × Q.shows queue.new after) }
     ensures kept { OnErr result ((rows : Rows) → Q.shows queue.old rows → Q.shows queue.new rows) }
 {
     let mut refused = None;
     for _ in 0..u64::MAX {
-        if queue.take_out(row.user.as_slice(), row.id).is_ok() {
-            return Ok(());
+        if let Ok(taken) = queue.take_out(row) {
+            return Ok(taken);
         }
         let now = journal.uptime();
         let first = *refused.get_or_insert(now);

@@ -1,6 +1,7 @@
 //! Who keeps the messages that leave a store: a Maildir, or memory.
 #![tactic(auto)]
 
+mod directory;
 mod file_name;
 mod kept;
 pub mod laws;

@@ -1,6 +1,7 @@
 //! A sink over a Maildir.
 ghost use Rattle.std.specs.Prelude.{◌≡◌, []};
 
+use crate::directory::{Identity, open_directory};
 use crate::file_name::{name_of, place_of};
 use crate::sink::{MailSink, SinkError};
 use std::fs::File;
@@ -9,7 +10,10 @@ use std::{format, fs, io};
 
 /// Keeps messages in a Maildir, each as a file of `new`, or with system flags of `cur`: one for any program that reads Maildirs.
 ///
-/// A file is written under `tmp`, and stands there only once all of it is on the disk. Memory is that of two paths.
+/// A file is written under `tmp`, and stands there only once all of it is on the disk. Memory is that of some paths.
+///
+/// No link is followed at the end of its path and below it: `tmp`, `new` and `cur` are directories of its own, and each is the same one,
+/// by its device and number, before a file came to its place and behind it. A path that ends in `/.` is a directory, whatever led there.
 #[derive(Drop)]
 pub struct Maildir<'a> {
     rt: &'a HostRuntime,
@@ -28,13 +32,14 @@ impl<'a> Maildir<'a> {
         }
     }
 
-    /// What is answered for an error of the system. What is known of it is kept for `cause`.
+    /// What is answered for an error of the system, `NoMaildir` where something else stands where a directory is to. What is known of it is kept for `cause`.
     fn refusal(&mut self, error: io::Error) -> SinkError
         ensures { self.new.path ≡ self.old.path }
     {
         self.cause = Some(error.kind());
         match error.kind() {
             ErrorKind::OutOfMemory => SinkError::Memory,
+            ErrorKind::NotADirectory => SinkError::NoMaildir,
             _ => SinkError::Failed,
         }
     }
@@ -129,7 +134,7 @@ fn sync_known_parent(rt: &HostRuntime, path: &str) -> io::Result<()> {
     }
 }
 
-/// Syncs the directory in which one stands, whose name is on the disk then. Of a symlink that is where its target stands.
+/// Syncs the directory in which one stands, whose name is on the disk then. Of a link that is where its target stands.
 fn sync_parent(rt: &HostRuntime, path: &str) -> io::Result<()> {
     sync_directory(rt, format!(in rt.alloc(); "{path}/..")?.as_str())
 }
@@ -139,47 +144,55 @@ fn sync_directory(rt: &HostRuntime, path: &str) -> io::Result<()> {
     File::open(rt, path)?.sync_all()
 }
 
-/// Whether the path is a directory that has the directories `tmp` and `new`.
+/// Whether the path is a directory that has the directories `tmp` and `new`. No link is one, at the end of the path and below it.
 fn is_maildir(rt: &HostRuntime, path: &str) -> io::Result<bool> {
-    let tmp = format!(in rt.alloc(); "{path}/tmp")?;
-    let new = format!(in rt.alloc(); "{path}/new")?;
-    Ok(!path.is_empty() && is_directory(rt, tmp.as_str())? && is_directory(rt, new.as_str())?)
+    Ok(!path.is_empty() && is_directory(rt, path)? && has_parts(rt, path, &["tmp", "new"])?)
 }
 
-/// Whether the path is a directory. One that can't be there isn't.
-fn is_directory(rt: &HostRuntime, path: &str) -> io::Result<bool> {
-    match fs::metadata(rt, path) {
-        Ok(found) => Ok(found.is_dir()),
-        Err(error) => match error.kind() {
-            ErrorKind::NotFound
-            | ErrorKind::NotADirectory
-            | ErrorKind::InvalidFilename
-            | ErrorKind::InvalidInput => Ok(false),
-            _ => Err(error),
-        },
+/// Whether a path has these directories below it. A link is none.
+fn has_parts(rt: &HostRuntime, path: &str, parts: &[&str]) -> io::Result<bool> {
+    for part in parts {
+        if !is_directory(rt, format!(in rt.alloc(); "{path}/{part}")?.as_str())? {
+            return Ok(false);
+        }
     }
+    Ok(true)
 }
 
-/// Makes a Maildir, with its directories `tmp`, `new` and `cur`, where they aren't there. On Ok their names are on the disk.
+/// Whether the path is a directory. One that can't be there isn't, and no link to one is.
+fn is_directory(rt: &HostRuntime, path: &str) -> io::Result<bool> {
+    Ok(Identity::at(rt, path)?.is_some())
+}
+
+/// Makes a Maildir, with its directories `tmp`, `new` and `cur`, where they aren't there. On Ok their names are on the disk. Nothing is
+/// made behind a link: one that stands at the end of the path has to lead to a whole Maildir.
 fn make_maildir(rt: &HostRuntime, path: &str) -> io::Result<()> {
-    make_directory(rt, path)?;
-    for part in ["tmp", "new", "cur"] {
-        make_directory(rt, format!(in rt.alloc(); "{path}/{part}")?.as_str())?;
+    let parts = ["tmp", "new", "cur"];
+    if !has_parts(rt, path, &parts)? {
+        make_directory(rt, path)?;
+        for part in parts {
+            make_directory(rt, format!(in rt.alloc(); "{path}/{part}")?.as_str())?;
+        }
     }
     sync_directory(rt, path)?;
     sync_parent(rt, path)
 }
 
-/// Makes a directory, where it isn't there.
+/// Makes a directory, where it isn't there. A link to one is an error.
 fn make_directory(rt: &HostRuntime, path: &str) -> io::Result<()> {
     match fs::create_dir(rt, path) {
-        Err(error) if error.kind() == ErrorKind::AlreadyExists => Ok(()),
+        Err(error) if error.kind() == ErrorKind::AlreadyExists => {
+            Identity::wanted_at(rt, path)?;
+            Ok(())
+        }
         made => made,
     }
 }
 
 /// Puts a message into a Maildir under a name, at a place in it. On Ok the file and its name are on the disk; a file that doesn't come to
 /// its place isn't left under `tmp` either.
+///
+/// The Maildir, its `tmp` and the directory of the place are no links before and behind it, and the same directories.
 fn keep_in(
     rt: &HostRuntime,
     path: &str,
@@ -187,14 +200,21 @@ fn keep_in(
     place: &str,
     message: &[u8],
 ) -> io::Result<()> {
+    let tmp = format!(in rt.alloc(); "{path}/tmp")?;
     let first = format!(in rt.alloc(); "{path}/tmp/{name}")?;
     let last = format!(in rt.alloc(); "{path}/{place}")?;
-    let directory = directory_of(rt, path, place)?;
+    let whole = Identity::wanted_at(rt, path)?;
+    let before = Identity::wanted_at(rt, tmp.as_str())?;
+    let parent = directory_of(rt, path, place)?;
+    let directory = open_directory(rt, parent.as_str())?;
     if let Err(error) = write_and_move(rt, first.as_str(), last.as_str(), message) {
         let _ = fs::remove_file(rt, first.as_str());
         return Err(error);
     }
-    sync_directory(rt, directory.as_str())
+    whole.expect_at(rt, path)?;
+    before.expect_at(rt, tmp.as_str())?;
+    Identity::of(&directory.metadata()?).expect_at(rt, parent.as_str())?;
+    directory.sync_all()
 }
 
 /// The directory of a Maildir in which a place is. `cur`, which a Maildir may lack that no program has read, is made where it isn't

@@ -1,7 +1,7 @@
 //! Runs over queues in memory, with a server that sends given octets.
 use crate::memory_journal::MemoryJournal;
 use crate::memory_peer::MemoryPeer;
-use crate::memory_queue::MemoryQueue;
+use crate::memory_queue::{Change, MemoryQueue};
 use casefiles::Answers;
 use mailsenders::{Client, Row, send_queue};
 use octets::{Octets, parse_decimal, write_decimal};
@@ -28,6 +28,12 @@ pub struct Refusals;
 /// up; and three of each row, as in `Letters`.
 #[derive(Drop)]
 pub struct Holdings;
+
+/// Answers what becomes of rows, as `Letters` does, where another makes something else of one of them: once the store is given back behind
+/// that row was found. The columns: what the server sends; the number of the row; `gone`, or `other` and three columns of the row that then
+/// has the number; and three of each row.
+#[derive(Drop)]
+pub struct Changes;
 
 impl Answers for Letters {
     fn answer(
@@ -117,6 +123,47 @@ impl Answers for Holdings {
     }
 }
 
+impl Answers for Changes {
+    fn answer(
+        &mut self,
+        alloc: Global,
+        out: &mut Octets,
+        given: &[Octets],
+    ) -> Result<(), AllocError> {
+        let [server, number, kind, others @ ..] = given else {
+            return Ok(());
+        };
+        let id = parse_decimal(number.as_slice()).unwrap_or(0);
+        let (change, rows) = change_of(alloc, id, kind.as_slice(), others)?;
+        let run = Run {
+            server: server.as_slice(),
+            rows,
+            most: 4_096,
+            refusals: 0,
+            looks: None,
+            span: 0,
+        };
+        let answer = run.answer_with(alloc, change)?;
+        out.extend_from_slice(answer.told.as_slice())
+    }
+}
+
+// What another makes of the row with a number, and the columns behind it.
+fn change_of<'a>(
+    alloc: Global,
+    id: u64,
+    kind: &[u8],
+    others: &'a [Octets],
+) -> Result<(Change, &'a [Octets]), AllocError> {
+    match others {
+        [sender, target, message, rows @ ..] if kind == b"other".as_slice() => {
+            let row = row_of(alloc, id, sender, target, message)?;
+            Ok((Change::Other(row), rows))
+        }
+        rows => Ok((Change::Gone(id), rows)),
+    }
+}
+
 /// What a run is over.
 #[derive(Clone, Copy)]
 struct Run<'a> {
@@ -148,7 +195,12 @@ struct Answer {
 
 impl Run<'_> {
     fn answer(self, alloc: Global) -> Result<Answer, AllocError> {
+        self.answer_with(alloc, Change::None)
+    }
+
+    fn answer_with(self, alloc: Global, change: Change) -> Result<Answer, AllocError> {
         let mut queue = queue_of(alloc, self.rows, self.refusals, self.looks)?;
+        queue.set_change(change);
         let mut journal = MemoryJournal::new(alloc, self.span);
         let host = Octets::from_slice(alloc, b"h")?;
         let peer = MemoryPeer::new(alloc, self.server, self.most);
@@ -190,14 +242,25 @@ fn queue_of(
     for row in rows.chunks(3) {
         if let [sender, target, message] = row {
             id = u64::saturating_add(id, 1);
-            queue.push(Row {
-                user: Octets::from_slice(alloc, b"u")?,
-                id,
-                sender: sender.try_clone(alloc)?,
-                target: target.try_clone(alloc)?,
-                message: message.try_clone(alloc)?,
-            })?;
+            queue.push(row_of(alloc, id, sender, target, message)?)?;
         }
     }
     Ok(queue)
+}
+
+// The row of user `u` with a number.
+fn row_of(
+    alloc: Global,
+    id: u64,
+    sender: &Octets,
+    target: &Octets,
+    message: &Octets,
+) -> Result<Row, AllocError> {
+    Ok(Row {
+        user: Octets::from_slice(alloc, b"u")?,
+        id,
+        sender: sender.try_clone(alloc)?,
+        target: target.try_clone(alloc)?,
+        message: message.try_clone(alloc)?,
+    })
 }

@@ -12,7 +12,7 @@ mod memory_queue;
 
 use boxes::Boxes;
 use casefiles::{Answers, Tally, try_rows};
-use letters::{Holdings, Letters, Refusals};
+use letters::{Changes, Holdings, Letters, Refusals};
 use std::process::ExitCode;
 use std::{fs, io};
 
@@ -21,6 +21,7 @@ fn main(rt: HostRuntime) -> io::Result<ExitCode> {
     failed |= try_file(&rt, "letters.cases", &mut Letters)?;
     failed |= try_file(&rt, "refusals.cases", &mut Refusals)?;
     failed |= try_file(&rt, "holdings.cases", &mut Holdings)?;
+    failed |= try_file(&rt, "changes.cases", &mut Changes)?;
     println!(rt; "{}", if failed { "failed" } else { "all hold" })?;
     Ok(ExitCode::from(u8::from(failed)))
 }

@@ -4,7 +4,7 @@ use octets::{Octets, write_decimal};
 use smtpclient::Ending;
 use std::alloc::{AllocError, Global};
 
-/// What became of rows, one after another: ` ID ENDING;` for each. Its clock goes on where it pauses, and by a span at each look at it.
+/// What became of rows, one after another: `ID ENDING; ` for each, and `ID changed; ` before that of one whose number another row has. Its clock goes on where it pauses, and by a span at each look at it.
 #[derive(Drop)]
 pub struct MemoryJournal {
     told: Octets,
@@ -46,6 +46,11 @@ impl MemoryJournal {
         self.told.extend_from_slice(b"; ")
     }
 
+    fn tell_number(&mut self, id: u64) -> Result<(), AllocError> {
+        write_decimal(&mut self.told, id)?;
+        self.told.extend_from_slice(b" changed; ")
+    }
+
     fn tell_code(&mut self, word: &[u8], code: u16) -> Result<(), AllocError> {
         self.told.extend_from_slice(word)?;
         write_decimal(&mut self.told, u64::from(code))
@@ -60,6 +65,10 @@ impl Journal for MemoryJournal {
             Ok(()) => Ok(()),
             Err(_) => Err(Unwritten),
         }
+    }
+
+    fn tell_changed(&mut self, _user: &[u8], id: u64) {
+        let _ = self.tell_number(id);
     }
 
     fn uptime(&mut self) -> u64 {

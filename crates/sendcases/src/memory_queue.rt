@@ -1,10 +1,21 @@
 //! Queues in memory.
-use mailsenders::{Queue, Row, Unavailable};
+use mailsenders::{Queue, Row, TakenOut, Unavailable};
 use octets::{List, Octets};
 use std::alloc::{AllocError, Global};
 
 /// The store is had for so many milliseconds in a row at most.
 const MAX_HAD: u64 = 1_000;
+
+/// What another makes of the row with a number, once the store is given back behind it was found.
+#[derive(Drop)]
+pub enum Change {
+    /// Nothing.
+    None,
+    /// It is taken out.
+    Gone(u64),
+    /// It is taken out, and this one has its number.
+    Other(Row),
+}
 
 /// Rows of queues, in their order.
 #[derive(Drop)]
@@ -21,6 +32,9 @@ pub struct MemoryQueue {
     since: Option<u64>,
     /// How many looks come before the one at which somebody waits; none where nobody does.
     looks: Option<u64>,
+    change: Change,
+    /// The number of the row that was found last.
+    found: u64,
     trace: Octets,
 }
 
@@ -36,8 +50,15 @@ impl MemoryQueue {
             is_had: false,
             since: None,
             looks,
+            change: Change::None,
+            found: 0,
             trace: Octets::new(alloc),
         }
+    }
+
+    /// What another makes of a row.
+    pub fn set_change(&mut self, change: Change) {
+        self.change = change;
     }
 
     /// A row more, behind the others.
@@ -48,7 +69,8 @@ impl MemoryQueue {
     }
 
     /// What was done, one after the other: `+` where the store was taken, `-` where it was given back, `?N` where the row with the number was
-    /// found, `.` where none was, `xN` where it was taken out, `!` where that was refused.
+    /// found, `.` where none was, `xN` where it was taken out, `gN` where it was gone, `cN` where another had its number, `!` where that was
+    /// refused.
     pub fn trace(&self) -> &[u8] {
         self.trace.as_slice()
     }
@@ -63,9 +85,46 @@ impl MemoryQueue {
     fn hand_back(&mut self) {
         if self.is_had {
             self.note(b"-", None);
+            self.make_change();
         }
         self.is_had = false;
         self.since = None;
+    }
+
+    // What another makes of the row that was found last.
+    fn make_change(&mut self) {
+        match std::mem::replace(&mut self.change, Change::None) {
+            Change::Gone(id) if id == self.found => self.drop_row(id),
+            Change::Other(row) if row.id == self.found => {
+                self.drop_row(row.id);
+                let _ = self.push(row);
+            }
+            later => self.change = later,
+        }
+    }
+
+    fn drop_row(&mut self, id: u64) {
+        for (row, gone) in self.rows.as_slice().iter().zip(self.gone.iter_mut()) {
+            if row.id == id {
+                *gone = true;
+            }
+        }
+    }
+
+    // What has the number of a row is taken out, where it is that row.
+    fn remove(&mut self, sent: &Row) -> TakenOut {
+        let mut taken = TakenOut::Gone;
+        for (row, gone) in self.rows.as_slice().iter().zip(self.gone.iter_mut()) {
+            if !*gone && row.user == sent.user && row.id == sent.id {
+                if has_octets(row, sent) {
+                    *gone = true;
+                    taken = TakenOut::Removed;
+                } else {
+                    taken = TakenOut::Changed;
+                }
+            }
+        }
+        taken
     }
 
     fn note(&mut self, mark: &[u8], id: Option<u64>) {
@@ -116,6 +175,7 @@ impl Queue for MemoryQueue {
         self.take();
         match self.find(user, id) {
             Ok(Some(row)) => {
+                self.found = row.id;
                 self.note(b"?", Some(row.id));
                 Ok(Some(row))
             }
@@ -127,7 +187,7 @@ impl Queue for MemoryQueue {
         }
     }
 
-    fn take_out(&mut self, user: &[u8], id: u64) -> Result<(), Unavailable> {
+    fn take_out(&mut self, row: &Row) -> Result<TakenOut, Unavailable> {
         self.take();
         if let Some(left) = self.refusals.checked_sub(1) {
             self.refusals = left;
@@ -135,13 +195,14 @@ impl Queue for MemoryQueue {
             self.hand_back();
             return Err(Unavailable::Store);
         }
-        for (row, gone) in self.rows.as_slice().iter().zip(self.gone.iter_mut()) {
-            if row.user.as_slice() == user && row.id == id {
-                *gone = true;
-            }
-        }
-        self.note(b"x", Some(id));
-        Ok(())
+        let taken = self.remove(row);
+        let mark = match taken {
+            TakenOut::Removed => b"x",
+            TakenOut::Gone => b"g",
+            TakenOut::Changed => b"c",
+        };
+        self.note(mark, Some(row.id));
+        Ok(taken)
     }
 
     fn give_way(&mut self, moment: u64) -> bool {
@@ -164,6 +225,11 @@ impl Queue for MemoryQueue {
     fn give_back(&mut self) {
         self.hand_back();
     }
+}
+
+// Whether a row has the sender, the target and the message of another one.
+fn has_octets(row: &Row, other: &Row) -> bool {
+    row.sender == other.sender && row.target == other.target && row.message == other.message
 }
 
 // Whether a row comes after a place.

@@ -12,10 +12,13 @@ use Rattle.mailengine.specs.AccountEvents.{TakesRow, TakesIn}
 use Rattle.mailengine.specs.OwnActs.{is_user}
 use Rattle.mailengine.proofs.AloneLemmas.{same_name, changed_own, changed_other}
 use Rattle.mailengine.proofs.TakingLemmas.{row_numbered}
+use Rattle.mailsenders.specs.Rows as queue
 use Rattle.mailsenders.specs.Rows.{Rows, IsThere, TakesOut}
 use Rattle.mailsenders.specs.declared.queue.Row.{Row}
+use Rattle.mailsenders.specs.declared.queue.TakenOut.{TakenOut}
+use Rattle.mailsenders.specs.declared.queue.TakenOut.TheVariants.{Removed, Gone, Changed}
 use Rattle.keepers.specs.declared.keeper.Unavailable.{Unavailable}
-use Rattle.sendqueues.specs.Posts.{IsGone, IsFound}
+use Rattle.sendqueues.specs.Posts.{HasRow, IsGone, IsFound, TakesSent}
 use Rattle.sendqueues.specs.Queues.{content, row_in, rows_in, IsFoundIn, ShowsBy, ShowsRows, Finds, Removes, TurnsShown, StillShown, IsToldOf}
 use Rattle.sendqueues.specs.declared.post.Post.{Post}
 use Rattle.sendwaits.specs.Waits as wait
@@ -92,25 +95,52 @@ module _ (waits : Waits) (now : ℕ) (accounts : Accounts) (at : Queued) where
           ∙ ap (λ u. Rows_in accounts u number) (sym same)
       by other number differs false is = ap (λ o. row_in (open_one o) number (due_at other number)) (changed_other accounts other at.user (takes_out at.id) is)
 
-  -- the row isn't there
-  none_rows : Rows_in accounts at.user at.id ≡ None → TakesOut at.user at.id (Rows_in accounts) (Rows_in accounts)
-  none_rows none = record { gone = none; others = λ other number differs. refl }
+  -- it stood there, and the event took it
+  gone_rows : (later : Accounts) (row : Outgoing) → HasRow accounts at row → IsGone at accounts later → TakesOut at.user at.id (Rows_in accounts) (Rows_in later)
+  gone_rows later row has gone =
+      let open_row : TakesIn accounts at.user at.id (Some has.0) gone.0 later = subst (λ o. TakesIn accounts at.user at.id o gone.0 later) has.1 gone.1 in
+      let takes : TakesRow accounts at.user (Some row) gone.0 later = subst (λ o. TakesRow accounts at.user o gone.0 later) has.2 open_row in
+      let is : later ≡ Later = takes.changed ∙ ap (λ n. with_user accounts at.user (takes_out n)) (row_numbered at.id has.0.queue row has.2) in
+      subst (λ (x : Accounts). TakesOut at.user at.id (Rows_in accounts) (Rows_in x)) (sym is) left_rows
 
-  gone_rows : (later : Accounts) → IsGone at accounts later → TakesOut at.user at.id (Rows_in accounts) (Rows_in later)
-  gone_rows later gone = go (open_of accounts at.user) refl gone.1
+  -- what stands there as a row of the accounts
+  row_here : (row : Outgoing) → HasRow accounts at row → Rows_in accounts at.user at.id ≡ Some (content (due_at at.user at.id) row)
+  row_here row has = ap (λ o. row_in o at.id (due_at at.user at.id)) has.1 ∙ ap (option_map (content (due_at at.user at.id))) has.2
+
+  none_here : ((row : Outgoing) → HasRow accounts at row → ⊥) → Rows_in accounts at.user at.id ≡ None
+  none_here none = by_account (open_of accounts at.user) refl
     where
-      same : (all : Accounts) → later ≡ all → TakesOut at.user at.id (Rows_in accounts) (Rows_in all) → TakesOut at.user at.id (Rows_in accounts) (Rows_in later)
-      same all is takes = subst (λ (x : Accounts). TakesOut at.user at.id (Rows_in accounts) (Rows_in x)) (sym is) takes
+      by_row : (a : Account) → open_of accounts at.user ≡ Some a → (o : Option Outgoing) → row_with at.id a.queue ≡ o → option_map (content (due_at at.user at.id)) o ≡ None
+      by_row a is_open None is = refl
+      by_row a is_open (Some row) is = absurd (none row (a, is_open, is))
 
-      by : (a : Account) (o : Option Outgoing) → open_of accounts at.user ≡ Some a → row_with at.id a.queue ≡ o → TakesRow accounts at.user o gone.0 later → TakesOut at.user at.id (Rows_in accounts) (Rows_in later)
-      by a None has is takes =
-          same accounts takes.stays (none_rows (ap (λ x. row_in x at.id (due_at at.user at.id)) has ∙ ap (option_map (content (due_at at.user at.id))) is))
-      by a (Some row) has is takes =
-          same Later (takes.changed ∙ ap (λ n. with_user accounts at.user (takes_out n)) (row_numbered at.id a.queue row is)) left_rows
+      by_account : (o : Option Account) → open_of accounts at.user ≡ o → row_in o at.id (due_at at.user at.id) ≡ None
+      by_account None is = refl
+      by_account (Some a) is = by_row a is (row_with at.id a.queue) refl
 
-      go : (o : Option Account) → open_of accounts at.user ≡ o → TakesIn accounts at.user at.id o gone.0 later → TakesOut at.user at.id (Rows_in accounts) (Rows_in later)
-      go None has takes = same accounts takes.stays (none_rows (ap (λ x. row_in x at.id (due_at at.user at.id)) has))
-      go (Some a) has takes = by a (row_with at.id a.queue) has refl takes
+  -- what became of a row that was sent, as one of the accounts' rows
+  module _ (sent : Row) (user_is : at.user ≡ sent.user) (id_is : at.id ≡ sent.id) where
+    placed : (P : List ℕ → ℕ → Type 0) → P at.user at.id → P sent.user sent.id
+    placed P here = subst (λ u. P u sent.id) user_is (subst (P at.user) id_is here)
+
+    taken_rows : (taken : TakenOut) (later : Accounts) → TakesSent at sent taken accounts later → queue.TakesRow sent taken (Rows_in accounts) (Rows_in later)
+    taken_rows Removed later ((row, has, octets), gone) = (
+      (
+        content (due_at at.user at.id) row,
+        placed (λ u n. Rows_in accounts u n ≡ Some (content (due_at at.user at.id) row)) (row_here row has),
+        record { sender = octets.sender; target = octets.target; message = octets.message },
+      ),
+      placed (λ u n. TakesOut u n (Rows_in accounts) (Rows_in later)) (gone_rows later row has gone),
+    )
+    taken_rows Gone later (none, same) = (placed (λ u n. Rows_in accounts u n ≡ None) (none_here none), ap Rows_in same)
+    taken_rows Changed later ((row, has, differs), same) = (
+      (
+        content (due_at at.user at.id) row,
+        placed (λ u n. Rows_in accounts u n ≡ Some (content (due_at at.user at.id) row)) (row_here row has),
+        λ octets. differs (record { sender = octets.sender; target = octets.target; message = octets.message }),
+      ),
+      ap Rows_in same,
+    )
 
 -- ---- what is told
 
@@ -153,21 +183,19 @@ module _ {S : Type 0} (g : Ghosts S) (tells : Bool) (waits : Waits) (now : ℕ) 
         shows.are row.user row.id ∙ say waits now shows.accounts (found_in waits now at shows.accounts found there)
 
   -- a row was taken out, or not
-  module _ (at : Queued) (r : Result (Unit {0}) Unavailable) (takes : TurnsShown g tells holds (Removes at r) store keeper later after) where
+  module _ (at : Queued) (sent : Row) (r : Result TakenOut Unavailable) (takes : TurnsShown g tells holds (Removes at sent r) store keeper later after) where
     pub rows_kept : (denial : Unavailable) → r ≡ Err denial → StillShown g tells holds store keeper later after
     rows_kept denial is told accounts shown =
         let h = takes told accounts shown in
-        let same : h.0 ≡ accounts = subst (λ o. Removes at o accounts h.0) is h.1 in
+        let same : h.0 ≡ accounts = subst (λ o. Removes at sent o accounts h.0) is h.1 in
         subst (ShowsBy g (holds after) later) same h.2
 
-    pub rows_taken : (user : List ℕ) (id : ℕ) → at.user ≡ user → at.id ≡ id → (done : Unit {0}) → r ≡ Ok done → (rows : Rows) → Had rows → (next : Rows) × TakesOut user id rows next × Has next
-    rows_taken user id user_is id_is done is rows shows =
+    pub rows_taken : at.user ≡ sent.user → at.id ≡ sent.id → (taken : TakenOut) → r ≡ Ok taken → (rows : Rows) → Had rows → (next : Rows) × queue.TakesRow sent taken rows next × Has next
+    rows_taken user_is id_is taken is rows shows =
         let h = takes shows.told shows.accounts shows.shown in
-        let gone = gone_rows waits now shows.accounts at h.0 (subst (λ o. Removes at o shows.accounts h.0) is h.1) in (
+        let same : rows ≡ rows_in waits now shows.accounts = (λ i user id. shows.are user id i) in (
           rows_in waits now h.0,
-          subst (λ u. TakesOut u id rows (rows_in waits now h.0)) user_is (subst (λ n. TakesOut at.user n rows (rows_in waits now h.0)) id_is (record {
-            gone = gone.gone;
-            others = λ other number differs. gone.others other number differs ∙ sym (shows.are other number);
-          })),
+          subst (λ (all : Rows). queue.TakesRow sent taken all (rows_in waits now h.0)) (sym same)
+              (taken_rows waits now shows.accounts at sent user_is id_is taken h.0 (subst (λ o. Removes at sent o shows.accounts h.0) is h.1)),
           record { told = shows.told; accounts = h.0; shown = h.2; are = λ u n. refl },
         )

@@ -7,6 +7,8 @@ use Rattle.sqlite.specs.State.{HasCleanDisk}
 use Rattle.mailstore.specs.Account.{Accounts}
 use Rattle.mailstore.specs.Shows.{Presents, Offers}
 use Rattle.sessions.specs.Acts.{HasAccounts}
+use Rattle.mailsenders.specs.declared.queue.Row.{Row}
+use Rattle.mailsenders.specs.declared.queue.TakenOut.{TakenOut}
 use Rattle.mailstore.specs.declared.next.Queued.{Queued}
 use Rattle.mailstore.specs.declared.refusal.Refusal.{Refusal}
 use Rattle.keepers.specs.declared.keeper.Unavailable.{Unavailable}
@@ -73,14 +75,14 @@ module _ {S : Type 0} (g : Ghosts S) (tells : Bool) {K : Type 0} (holds : K → 
         (turns_as (Reads (IsFound waits now start) q) (Finds waits now start r) b (Some new) l l (λ accounts later h. (h.0, wider accounts h.1)) (shown_turned (Reads (IsFound waits now start) q) b old new some l works))
 
     -- a row was taken out of it, or not
-    pub remove_made : (place : Queued) (a b : Option (Held S)) (k l : K) (old new : Held S) → Still a k b l → b ≡ Some old → (q : Result (Unit {0}) Refusal) → Works (TakesRow place q) (state g old) (state g new)
-        → (r : Result (Unit {0}) Unavailable) → ((accounts later : Accounts) → TakesRow place q accounts later → Removes place r accounts later) → Turns (Removes place r) a k (Some new) l
-    remove_made place a b k l old new still some q works r wider =
-        turns_behind (Removes place r) a b (Some new) k l l still (turns_as (TakesRow place q) (Removes place r) b (Some new) l l wider (shown_turned (TakesRow place q) b old new some l works))
+    pub remove_made : (place : Queued) (sent : Row) (a b : Option (Held S)) (k l : K) (old new : Held S) → Still a k b l → b ≡ Some old → (q : Result TakenOut Refusal) → Works (TakesRow place sent q) (state g old) (state g new)
+        → (r : Result TakenOut Unavailable) → ((accounts later : Accounts) → TakesRow place sent q accounts later → Removes place sent r accounts later) → Turns (Removes place sent r) a k (Some new) l
+    remove_made place sent a b k l old new still some q works r wider =
+        turns_behind (Removes place sent r) a b (Some new) k l l still (turns_as (TakesRow place sent q) (Removes place sent r) b (Some new) l l wider (shown_turned (TakesRow place sent q) b old new some l works))
 
   -- nothing was asked
   pub find_not : (waits : Waits) (now : ℕ) (start : Queued) (a b : Option (Held S)) (k l : K) (denial : Unavailable) (r : Result (Option Post) Unavailable) → r ≡ Err denial → Still a k b l → Turns (Finds waits now start r) a k b l
   find_not waits now start a b k l denial r is still = turns_not (Finds waits now start r) a b k l (λ accounts. (refl, subst (λ o. IfOk o (IsFound waits now start accounts)) (sym is) tt)) still
 
-  pub remove_not : (place : Queued) (a b : Option (Held S)) (k l : K) (denial : Unavailable) (r : Result (Unit {0}) Unavailable) → r ≡ Err denial → Still a k b l → Turns (Removes place r) a k b l
-  remove_not place a b k l denial r is still = turns_not (Removes place r) a b k l (λ accounts. subst (λ o. Removes place o accounts accounts) (sym is) refl) still
+  pub remove_not : (place : Queued) (sent : Row) (a b : Option (Held S)) (k l : K) (denial : Unavailable) (r : Result TakenOut Unavailable) → r ≡ Err denial → Still a k b l → Turns (Removes place sent r) a k b l
+  remove_not place sent a b k l denial r is still = turns_not (Removes place sent r) a b k l (λ accounts. subst (λ o. Removes place sent o accounts accounts) (sym is) refl) still

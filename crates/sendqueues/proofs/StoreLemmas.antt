@@ -33,7 +33,7 @@ use Rattle.mailstore.proofs.NextLemmas.{queued_total}
 use Rattle.sessions.specs.Acts.{HasAccounts, Carries}
 use Rattle.sessions.proofs.ActLemmas.{glanced, accounts_stay, read_shows}
 use Rattle.mailengine.proofs.TakingLemmas.{row_numbered}
-use Rattle.sendqueues.specs.Posts.{IsAfter, HasRow, IsRowAt, IsNoneDue, IsNext, IsFound, IsPast, IsStep, Works, Reads, is_due}
+use Rattle.sendqueues.specs.Posts.{IsAfter, HasRow, IsRowAt, IsNoneDue, IsNext, IsFound, IsPast, IsStep, Works, Reads, Sees, is_due}
 use Rattle.sendqueues.specs.declared.post.Post.{Post}
 use Rattle.sendqueues.specs.declared.post.Step.{Step}
 use Rattle.sendqueues.specs.declared.post.Step.TheVariants.{End, Past, Due}
@@ -90,19 +90,35 @@ module _ (place : Queued) (user : List ℕ) (same : user ≡ place.user) (a b : 
   abbrev Read : Result (Option Outgoing) Refusal → Type 0
   Read r = store.Reads user (λ row account. row ≡ row_with place.id account.queue) a b r
 
-  pub row_read : (r : Result (Option Outgoing) Refusal) → Read r → Works (Reads (IsRowAt place) r) a b
-  row_read (Err e) reads = works_read a b (Err e) (IsRowAt place) (Err e) reads.keeps (λ clean accounts shown. tt)
-  row_read (Ok row) reads = works_read a b (Ok row) (IsRowAt place) (Ok row) reads.keeps (λ clean accounts shown.
-      let p = (read_shows a b (Ok row) row refl reads.keeps clean accounts shown).0 in
-      row_is accounts place row (subst (λ u. OfOpen accounts u (λ account. row ≡ row_with place.id account.queue)) same (reads.found clean accounts p)))
+  pub row_read : (r : Result (Option Outgoing) Refusal) → Read r → Sees (IsRowAt place) a b r
+  row_read r reads = record {
+    found = λ clean accounts shows. by_answer r accounts (reads.found clean accounts shows);
+    keeps = reads.keeps;
+  }
+    where
+      by_answer : (o : Result (Option Outgoing) Refusal) (accounts : Accounts) → IfOk o (λ row. OfOpen accounts user (λ account. row ≡ row_with place.id account.queue)) → IfOk o (IsRowAt place accounts)
+      by_answer (Err e) accounts own = tt
+      by_answer (Ok row) accounts own = row_is accounts place row (subst (λ u. OfOpen accounts u (λ account. row ≡ row_with place.id account.queue)) same own)
 
   -- of a user without an open account there is none
-  pub row_absent : (r : Result (Option Outgoing) Refusal) → r ≡ Err NoUser → Read r → Works (Reads (IsRowAt place) (Ok None)) a b
-  row_absent r is reads = works_read a b r (IsRowAt place) (Ok None) reads.keeps (λ clean accounts shown row has.
-      let live = subst (λ q. IfErr q (λ e. e ≡ NoUser → IsTrue b.is_open)) is (reads.sure clean) refl in
-      let none : HasNoOpen user accounts = subst (λ q. IfErr q (λ e. e ≡ NoUser → HasNoOpen user accounts)) is (reads.absent clean accounts (shown (reads.keeps.shut clean live))) refl in
-      let never : None ≡ Some has.0 = sym none ∙ (ap (λ u. open_of accounts u) same ∙ has.1) in
-      cc)
+  pub row_absent : (r : Result (Option Outgoing) Refusal) → r ≡ Err NoUser → Read r → Sees (IsRowAt place) a b (Ok None)
+  row_absent r is reads = record {
+    found = λ clean accounts shows row has.
+        let none : HasNoOpen user accounts = subst (λ q. IfErr q (λ e. e ≡ NoUser → HasNoOpen user accounts)) is (reads.absent clean accounts shows) refl in
+        let never : None ≡ Some has.0 = sym none ∙ (ap (λ u. open_of accounts u) same ∙ has.1) in
+        cc;
+    keeps = record {
+      same = reads.keeps.same;
+      live = λ clean. subst (λ q. IfErr q (λ e. e ≡ NoUser → IsTrue b.is_open)) is (reads.sure clean) refl;
+      shut = reads.keeps.shut;
+      crash = reads.keeps.crash;
+    };
+  }
+
+-- what was seen is so of whatever accounts were shown
+pub works_seen : {X : Type 0} (a b : State) (r : Result X Refusal) (Part : Accounts → X → Type 0) → Sees Part a b r → Works (Reads Part r) a b
+works_seen a b (Err e) Part sees = works_read a b (Err e) Part (Err e) sees.keeps (λ clean accounts shown. tt)
+works_seen a b (Ok x) Part sees = works_read a b (Ok x) Part (Ok x) sees.keeps (λ clean accounts shown. sees.found clean accounts (read_shows a b (Ok x) x refl sees.keeps clean accounts shown).0)
 
 -- ---- the rows that the tables have
 
@@ -214,11 +230,11 @@ module _ (waits : Waits) (now : ℕ) (start : Queued) (a b : State) where
       pub past_next : is_due waits now next ≡ false → Works (Reads Stands (Ok (Past next))) a b
       past_next not = step_as (Ok (Past next)) (λ accounts comes. past_by accounts (comes_at accounts comes) (λ row has due. true≢false (sym due ∙ not)))
 
-      module _ (c : State) (q : Result (Option Outgoing) Refusal) (row : Works (Reads (IsRowAt next) q) b c) where
+      module _ (c : State) (q : Result (Option Outgoing) Refusal) (row : Sees (IsRowAt next) b c q) where
         step_by : (o : Result Step Refusal) → ((accounts : Accounts) → At accounts → IfOk q (IsRowAt next accounts) → IfOk o (Stands accounts)) → Works (Reads Stands o) a c
         step_by o by =
             works_then a b c (Reads Comes r) (Reads (IsRowAt next) q) (Reads Stands o)
-            (λ accounts mid later one two. (two.0 ∙ one.0, by accounts (comes_at accounts one.1) (subst (λ all. IfOk q (IsRowAt next all)) one.0 two.1))) (next_comes r finds) row
+            (λ accounts mid later one two. (two.0 ∙ one.0, by accounts (comes_at accounts one.1) (subst (λ all. IfOk q (IsRowAt next all)) one.0 two.1))) (next_comes r finds) (works_seen b c q (IsRowAt next) row)
 
         pub step_unread : (e : Refusal) (o : Result Step Refusal) → o ≡ Err e → Works (Reads Stands o) a c
         step_unread e o told = step_by o (λ accounts comes has. subst (λ x. IfOk x (Stands accounts)) (sym told) tt)

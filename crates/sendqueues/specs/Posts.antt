@@ -1,10 +1,9 @@
 -- Rows of queues that are due, as a store finds them.
-use Rattle.std.specs.Prelude.{◌≡◌, Bool, true, false, ℕ, Option, Some, None, Result, Ok, Err, IfOk}
+use Rattle.std.specs.Prelude.{◌≡◌, Bool, true, ℕ, Option, Some, None, Result, Ok, Err, IfOk}
 use Rattle.std.specs.declared.cmp.Ordering.TheVariants.{Less}
 use Rattle.sqlite.specs.State.{State, HasCleanDisk}
 use Rattle.mailstore.specs.Account.{Accounts, row_with}
-use Rattle.mailtables.specs.Rows.{Tables}
-use Rattle.mailstore.specs.Next.{queued_cmp, IsQueued}
+use Rattle.mailstore.specs.Next.{queued_cmp}
 use Rattle.mailstore.specs.Promises.{Keeps, OfOpen, OverAccounts}
 use Rattle.mailstore.specs.declared.next.Queued.{Queued}
 use Rattle.mailstore.specs.declared.queue.Outgoing.{Outgoing}
@@ -12,6 +11,9 @@ use Rattle.mailstore.specs.declared.refusal.Refusal.{Refusal}
 use Rattle.sessions.specs.Acts.{Carries}
 use Rattle.mailengine.specs.declared.answer.Answer.{Answer}
 use Rattle.mailengine.specs.AccountEvents.{Taking}
+use Rattle.mailsenders.specs.declared.queue.Row.{Row}
+use Rattle.mailsenders.specs.declared.queue.TakenOut.{TakenOut}
+use Rattle.mailsenders.specs.declared.queue.TakenOut.TheVariants.{Removed, Gone, Changed}
 use Rattle.sendwaits.specs.Waits as wait
 use Rattle.sendwaits.specs.Waits.{place}
 use Rattle.sendqueues.specs.declared.post.Post.{Post}
@@ -81,21 +83,30 @@ pub record Sees {X : Type 0} (Part : Accounts → X → Type 0) (old new : State
   pub found : HasCleanDisk new → OverAccounts old (λ accounts. IfOk result (Part accounts))
   pub keeps : Keeps old new result
 
--- whether an open account has a row at a place
-abbrev pub IsThere : Queued → Accounts → Bool → Type 0
-IsThere place accounts true = (row : Outgoing) × HasRow accounts place row
-IsThere place accounts false = (row : Outgoing) → HasRow accounts place row → ⊥
+-- a row has the octets of one that was sent: its sender, its target and its message
+pub record HasOctets (sent : Row) (row : Outgoing) : Type 0 where
+  pub sender : row.sender ≡ sent.sender
+  pub target : row.target ≡ sent.target
+  pub message : row.message ≡ sent.message
 
--- whether any account has one
-abbrev pub TellsQueued : Queued → Bool → Tables → Type 0
-TellsQueued place true tables = IsQueued tables place
-TellsQueued place false tables = IsQueued tables place → ⊥
+-- the row at a place is the one that was sent, or another one
+abbrev pub IsSentRow : Queued → Row → Accounts → Type 0
+IsSentRow place sent accounts = (row : Outgoing) × HasRow accounts place row × HasOctets sent row
 
--- the event of the machine that takes the row at a place was answered: the row left the queue, or it wasn't there
+abbrev pub IsOtherRow : Queued → Row → Accounts → Type 0
+IsOtherRow place sent accounts = (row : Outgoing) × HasRow accounts place row × (HasOctets sent row → ⊥)
+
+-- the event of the machine that takes the row at a place was answered
 abbrev pub IsGone : Queued → Accounts → Accounts → Type 0
 IsGone place accounts later = (answer : Answer) × Taking accounts place.user place.id answer later
 
--- it was; or nothing changed
-abbrev pub TakesRow : Queued → Result (Unit {0}) Refusal → Accounts → Accounts → Type 0
-TakesRow place (Ok done) accounts later = IsGone place accounts later
-TakesRow place (Err refusal) accounts later = later ≡ accounts
+-- what became of a row that was sent: it stood at its place, and that event took it; or it didn't, and no account changed
+abbrev pub TakesSent : Queued → Row → TakenOut → Accounts → Accounts → Type 0
+TakesSent place sent Removed accounts later = IsSentRow place sent accounts × IsGone place accounts later
+TakesSent place sent Gone accounts later = IsRowAt place accounts None × (later ≡ accounts)
+TakesSent place sent Changed accounts later = IsOtherRow place sent accounts × (later ≡ accounts)
+
+-- that; or nothing changed
+abbrev pub TakesRow : Queued → Row → Result TakenOut Refusal → Accounts → Accounts → Type 0
+TakesRow place sent (Ok taken) accounts later = TakesSent place sent taken accounts later
+TakesRow place sent (Err refusal) accounts later = later ≡ accounts

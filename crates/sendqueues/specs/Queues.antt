@@ -9,12 +9,13 @@ use Rattle.mailstore.specs.declared.queue.Outgoing.{Outgoing}
 use Rattle.sessions.specs.Acts.{HasAccounts}
 use Rattle.mailsenders.specs.Rows.{Rows, Content, content_of}
 use Rattle.mailsenders.specs.declared.queue.Row.{Row}
+use Rattle.mailsenders.specs.declared.queue.TakenOut.{TakenOut}
 use Rattle.sendwaits.specs.Waits as wait
 use Rattle.sendwaits.specs.Waits.{place}
 use Rattle.sendwaits.specs.declared.waits.Waits.{Waits}
 use Rattle.mailstore.specs.declared.next.Queued.{Queued}
 use Rattle.keepers.specs.declared.keeper.Unavailable.{Unavailable}
-use Rattle.sendqueues.specs.Posts.{HasRow, IsFound, IsGone, is_due}
+use Rattle.sendqueues.specs.Posts.{HasRow, IsFound, TakesSent, is_due}
 use Rattle.sendqueues.specs.declared.post.Post.{Post}
 
 -- what a row has
@@ -46,10 +47,10 @@ module _ (waits : Waits) (now : ℕ) where
 abbrev pub Finds : Waits → ℕ → Queued → Result (Option Post) Unavailable → Accounts → Accounts → Type 0
 Finds waits now start result accounts later = (later ≡ accounts) × IfOk result (IsFound waits now start accounts)
 
--- the row at a place was taken out, or no account changes
-abbrev pub Removes : Queued → Result (Unit {0}) Unavailable → Accounts → Accounts → Type 0
-Removes place (Ok done) accounts later = IsGone place accounts later
-Removes place (Err denial) accounts later = later ≡ accounts
+-- the row that was sent was taken out at its place, or it didn't stand there; or no account changes
+abbrev pub Removes : Queued → Row → Result TakenOut Unavailable → Accounts → Accounts → Type 0
+Removes place sent (Ok taken) accounts later = TakesSent place sent taken accounts later
+Removes place sent (Err denial) accounts later = later ≡ accounts
 
 module _ {S : Type 0} (g : Ghosts S) where
   -- while it is had the store shows the accounts; else the keeper's tables offer them

@@ -4,6 +4,7 @@ ghost use Rattle.sendqueues.specs.Queues.{Finds, Removes, StillShown, TurnsShown
 
 use crate::post::{Post, find_post, take_row};
 use keepers::{Keeper, Unavailable};
+use mailsenders::{Row, TakenOut};
 use mailstore::{Queued, Store};
 use sendwaits::Waits;
 use std::alloc::Global;
@@ -101,21 +102,21 @@ impl<K: Keeper + Drop> HeldStore<K> {
         }
     }
 
-    /// The row at a place is taken out.
+    /// The row at a place is taken out, where it is the one that was sent.
     pub(crate) fn remove(
         &mut self,
-        alloc: Global,
         path: &str,
         place: &Queued,
-    ) -> Result<(), Unavailable>
-        ensures { TurnsShown K.S.Store K.tells K.holds (Removes place.now result) self.old.store self.old.keeper self.new.store self.new.keeper }
+        sent: &Row,
+    ) -> Result<TakenOut, Unavailable>
+        ensures { TurnsShown K.S.Store K.tells K.holds (Removes place.now sent.now result) self.old.store self.old.keeper self.new.store self.new.keeper }
     {
         self.take(path)?;
         let Some(store) = &mut self.store else {
             return Err(Unavailable::Busy);
         };
-        match take_row(alloc, store, place) {
-            Ok(()) => Ok(()),
+        match take_row(store, place, sent) {
+            Ok(taken) => Ok(taken),
             Err(refusal) => Err(Unavailable::Refused(refusal)),
         }
     }

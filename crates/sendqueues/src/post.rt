@@ -1,10 +1,10 @@
 //! Rows that are due, in a store that is taken.
-ghost use Rattle.std.specs.Prelude.{◌≡◌, ◌↔◌, suc, Some, IfOk, IsTrue};
+ghost use Rattle.std.specs.Prelude.{◌≡◌, ◌↔◌, IfOk, IsTrue};
 ghost use Rattle.sqlite.specs.Held.{state};
-ghost use Rattle.mailstore.specs.Next.{FindsAll};
 ghost use Rattle.sendqueues.specs.Posts as s;
-ghost use Rattle.sendqueues.specs.Posts.{IsFound, IsRowAt, IsStep, IsThere, Reads, Sees, TakesRow, TellsQueued, Works};
+ghost use Rattle.sendqueues.specs.Posts.{HasOctets, IsFound, IsRowAt, IsStep, Reads, Sees, TakesRow, Works};
 
+use mailsenders::{Row, TakenOut};
 use mailstore::{Outgoing, Queued, Refusal, Store};
 use sendwaits::{Place, Waits};
 use sqlite::Alter;
@@ -38,7 +38,7 @@ fn is_due(alloc: Global, waits: &Waits, place: &Queued, now: u64) -> Result<bool
 
 /// The row at a place; none where there is none, and where the user's account isn't open.
 fn row_at<S: Alter>(store: &mut Store<S>, place: &Queued) -> Result<Option<Outgoing>, Refusal>
-    ensures { Works (Reads (IsRowAt place.now) result) (state S.Store store.old) (state S.Store store.new) }
+    ensures { Sees (IsRowAt place.now) (state S.Store store.old) (state S.Store store.new) result }
 {
     let found = store.outgoing(place.user.as_slice(), place.id);
     if let Err(Refusal::NoUser) = found {
@@ -93,63 +93,31 @@ pub(crate) fn find_post<S: Alter>(
     Err(Refusal::Store)
 }
 
-/// The place before all with the user and number of this one, and behind those with a lower number. Number 0, which no row has, is refused.
-fn place_before(alloc: Global, place: &Queued) -> Result<Queued, Refusal>
-    ensures user { IfOk result (λ before. before.user ≡ place.now.user) }
-    ensures id { IfOk result (λ before. suc before.id ≡ place.now.id) }
+/// Whether a row has the sender, the target and the message of one that was sent. Time is linear in its octets.
+fn has_octets(row: &Outgoing, sent: &Row) -> bool
+    ensures { IsTrue result ↔ HasOctets sent.now row.now }
 {
-    let Some(id) = place.id.checked_sub(1) else {
-        return Err(Refusal::Store);
-    };
-    let user = place.user.try_clone(alloc)?;
-    Ok(Queued { user, id })
+    row.sender == sent.sender && row.target == sent.target && row.message == sent.message
 }
 
-/// Whether it is that place.
-fn is_at(next: &Option<Queued>, place: &Queued) -> bool
-    ensures { IsTrue result ↔ (next.now ≡ Some place.now) }
-{
-    match next {
-        Some(next) => next.user == place.user && next.id == place.id,
-        None => false,
-    }
-}
-
-/// Whether a row stands at a place, be the user's account open or closed. No message is read.
-fn is_queued<S: Alter>(alloc: Global, store: &mut Store<S>, place: &Queued) -> Result<bool, Refusal>
-    ensures { FindsAll (TellsQueued place.now) (state S.Store store.old) (state S.Store store.new) result }
-{
-    let before = place_before(alloc, place)?;
-    let next = store.next_queued(&before)?;
-    Ok(is_at(&next, place))
-}
-
-/// Whether the user's open account has a row at a place. No message is read.
-fn is_there<S: Alter>(alloc: Global, store: &mut Store<S>, place: &Queued) -> Result<bool, Refusal>
-    ensures { Sees (IsThere place.now) (state S.Store store.old) (state S.Store store.new) result }
-{
-    match store.enter(place.user.as_slice()) {
-        Ok(_profile) => is_queued(alloc, store, place),
-        Err(Refusal::NoUser) => Ok(false),
-        Err(refusal) => Err(refusal),
-    }
-}
-
-/// The row at a place is taken out. One that isn't there any more was taken out by another. Its message isn't read.
+/// The row at a place is taken out, where it is the one that was sent. It is read once for that.
 ///
 /// # Errors
 ///
 /// The row is there still.
 pub(crate) fn take_row<S: Alter>(
-    alloc: Global,
     store: &mut Store<S>,
     place: &Queued,
-) -> Result<(), Refusal>
-    ensures { Works (TakesRow place.now result) (state S.Store store.old) (state S.Store store.new) }
+    sent: &Row,
+) -> Result<TakenOut, Refusal>
+    ensures { Works (TakesRow place.now sent.now result) (state S.Store store.old) (state S.Store store.new) }
 {
-    let there = is_there(alloc, store, place)?;
-    if !there {
-        return Ok(());
+    let Some(row) = row_at(store, place)? else {
+        return Ok(TakenOut::Gone);
+    };
+    if !has_octets(&row, sent) {
+        return Ok(TakenOut::Changed);
     }
-    store.take_out(place.user.as_slice(), place.id)
+    store.take_out(place.user.as_slice(), place.id)?;
+    Ok(TakenOut::Removed)
 }

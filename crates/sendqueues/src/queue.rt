@@ -5,7 +5,7 @@ ghost use Rattle.sendqueues.specs.Queues.{IsToldOf, StillShown};
 use crate::held::{HeldStore, Search};
 use crate::post::Post;
 use keepers::{Keeper, Unavailable};
-use mailsenders::{Queue, Row, Unavailable as Denial};
+use mailsenders::{Queue, Row, TakenOut, Unavailable as Denial};
 use mailstore::{Outgoing, Queued, Refusal};
 use octets::Octets;
 use std::alloc::{AllocError, Global};
@@ -117,12 +117,12 @@ impl<K: Keeper + Drop> Queue for StoreQueue<'_, K> {
         }
     }
 
-    fn take_out(&mut self, user: &[u8], id: u64) -> Result<(), Denial> {
-        let Ok(place) = place_of(self.alloc, user, id) else {
+    fn take_out(&mut self, row: &Row) -> Result<TakenOut, Denial> {
+        let Ok(place) = place_of(self.alloc, row.user.as_slice(), row.id) else {
             return Err(Denial::Memory);
         };
-        match self.held.remove(self.alloc, self.search.path, &place) {
-            Ok(()) => Ok(()),
+        match self.held.remove(self.search.path, &place, row) {
+            Ok(taken) => Ok(taken),
             Err(denial) => {
                 self.since = None;
                 self.held.give_back();

@@ -26,6 +26,16 @@ not_before = refl
 always : allows 0 None ≡ true
 always = refl
 
+-- nor is one that waits for a day; one that waits for a second more is due, and is so later
+not_a_day : allows 100 (Some (record { due = 86500; tries = 1 })) ≡ false
+not_a_day = refl
+
+more_than_a_day : allows 100 (Some (record { due = 86501; tries = 1 })) ≡ true
+more_than_a_day = refl
+
+as_it_comes : allows 101 (Some (record { due = 86501; tries = 1 })) ≡ false
+as_it_comes = refl
+
 -- the pauses
 pauses_first : pause_after 0 ≡ 60
 pauses_first = refl

@@ -1,5 +1,5 @@
 -- Rows that wait, and when they are due.
-use Rattle.std.specs.Prelude.{◌≡◌, nat_le, nat_lt, ℕ, ◌+◌, ◌*◌, ◌^◌, ◌-◌, min, Bool, true, if◌then◌else◌, List, Option, Some, None, option_map}
+use Rattle.std.specs.Prelude.{◌≡◌, ◌||◌, nat_le, nat_lt, ℕ, ◌+◌, ◌*◌, ◌^◌, ◌-◌, min, Bool, true, if◌then◌else◌, List, Option, Some, None, option_map}
 use Rattle.std.specs.declared.cmp.Ordering.{Ordering}
 use Rattle.std.specs.BTreeMap.{get}
 use Rattle.std.specs.Cmp.Lexicographic.{slice_cmp}
@@ -21,10 +21,17 @@ place_cmp = then_cmp (on (λ p. p.user) (slice_cmp nat_cmp)) (on (λ p. p.id) na
 abbrev pub wait_of : Waits → Place → Option Wait
 wait_of waits at = get place_cmp waits.map at
 
+abbrev pub largest : ℕ
+largest = 2 ^ 64 - 1
+
+-- a wait is over at a moment, or lies more than a day ahead, as none does that was noted by a right clock
+abbrev pub is_over : ℕ → Wait → Bool
+is_over now wait = nat_le wait.due now || nat_lt (min (now + 86400) largest) wait.due
+
 -- it doesn't keep the row back at a moment
 abbrev pub allows : ℕ → Option Wait → Bool
 allows now None = true
-allows now (Some wait) = nat_le wait.due now
+allows now (Some wait) = is_over now wait
 
 -- the row at a place is due at a moment
 abbrev pub is_due : Waits → ℕ → Place → Bool
@@ -50,9 +57,6 @@ seconds_after (OutOfPlace code) tries = Some (pause_after tries)
 seconds_after Lost tries = Some (pause_after tries)
 seconds_after Undeclared tries = Some 86400
 seconds_after Unaddressed tries = Some 86400
-
-abbrev pub largest : ℕ
-largest = 2 ^ 64 - 1
 
 -- the wait of a row that was tried so often before, and at a moment ended so that it waits so long
 abbrev pub waiting : ℕ → ℕ → ℕ → Wait

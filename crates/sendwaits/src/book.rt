@@ -2,7 +2,7 @@
 ghost use Rattle.std.specs.Prelude.{◌≡◌};
 
 use crate::clock::Clock;
-use crate::line::{is_for_good, place_line, refusal_line, row_line};
+use crate::line::{changed_line, is_for_good, place_line, refusal_line, row_line};
 use crate::place::Place;
 use crate::waits::Waits;
 use mailsenders::{Journal, Unwritten};
@@ -11,7 +11,8 @@ use smtpclient::Ending;
 use std::alloc::{AllocError, Global};
 use std::io::Write;
 
-/// A journal: tells what came of each row on an output, and of those that are refused for good on another, too; keeps what is known of rows
+/// A journal: tells what came of each row on an output, and of those that are refused for good, or whose number
+/// another one has, on another, too; keeps what is known of rows
 /// that wait, which row was tried last, and how many were.
 pub struct Book<'a, W: Write, E: Write, T: Clock> {
     alloc: Global,
@@ -103,6 +104,12 @@ impl<W: Write, E: Write, T: Clock> Journal for Book<'_, W, E, T> {
             print(self.errors, refusal)?;
         }
         print(self.output, row)
+    }
+
+    fn tell_changed(&mut self, user: &[u8], id: u64) {
+        if let Ok(place) = Place::new(self.alloc, user, id) {
+            let _ = print(self.errors, changed_line(self.alloc, &place));
+        }
     }
 
     fn uptime(&mut self) -> u64 {

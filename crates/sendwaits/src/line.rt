@@ -47,6 +47,19 @@ pub fn refusal_line(alloc: Global, place: &Place, ending: Ending) -> Result<Octe
     Ok(line)
 }
 
+/// The line on a row that was sent, where another one has its number now: `sieved: USER ID: another message has the number now`. Lack of
+/// memory is the only error.
+pub fn changed_line(alloc: Global, place: &Place) -> Result<Octets, AllocError>
+    ensures { IfOk result (λ line. line ≡ s.changed_line place.now) }
+{
+    let mut line = Octets::new(alloc);
+    line.extend_from_slice(b"sieved: ")?;
+    put_place(&mut line, place)?;
+    line.extend_from_slice(b": another message has the number now")?;
+    line.push(b'\n')?;
+    Ok(line)
+}
+
 /// The line at the end of a run: `sent N, wait M`. Lack of memory is the only error.
 pub fn tally_line(alloc: Global, sent: u64, waiting: u64) -> Result<Octets, AllocError>
     ensures { IfOk result (λ line. line ≡ s.tally_line sent waiting) }

@@ -20,6 +20,14 @@ pub struct Wait {
 }
 
 impl Wait {
+    /// Whether its row is due at a moment: the wait is over, or lies more than a day ahead. None is noted for longer than a day, so such a
+    /// one was noted by a clock that was ahead.
+    pub fn is_over(&self, now: u64) -> bool
+        ensures { result ≡ s.is_over now self.now }
+    {
+        self.due <= now || now.saturating_add(DAY) < self.due
+    }
+
     /// Whether it is kept at a moment: until two days after the row was due.
     pub fn is_kept(&self, now: u64) -> bool
         ensures { result ≡ s.is_kept now self.now }

@@ -37,7 +37,7 @@ impl Waits {
         ensures { result ≡ s.is_due self.now now place.now }
     {
         match self.get(place) {
-            Some(wait) => wait.due <= now,
+            Some(wait) => wait.is_over(now),
             None => true,
         }
     }

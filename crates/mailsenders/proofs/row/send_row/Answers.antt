@@ -15,7 +15,7 @@ returns-in-Ok-take_out g c = λ before shows said.
       out.2,
       it.1,
       subst (λ e. EndsRow c.args.offered c.args.may_eight_bit c.args.row.now before (state out.0 it.0) (Ok e)) (sym c.in-Sent.is)
-          (leaves c.args.offered c.args.may_eight_bit c.args.row.now mail before it.0 out.0 c.letter_of-letter.ensures treats out.1),
+          (leaves c.args.offered c.args.may_eight_bit c.args.row.now mail before it.0 out.0 c.in-Ok-take_out.taken c.letter_of-letter.ensures treats out.1),
     )
 
 pub returns-in-Err : goal.returns-in-Err

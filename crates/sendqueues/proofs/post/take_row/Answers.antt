@@ -1,22 +1,37 @@
--- It was seen that the row is there, and it was written that it isn't; or nothing changed.
-use Rattle.std.proofs.Common.{◌≡◌, ◌∙◌, ap, sym, subst, true, false, Ok, Err, rules}
+-- The row was read, and taken out where it is the one that was sent; or nothing changed.
+use Rattle.std.proofs.Common.{◌∙◌, ap, sym, subst, Ok, rules}
+use Rattle.std.proofs.lemmas.Bool.{true≢false}
 use Rattle.sqlite.specs.Held.{state}
 use Rattle.mailstore.specs.Account.{takes_out}
 use Rattle.mailstore.specs.Promises.{WritesUser}
-use Rattle.sendqueues.proofs.TakeLemmas.{unseen, unneeded, written}
+use Rattle.sendqueues.proofs.TakeLemmas.{unseen, missing, other, removed, not_removed}
 use Rattle.sendqueues.proofs.post.take_row.Goals as goal
 
-pub returns-in_err-there : goal.returns-in_err-there
-returns-in_err-there g c =
-    unseen c.args.place.now (state g.S.Store c.args.store.now) (state g.S.Store c.is_there.new.store) c.is_there.result c.is_there.ensures c.in_err-there.field-0.0 c.from_residual.result (search rules)
+pub returns-in_err-row : goal.returns-in_err-row
+returns-in_err-row g c =
+    unseen c.args.place.now c.args.sent.now (state g.S.Store c.args.store.now) (state g.S.Store c.row_at.new.store) c.row_at.result c.row_at.ensures c.in_err-row.field-0.0 c.from_residual.result (search rules)
 
-pub returns-then-not-there : goal.returns-then-not-there
-returns-then-not-there g c =
-    unneeded c.args.place.now (state g.S.Store c.args.store.now) (state g.S.Store c.is_there.new.store) c.is_there.result c.is_there.ensures (c.in_ok-there.was ∙ ap Ok c.if-not-there.true)
+pub returns-in_default : goal.returns-in_default
+returns-in_default g c =
+    missing c.args.place.now c.args.sent.now (state g.S.Store c.args.store.now) (state g.S.Store c.row_at.new.store) c.row_at.result c.row_at.ensures (c.in_ok-row.was ∙ ap Ok c.in_default.is)
+
+pub returns-then-not-has_octets : goal.returns-then-not-has_octets
+returns-then-not-has_octets g c =
+    other c.args.place.now c.args.sent.now (state g.S.Store c.args.store.now) (state g.S.Store c.row_at.new.store) c.row_at.result c.row_at.ensures c.in-Some.row (c.in_ok-row.was ∙ ap Ok c.in-Some.is)
+    (λ has. true≢false (sym (c.has_octets.ensures.1 has) ∙ c.if-not-has_octets.true))
+
+pub returns-in_err-take_out : goal.returns-in_err-take_out
+returns-in_err-take_out g c =
+    let b = state g.S.Store c.row_at.new.store in
+    let d = state g.S.Store c.take_out.new.self in
+    let late = subst (λ user. WritesUser user (takes_out c.args.place.now.id) b d c.take_out.result) c.as_slice.ensures c.take_out.ensures in
+    not_removed c.args.place.now c.args.sent.now (state g.S.Store c.args.store.now) b c.row_at.result c.row_at.ensures c.in-Some.row (c.in_ok-row.was ∙ ap Ok c.in-Some.is)
+    (c.has_octets.ensures.0 c.if-not-has_octets.false) d c.take_out.result late c.in_err-take_out.field-0.0 c.in_err-take_out.was c.from_residual-in_err-take_out.result (search rules)
 
 pub returns : goal.returns
 returns g c =
-    let b = state g.S.Store c.is_there.new.store in
+    let b = state g.S.Store c.row_at.new.store in
     let d = state g.S.Store c.take_out.new.self in
     let late = subst (λ user. WritesUser user (takes_out c.args.place.now.id) b d c.take_out.result) c.as_slice.ensures c.take_out.ensures in
-    written c.args.place.now (state g.S.Store c.args.store.now) b c.is_there.result c.is_there.ensures (c.in_ok-there.was ∙ ap Ok c.if-not-there.false) d c.take_out.result late
+    removed c.args.place.now c.args.sent.now (state g.S.Store c.args.store.now) b c.row_at.result c.row_at.ensures c.in-Some.row (c.in_ok-row.was ∙ ap Ok c.in-Some.is)
+    (c.has_octets.ensures.0 c.if-not-has_octets.false) d c.take_out.result late _ c.in_ok-take_out.was

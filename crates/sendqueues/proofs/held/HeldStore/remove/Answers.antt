@@ -7,17 +7,17 @@ use Rattle.sendqueues.proofs.held.HeldStore.remove.Goals as goal
 
 pub returns-in_err-take : goal.returns-in_err-take
 returns-in_err-take g c =
-    remove_not g.K.S.Store g.K.Keeper.tells g.K.Keeper.holds c.args.place.now c.args.self.now.store c.take.new.self.store c.args.self.now.keeper c.take.new.self.keeper c.in_err-take.field-0.0 c.from_residual.result (search rules) c.take.ensures
+    remove_not g.K.S.Store g.K.Keeper.tells g.K.Keeper.holds c.args.place.now c.args.sent.now c.args.self.now.store c.take.new.self.store c.args.self.now.keeper c.take.new.self.keeper c.in_err-take.field-0.0 c.from_residual.result (search rules) c.take.ensures
 
 pub returns-in_default : goal.returns-in_default
-returns-in_default g c = remove_not g.K.S.Store g.K.Keeper.tells g.K.Keeper.holds c.args.place.now c.args.self.now.store c.take.new.self.store c.args.self.now.keeper c.take.new.self.keeper Busy (Err Busy) refl c.take.ensures
+returns-in_default g c = remove_not g.K.S.Store g.K.Keeper.tells g.K.Keeper.holds c.args.place.now c.args.sent.now c.args.self.now.store c.take.new.self.store c.args.self.now.keeper c.take.new.self.keeper Busy (Err Busy) refl c.take.ensures
 
 pub returns-in-Ok : goal.returns-in-Ok
 returns-in-Ok g c =
-    remove_made g.K.S.Store g.K.Keeper.tells g.K.Keeper.holds g.met.K.Keeper.sure c.args.place.now c.args.self.now.store c.take.new.self.store c.args.self.now.keeper c.take.new.self.keeper c.in-Some.store c.take_row.new.store
-    c.take.ensures c.in-Some.is c.take_row.result c.take_row.ensures (Ok tt) (λ accounts later has. subst (λ o. TakesRow c.args.place.now o accounts later) c.in-Ok.is has)
+    remove_made g.K.S.Store g.K.Keeper.tells g.K.Keeper.holds g.met.K.Keeper.sure c.args.place.now c.args.sent.now c.args.self.now.store c.take.new.self.store c.args.self.now.keeper c.take.new.self.keeper c.in-Some.store c.take_row.new.store
+    c.take.ensures c.in-Some.is c.take_row.result c.take_row.ensures (Ok c.in-Ok.taken) (λ accounts later has. subst (λ o. TakesRow c.args.place.now c.args.sent.now o accounts later) c.in-Ok.is has)
 
 pub returns-in-Err : goal.returns-in-Err
 returns-in-Err g c =
-    remove_made g.K.S.Store g.K.Keeper.tells g.K.Keeper.holds g.met.K.Keeper.sure c.args.place.now c.args.self.now.store c.take.new.self.store c.args.self.now.keeper c.take.new.self.keeper c.in-Some.store c.take_row.new.store
-    c.take.ensures c.in-Some.is c.take_row.result c.take_row.ensures (Err (Refused c.in-Err.refusal)) (λ accounts later has. subst (λ o. TakesRow c.args.place.now o accounts later) c.in-Err.is has)
+    remove_made g.K.S.Store g.K.Keeper.tells g.K.Keeper.holds g.met.K.Keeper.sure c.args.place.now c.args.sent.now c.args.self.now.store c.take.new.self.store c.args.self.now.keeper c.take.new.self.keeper c.in-Some.store c.take_row.new.store
+    c.take.ensures c.in-Some.is c.take_row.result c.take_row.ensures (Err (Refused c.in-Err.refusal)) (λ accounts later has. subst (λ o. TakesRow c.args.place.now c.args.sent.now o accounts later) c.in-Err.is has)

@@ -1,4 +1,5 @@
 -- The row was taken out, or all is as it was and the store was given back.
+use Rattle.std.proofs.Common.{◌∙◌}
 use Rattle.sendqueues.proofs.QueueLemmas.{rows_kept, rows_taken, rows_still}
 use Rattle.sendqueues.proofs.ShownLemmas.{still_then}
 use Rattle.sendqueues.proofs.queue.StoreQueueQueue.take_out.Goals as goal
@@ -7,8 +8,8 @@ pub returns-in-Ok-remove-clause-taken : goal.returns-in-Ok-remove-clause-taken
 returns-in-Ok-remove-clause-taken g c =
     let old = c.args.self.now in
     let new = c.remove.new.self in
-    rows_taken g.K.S.Store g.K.Keeper.tells old.search.waits.now old.search.now g.K.Keeper.holds old.held.store old.held.keeper new.store new.keeper c.in-Ok.place c.remove.result c.remove.ensures
-    c.args.user.now c.args.id c.in-Ok.ensures.user c.in-Ok.ensures.id c.in-Ok-remove.field-0 c.in-Ok-remove.is
+    rows_taken g.K.S.Store g.K.Keeper.tells old.search.waits.now old.search.now g.K.Keeper.holds old.held.store old.held.keeper new.store new.keeper c.in-Ok.place c.args.row.now c.remove.result c.remove.ensures
+    (c.in-Ok.ensures.user ∙ c.as_slice.ensures) c.in-Ok.ensures.id c.in-Ok-remove.taken c.in-Ok-remove.is
 
 pub returns-clause-kept : goal.returns-clause-kept
 returns-clause-kept g c =
@@ -17,4 +18,4 @@ returns-clause-kept g c =
     let new = c.give_back.new.self in
     rows_still g.K.S.Store g.K.Keeper.tells old.search.waits.now old.search.now g.K.Keeper.holds old.held.store old.held.keeper new.store new.keeper
     (still_then g.K.S.Store g.K.Keeper.tells g.K.Keeper.holds old.held.store mid.store new.store old.held.keeper mid.keeper new.keeper
-    (rows_kept g.K.S.Store g.K.Keeper.tells old.search.waits.now old.search.now g.K.Keeper.holds old.held.store old.held.keeper mid.store mid.keeper c.in-Ok.place c.remove.result c.remove.ensures c.in-Err.denial c.in-Err.is) c.give_back.ensures.shown)
+    (rows_kept g.K.S.Store g.K.Keeper.tells old.search.waits.now old.search.now g.K.Keeper.holds old.held.store old.held.keeper mid.store mid.keeper c.in-Ok.place c.args.row.now c.remove.result c.remove.ensures c.in-Err.denial c.in-Err.is) c.give_back.ensures.shown)
