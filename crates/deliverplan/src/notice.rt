@@ -18,5 +18,7 @@ pub fn failure_text(failure: Failure) -> &'static [u8]
     match failure {
         Failure::TwoVacations => b"vacation executed twice",
         Failure::TooManyRedirects => b"more than 16 redirects",
+        Failure::TooManyMailboxes => b"more than 100 mailboxes",
+        Failure::TooMuchWork => b"script takes too much work",
     }
 }

@@ -13,7 +13,7 @@ Ends given = (course : Course) × (given ≡ Some course)
 
 module _ (truth : RunState → Check → Bool) (work : RunState → Check → ℕ) (code : List Instruction) where
   -- a turn ends where what is next ends from each place behind
-  turn_ends : (next : Run) (place : ℕ) (instr : Instruction) → LeadsForward place (length code) instr → (flag : Bool) (so_far : RunState)
+  pub turn_ends : (next : Run) (place : ℕ) (instr : Instruction) → LeadsForward place (length code) instr → (flag : Bool) (so_far : RunState)
       → ((later : ℕ) (flag : Bool) (so_far : RunState) → place < later → Ends (next later flag so_far)) → Ends (turn truth next instr place flag so_far)
   turn_ends next place (set value) leads flag so_far later = later (place + 1) value so_far (omega arith)
   turn_ends next place (look check) leads flag so_far later = later (place + 1) (truth so_far check) so_far (omega arith)

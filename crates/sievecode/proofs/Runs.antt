@@ -15,7 +15,7 @@ use Rattle.sievecode.specs.Layout.{test_code, all_code, any_code, command_code, 
 pub behind_none : (course : Course) → behind 0 course ≡ course
 behind_none course = ap (λ n. record course { work = n }) (zero-add course.work)
 
-behind_both : (one two : ℕ) (course : Course) → behind one (behind two course) ≡ behind (one + two) course
+pub behind_both : (one two : ℕ) (course : Course) → behind one (behind two course) ≡ behind (one + two) course
 behind_both one two course = ap (λ n. record course { work = n }) (sym (add_assoc one two course.work))
 
 no_more : (work : ℕ) (course : Course) → behind work course ≡ behind (work + 0) course

@@ -95,12 +95,16 @@ bare-domain = (codes "root", inr (record { whole = refl; none = refl; bare = ref
 bare-local : part_in LocalPart (codes "root") ≡ Some (codes "root")
 bare-local = refl
 
--- each part of the null reverse-path is empty, and it has no detail
-null-parts : (part_in part.All [] ≡ Some []) × ((part_in LocalPart [] ≡ Some []) × ((part_in Domain [] ≡ Some []) × (part_in User [] ≡ Some [])))
-null-parts = (refl, (refl, (refl, refl)))
+-- each part of the null reverse-path is the empty text (RFC 5228, 5.4)
+null-parts : (part_in part.All [] ≡ Some []) × ((part_in LocalPart [] ≡ Some []) × ((part_in Domain [] ≡ Some []) × ((part_in User [] ≡ Some []) × (part_in Detail [] ≡ Some []))))
+null-parts = (refl, (refl, (refl, (refl, refl))))
 
-null-detail : part_in Detail [] ≡ None
-null-detail = refl
+null-detail : IsPart Detail [] []
+null-detail = inr (refl, refl)
+
+-- a sender without a detail has none (RFC 5233, 4), nor has one whose local part is empty
+no-null-detail : (part_in Detail (codes "a@b") ≡ None) × (part_in Detail (codes "@b") ≡ None)
+no-null-detail = (refl, refl)
 
 -- the parts of an address of a field
 parts-of : part_of part.All (record { local = codes "a"; domain = codes "b" }) ≡ Some (codes "a@b")
@@ -111,7 +115,7 @@ user-of : IsPartOf User (record { local = codes "a+b+c"; domain = codes "d" }) (
 user-of = inl (codes "b+c", record { cut = refl; first = refl })
 
 detail-of : IsPart Detail (codes "a+b+c@d") (codes "b+c")
-detail-of = (codes "a+b+c", codes "d", inl (record { cut = refl; last = refl }), (codes "a", record { cut = refl; first = refl }))
+detail-of = inl (codes "a+b+c", codes "d", inl (record { cut = refl; last = refl }), (codes "a", record { cut = refl; first = refl }))
 
 cut-last-plus : CutsAtFirst (codes "a+b+c") (codes "a+b") (codes "c") → ⊥
 cut-last-plus at = let no : true ≡ false = at.first in cc

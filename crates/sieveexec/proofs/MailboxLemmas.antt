@@ -1,40 +1,61 @@
--- A set of the names so far tells which mailbox is new.
-use Rattle.std.proofs.Common.{◌≡◌, ℕ, Bool, true, false, cond, ◌||◌, List, [], ◌∷◌, ◌++◌, refl, sym, ap, ◌∙◌, nat_eq}
-use Rattle.std.proofs.lemmas.List.Folds.{list_any-append}
-use Rattle.std.proofs.lemmas.Map.Text.{is_eq-slice_cmp}
-use Rattle.std.proofs.lemmas.Slice.Eq.{bytes_eq-Decides}
-use Rattle.std.specs.Ordering.{nat_cmp}
-use Rattle.std.specs.Cmp.Lexicographic.{pointwise, slice_cmp}
-use Rattle.std.specs.BTreeSet.{BTreeSet, contains, Updates}
+-- A copy takes the place of the one that is in its mailbox.
+use Rattle.std.proofs.Common.{◌≡◌, ◌<◌, ◌+◌, ℕ, zero, suc, Bool, true, false, cond, not, List, [], ◌∷◌, ◌++◌, length, Option, Some, None, refl, sym, ap, ◌∙◌, nat_eq, arith}
+use Rattle.std.specs.Prelude.{nat_lt}
+use Rattle.std.specs.List.{position, position_or_len, prefix_len}
+use Rattle.std.specs.Cmp.Lexicographic.{pointwise}
+use Rattle.std.proofs.Math.ListN.{set}
+use Rattle.std.proofs.lemmas.Bool.{ltb-true, ltb-false}
 use Rattle.mailflags.specs.declared.placement.Placement.{Placement}
-use Rattle.sievesyntax.specs.RunState.{as_filed, with_filed}
-use Rattle.sieveexec.specs.Mailboxes.{Knows, is_there}
+use Rattle.sievesyntax.specs.RunState.{with_filed}
 
--- a name that is there already adds nothing to what is there
-same_known : (filed : List Placement) (name other : List ℕ) (same : Bool) → pointwise nat_eq name other ≡ same → is_there filed name ≡ true → cond same true (is_there filed other) ≡ is_there filed other
-same_known filed name other true same there =
-    sym (ap (is_there filed) (sym ((bytes_eq-Decides name other).0 same)) ∙ there)
-same_known filed name other false same there = refl
+module _ (one : Placement) where
+  abbrev here : Placement → Bool
+  here there = pointwise nat_eq there.mailbox one.mailbox
 
--- a choice of truth is an `or`
-either : (same there : Bool) → cond same true there ≡ (there || (same || false))
-either true true = refl
-either true false = refl
-either false true = refl
-either false false = refl
+  -- behind those that are in other mailboxes
+  in_place : (filed : List Placement) (n : ℕ) → position_or_len here filed ≡ n → n < length filed → set filed n one ≡ with_filed filed one
+  in_place [] n is below = absurd (omega (arith, below))
+  in_place (there ∷ more) n is below = step (in_place more) (here there) is
+    where
+      step : ((m : ℕ) → position_or_len here more ≡ m → m < length more → set more m one ≡ with_filed more one)
+          → (same : Bool) → cond (not same) (1 + position_or_len here more) 0 ≡ n → set (there ∷ more) n one ≡ cond same (one ∷ more) (there ∷ with_filed more one)
+      step later true is = ap (λ k. set (there ∷ more) k one) (sym is)
+      step later false is =
+          let next : n ≡ suc (position_or_len here more) = omega (arith, is) in
+          ap (λ k. set (there ∷ more) k one) next ∙ ap (λ l. there ∷ l) (later (position_or_len here more) refl (omega (arith, below, next)))
 
--- the set of the names with one name more
-pub knows_more : (old new : BTreeSet (List ℕ)) (filed : List Placement) (one : Placement) → Knows old filed → Updates (slice_cmp nat_cmp) old new one.mailbox true → Knows new (with_filed filed one)
-knows_more old new filed one knows updates other =
-    let name = one.mailbox in
-    let changed : contains (slice_cmp nat_cmp) new other ≡ cond (pointwise nat_eq name other) true (is_there filed other) =
-    updates.0 other ∙ ap (λ same. cond same true (contains (slice_cmp nat_cmp) old other)) (is_eq-slice_cmp name other) ∙ ap (cond (pointwise nat_eq name other) true) (knows other) in
-    changed ∙ by_presence (is_there filed name) refl
-  where
-    by_presence : (there : Bool) → is_there filed one.mailbox ≡ there → cond (pointwise nat_eq one.mailbox other) true (is_there filed other) ≡ is_there (cond there filed (filed ++ as_filed filed one ∷ [])) other
-    by_presence true there = same_known filed one.mailbox other (pointwise nat_eq one.mailbox other) refl there
-    by_presence false there = either (pointwise nat_eq one.mailbox other) (is_there filed other) ∙ sym (list_any-append (λ there. pointwise nat_eq there.mailbox other) filed (as_filed filed one ∷ []))
+  -- where all are
+  behind : (filed : List Placement) → length filed ≡ position_or_len here filed → filed ++ one ∷ [] ≡ with_filed filed one
+  behind [] is = refl
+  behind (there ∷ more) is = step (behind more) (here there) is
+    where
+      step : (length more ≡ position_or_len here more → more ++ one ∷ [] ≡ with_filed more one)
+          → (same : Bool) → length (there ∷ more) ≡ cond (not same) (1 + position_or_len here more) 0 → there ∷ (more ++ one ∷ []) ≡ cond same (one ∷ more) (there ∷ with_filed more one)
+      step later true is = absurd (omega (arith, is))
+      step later false is = ap (λ l. there ∷ l) (later (omega (arith, is)))
 
--- one whose mailbox isn't there is appended
-pub filed_new : (filed : List Placement) (one : Placement) → is_there filed one.mailbox ≡ false → filed ++ as_filed filed one ∷ [] ≡ with_filed filed one
-filed_new filed one absent = ap (λ there. cond there filed (filed ++ as_filed filed one ∷ [])) (sym absent)
+  at_most : (filed : List Placement) → position_or_len here filed < suc (length filed)
+  at_most [] = omega arith
+  at_most (there ∷ more) = step (at_most more) (here there)
+    where
+      step : position_or_len here more < suc (length more) → (same : Bool) → cond (not same) (1 + position_or_len here more) 0 < suc (length (there ∷ more))
+      step later true = omega arith
+      step later false = omega (arith, later)
+
+  pub filed_at : (filed : List Placement) (place : ℕ) → position here filed ≡ Some place → (place < length filed) × (set filed place one ≡ with_filed filed one)
+  filed_at filed place found = step (nat_lt (position_or_len here filed) (length filed)) refl found
+    where
+      step : (below : Bool) → nat_lt (position_or_len here filed) (length filed) ≡ below → cond below (Some (position_or_len here filed)) None ≡ Some place
+          → (place < length filed) × (set filed place one ≡ with_filed filed one)
+      step true below e =
+          let same : position_or_len here filed ≡ place = cc in
+          let low = ltb-true _ _ below in
+          (omega (arith, same, low), in_place filed place same (omega (arith, same, low)))
+      step false below e = absurd (cc e)
+
+  pub filed_behind : (filed : List Placement) → position here filed ≡ None → filed ++ one ∷ [] ≡ with_filed filed one
+  filed_behind filed none = step (nat_lt (position_or_len here filed) (length filed)) refl none
+    where
+      step : (below : Bool) → nat_lt (position_or_len here filed) (length filed) ≡ below → cond below (Some (position_or_len here filed)) None ≡ None → filed ++ one ∷ [] ≡ with_filed filed one
+      step true below e = absurd (cc e)
+      step false below e = let most = at_most filed in let high = ltb-false _ _ below in behind filed (omega (arith, most, high))

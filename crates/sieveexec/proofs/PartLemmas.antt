@@ -213,7 +213,9 @@ part_is All text found there = given (IsPart All text) _ found there refl
 part_is LocalPart text found there = given (IsPart LocalPart text) _ found there (domain_of text, cuts_of text)
 part_is Domain text found there = given (IsPart Domain text) _ found there (local_of text, cuts_of text)
 part_is User text found there = given (IsPart User text) _ found there (local_of text, domain_of text, cuts_of text, user_is (local_of text))
-part_is Detail text found there = (local_of text, domain_of text, cuts_of text, detail_is (local_of text) found there)
+part_is Detail [] found there = given (IsPart Detail []) _ found there (inr (refl, refl))
+part_is Detail (octet ∷ rest) found there =
+    let text = octet ∷ rest in inl (local_of text, domain_of text, cuts_of text, detail_is (local_of text) found there)
 
 pub part_only : (part : AddressPart) (text one : List ℕ) → IsPart part text one → part_in part text ≡ Some one
 part_only All text one same = ap Some (sym same)
@@ -221,7 +223,11 @@ part_only LocalPart text one (domain, cut) = ap Some (sym (cuts_only text one do
 part_only Domain text one (local, cut) = ap Some (sym (cuts_only text local one cut).1)
 part_only User text one (local, domain, cut, is) =
     ap Some (ap user_of (sym (cuts_only text local domain cut).0) ∙ sym (user_only local one is))
-part_only Detail text one (local, domain, cut, is) = ap detail_of (sym (cuts_only text local domain cut).0) ∙ detail_only local one is
+part_only Detail [] one (inr (null, same)) = ap Some (sym same)
+part_only Detail (octet ∷ rest) one (inr (null, same)) = absurd (cc null)
+part_only Detail [] one (inl (local, domain, cut, is)) =
+    let none : None ≡ Some one = ap detail_of (sym (cuts_only [] local domain cut).0) ∙ detail_only local one is in absurd (cc none)
+part_only Detail (octet ∷ rest) one (inl (local, domain, cut, is)) = ap detail_of (sym (cuts_only (octet ∷ rest) local domain cut).0) ∙ detail_only local one is
 
 -- where no `@` was found from a place on, there is none
 none_from : (text : List ℕ) (from : ℕ) → Nowhere (Passes (is_byte 64) text) from (length text) → has_at (drop from text) ≡ false

@@ -97,13 +97,14 @@ domain_of (octet ∷ rest) = cond (has_at rest) (domain_of rest) (cond (is_at oc
 abbrev pub InLocal : (List ℕ → Type 0) → List ℕ → Type 0
 InLocal P text = (local : List ℕ) × (domain : List ℕ) × Cuts text local domain × P local
 
--- a part of an address of the envelope
+-- a part of an address of the envelope; the null reverse-path is the empty text under each part (RFC 5228, 5.4), though its local
+-- part has no detail
 abbrev pub IsPart : AddressPart → List ℕ → List ℕ → Type 0
 IsPart All text part = part ≡ text
 IsPart LocalPart text part = (domain : List ℕ) × Cuts text part domain
 IsPart Domain text part = (local : List ℕ) × Cuts text local part
 IsPart User text part = InLocal (λ local. IsUser local part) text
-IsPart Detail text part = InLocal (λ local. IsDetail local part) text
+IsPart Detail text part = InLocal (λ local. IsDetail local part) text ⊎ ((text ≡ []) × (part ≡ []))
 
 -- the part of an address of the envelope that is in IsPart with it, if there is one
 abbrev pub part_in : AddressPart → List ℕ → Option (List ℕ)
@@ -111,4 +112,5 @@ part_in All text = Some text
 part_in LocalPart text = Some (local_of text)
 part_in Domain text = Some (domain_of text)
 part_in User text = Some (user_of (local_of text))
-part_in Detail text = detail_of (local_of text)
+part_in Detail [] = Some []
+part_in Detail (octet ∷ rest) = detail_of (local_of (octet ∷ rest))

@@ -32,7 +32,7 @@ impl Envelope {
 /// A part of an address of the envelope, which is cut at its last `@` and is a local part alone where there is none; None for
 /// the detail of a local part without `+`.
 ///
-/// The null reverse-path is empty under every other part. Linear in the address; takes no memory.
+/// The null reverse-path is empty under each part (RFC 5228, 5.4). Linear in the address; takes no memory.
 pub(crate) fn part_in(part: AddressPart, address: &[u8]) -> Option<&[u8]>
     ensures { MatchOption result (part_in part address.now ≡ None) (λ text. part_in part address.now ≡ Some text.now) }
 {
@@ -41,6 +41,7 @@ pub(crate) fn part_in(part: AddressPart, address: &[u8]) -> Option<&[u8]>
         AddressPart::LocalPart => Some(local_in(address)),
         AddressPart::Domain => Some(domain_in(address)),
         AddressPart::User => Some(user_in(local_in(address))),
+        AddressPart::Detail if address.is_empty() => Some(address),
         AddressPart::Detail => detail_in(local_in(address)),
     }
 }

@@ -1,91 +1,56 @@
 //! The mailboxes that a run has filed the message into.
-ghost use Rattle.std.specs.Prelude.{◌≡◌, [], OnOk};
-ghost use Rattle.sievesyntax.specs.RunState.{as_filed, with_filed};
-ghost use Rattle.sieveexec.specs.Mailboxes.{is_there};
+ghost use Rattle.std.specs.Prelude.{◌≡◌, nat_eq, OnOk};
+ghost use Rattle.std.specs.List.{position};
+ghost use Rattle.std.specs.Cmp.Lexicographic.{pointwise};
+ghost use Rattle.sievesyntax.specs.RunState.{is_filed as is_filed_in, has_room as has_room_for, with_filed};
 
 use mailflags::Placement;
-use octets::{List, Octets};
-use std::alloc::{AllocError, Global};
-use std::collections::BTreeSet;
-use std::marker::Model;
+use std::alloc::AllocError;
 
-/// So many copies of a message have flags at most: those of the first mailboxes that it goes into.
-const MAX_FLAGGED: usize = 100;
+/// Into how many mailboxes a run files a message at most, that of the implicit keep among them. Each costs a row of the store and
+/// a file of a Maildir, and otherwise the length of a script alone would limit them; nobody sorts one message into so many.
+const MAX_MAILBOXES: usize = 100;
 
-/// The mailboxes that a run has filed the message into, each once, in the order in which they came. Contracts see this list.
-#[derive(Drop)]
-pub struct Mailboxes {
-    known: BTreeSet<Octets>,
-    filed: List<Placement>,
+/// Whether the message may go into a mailbox: one more may be, or it goes there already. At most 100 comparisons of names.
+pub(crate) fn has_room(filed: &[Placement], mailbox: &[u8]) -> bool
+    ensures { result ≡ has_room_for filed.now mailbox.now }
+{
+    filed.len() < MAX_MAILBOXES || is_filed(filed, mailbox)
 }
 
-impl Model for Mailboxes {
-    ghost use Rattle.std.specs.Prelude.{List};
-    ghost use Rattle.mailflags.specs.declared.placement.Placement.{Placement};
-    ghost use Rattle.sieveexec.specs.Mailboxes.{Knows};
-
-    ghost Value = { List Placement };
-
-    ghost view = { λ mailboxes. mailboxes.filed };
-
-    ghost invariant = { λ mailboxes. Knows mailboxes.known mailboxes.filed };
+/// Whether a mailbox has a copy.
+fn is_filed(filed: &[Placement], mailbox: &[u8]) -> bool
+    ensures { result ≡ is_filed_in filed.now mailbox.now }
+{
+    filed.iter().any(|there| is_in(there, mailbox))
 }
 
-impl Mailboxes {
-    /// None. Takes no memory.
-    pub(crate) fn new(alloc: Global) -> Mailboxes
-        ensures { result ≡ [] }
-    {
-        Mailboxes {
-            known: BTreeSet::new(alloc),
-            filed: List::new(alloc),
+/// One copy more; where its mailbox has one, this one stands in its place. At most 100 comparisons of names.
+pub(crate) fn file(filed: &mut Vec<Placement>, one: Placement) -> Result<(), AllocError>
+    ensures { OnOk result (filed.new.items ≡ with_filed filed.old.items one) }
+{
+    match place_of(filed.as_slice(), one.mailbox.as_slice()) {
+        Some(place) => {
+            filed[place] = one;
+            Ok(())
+        }
+        None => {
+            filed.push(one)?;
+            Ok(())
         }
     }
+}
 
-    /// Whether a mailbox is one of them. log n comparisons of names.
-    pub(crate) fn has(&self, mailbox: &Octets) -> bool
-        ensures { result ≡ is_there self.now mailbox.now }
-    {
-        self.known.contains(mailbox)
-    }
+/// Which of these copies is in a mailbox, if one is.
+fn place_of(filed: &[Placement], mailbox: &[u8]) -> Option<usize>
+    ensures { result ≡ position (λ there. pointwise nat_eq there.mailbox mailbox.now) filed.now }
+{
+    filed.iter().position(|there| is_in(there, mailbox))
+}
 
-    /// A copy as it stands behind them: behind the hundredth it has no flags.
-    fn as_filed(&self, alloc: Global, one: Placement) -> Placement
-        ensures { result ≡ as_filed self.now one }
-    {
-        if self.filed.len() < MAX_FLAGGED {
-            return one;
-        }
-        Placement {
-            mailbox: one.mailbox,
-            flags: Octets::new(alloc),
-        }
-    }
-
-    /// One more, unless its mailbox is there. log n comparisons of names; without memory none is left.
-    pub(crate) fn add(&mut self, alloc: Global, one: Placement) -> Result<(), AllocError>
-        ensures { OnOk result (self.new ≡ with_filed self.old one) }
-    {
-        if self.has(&one.mailbox) {
-            return Ok(());
-        }
-        let name = one.mailbox.try_clone(alloc)?;
-        let one = self.as_filed(alloc, one);
-        self.filed.push(one)?;
-        match self.known.insert(name) {
-            Ok(_) => Ok(()),
-            Err(_) => {
-                *self = Mailboxes::new(alloc);
-                Err(AllocError)
-            }
-        }
-    }
-
-    /// The list, without a copy.
-    pub(crate) fn into_list(self) -> List<Placement>
-        ensures { result ≡ self }
-    {
-        let Mailboxes { filed, .. } = self;
-        filed
-    }
+/// Whether a copy is in a mailbox.
+fn is_in(there: &Placement, mailbox: &[u8]) -> bool
+    ensures { result ≡ pointwise nat_eq there.now.mailbox mailbox.now }
+{
+    there.mailbox.as_slice() == mailbox
 }

@@ -10,7 +10,7 @@ pub enum Outcome {
     /// The script was run to its end or to a `stop`.
     Done {
         /// The mailboxes that the message goes into, each once, in the order of the first command that says so, and with the
-        /// flags that this command gives the copy; the implicit keep comes last (RFC 5228, 2.10.2 and 2.10.3; RFC 5232, 5).
+        /// flags that the last one gives the copy; the implicit keep comes last (RFC 5228, 2.10.2 and 2.10.3; RFC 5232, 5).
         filed: List<Placement>,
         /// The addresses that the message is sent to, each once, in the order of the first command that says so.
         sent: List<Addr>,
@@ -28,4 +28,8 @@ pub enum Failure {
     TwoVacations,
     /// A seventeenth address was to be sent to.
     TooManyRedirects,
+    /// The message was to go into a hundred and first mailbox, be it by the implicit keep.
+    TooManyMailboxes,
+    /// The tests that were asked take more work than a run may.
+    TooMuchWork,
 }

@@ -1,11 +1,12 @@
 //! What a run has done so far.
-ghost use Rattle.std.specs.Prelude.{◌≡◌, Bool, true, not, [], ◌∷◌, ◌++◌, None, IfOk, OnOk};
+ghost use Rattle.std.specs.Prelude.{◌≡◌, Bool, true, not, [], ◌∷◌, ◌++◌, None, IfOk};
 ghost use Rattle.std.specs.List.{list_any};
 ghost use Rattle.sievesyntax.specs.RunState.{performed, at_first, filed_into, flags_given as flags_given_of, mailbox_named as mailbox_of, same_target as same_target_of, sent_to, replied_by};
-ghost use Rattle.sievesyntax.specs.Meaning.{Done, actions_of};
+ghost use Rattle.sievesyntax.specs.RunState.{Going};
+ghost use Rattle.sievesyntax.specs.Meaning.{ended};
 
 use crate::copies::{copied_address, copied_args};
-use crate::mailboxes::Mailboxes;
+use crate::mailboxes::{file, has_room};
 use crate::outcome::{Failure, Outcome};
 use addrparts::Addr;
 use mailflags::{Flags, Placement};
@@ -23,8 +24,8 @@ const MAX_TARGETS: usize = 16;
 #[derive(Drop)]
 pub struct RunState {
     /// The mailboxes that the message goes into, each once, in the order of the first command that says so, with the flags that
-    /// this command gives the copy.
-    pub filed: Mailboxes,
+    /// the last one gives the copy.
+    pub filed: Vec<Placement>,
     /// The flags as they stand (RFC 5232, 3).
     pub flags: Flags,
     /// The addresses that the message is sent to, each once, in the order of the first command that says so.
@@ -43,7 +44,7 @@ impl RunState {
         ensures { run_state_of result ≡ at_first }
     {
         RunState {
-            filed: Mailboxes::new(alloc),
+            filed: Vec::new(alloc),
             flags: Flags::new(alloc),
             sent: List::new(alloc),
             reply: None,
@@ -92,18 +93,21 @@ impl RunState {
 
     /// The outcome of a run that is over: the implicit keep comes last, with the flags as they stand.
     pub(crate) fn finish(mut self, alloc: Global) -> Result<Outcome, AllocError>
-        ensures { IfOk result (λ done. outcome_view done ≡ Done (actions_of (run_state_of self))) }
+        ensures { IfOk result (λ done. outcome_view done ≡ ended (Going (run_state_of self))) }
     {
         if !self.cancelled {
-            self.place(alloc, INBOX, &None)?;
+            if let Some(failure) = self.file_into(alloc, INBOX, &None, true)? {
+                return Ok(Outcome::Failed(failure));
+            }
         }
         Ok(Outcome::Done {
-            filed: self.filed.into_list(),
+            filed: List::from_vec(self.filed),
             sent: self.sent,
             reply: self.reply,
         })
     }
 
+    /// Files the message into a mailbox, with the flags that a command gives the copy.
     fn file_into(
         &mut self,
         alloc: Global,
@@ -112,28 +116,16 @@ impl RunState {
         copy: bool,
     ) -> Result<Option<Failure>, AllocError>
         ensures { IfOk result (λ failed. flow_of failed (run_state_of self.new)
-            ≡ flow_of None (filed_into mailbox.now (flags_given_of given.now (run_state_of self.old)) copy (run_state_of self.old))) }
+            ≡ filed_into mailbox.now (flags_given_of given.now (run_state_of self.old)) copy (run_state_of self.old)) }
     {
-        self.place(alloc, mailbox, given)?;
+        if !has_room(self.filed.as_slice(), mailbox) {
+            return Ok(Some(Failure::TooManyMailboxes));
+        }
+        let flags = self.flags_given(alloc, given)?;
+        let mailbox = Octets::from_slice(alloc, mailbox)?;
+        file(&mut self.filed, Placement { mailbox, flags })?;
         self.cancelled = self.cancelled || !copy;
         Ok(None)
-    }
-
-    /// One mailbox more, unless it is there, with the flags that a command gives the copy; the implicit keep stays as it is.
-    fn place(
-        &mut self,
-        alloc: Global,
-        mailbox: &[u8],
-        given: &Option<Texts>,
-    ) -> Result<(), AllocError>
-        ensures { OnOk result (run_state_of self.new ≡ filed_into mailbox.now (flags_given_of given.now (run_state_of self.old)) true (run_state_of self.old)) }
-    {
-        let mailbox = Octets::from_slice(alloc, mailbox)?;
-        if !self.filed.has(&mailbox) {
-            let flags = self.flags_given(alloc, given)?;
-            self.filed.add(alloc, Placement { mailbox, flags })?;
-        }
-        Ok(())
     }
 
     /// The text of the flags that a command gives a copy: those of its `:flags`, and else as they stand (RFC 5232, 5).

@@ -52,7 +52,7 @@ abbrev mutual
 
 -- how much work a run may take
 abbrev pub max_work : ℕ
-max_work = 150_000_000
+max_work = 200_000_000
 
 -- a run that takes more fails, whatever it would come to (RFC 5228, 2.10.6)
 abbrev pub within_work : ℕ → Outcome → Outcome
