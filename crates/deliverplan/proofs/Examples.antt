@@ -4,7 +4,7 @@ use Rattle.std.specs.Prelude.{replicate}
 use Rattle.mailhead.specs.Fields.{FieldText}
 use Rattle.addrparts.specs.declared.address.Addr.{Addr}
 use Rattle.mailflags.specs.declared.placement.Placement.{Placement}
-use Rattle.sievesyntax.specs.RunState.{TwoVacations, TooManyRedirects, TooManyMailboxes, inbox}
+use Rattle.sievesyntax.specs.RunState.{TwoVacations, TooManyRedirects, TooManyMailboxes, TooMuchWork, inbox}
 use Rattle.sievesyntax.specs.Meaning.{Failed}
 use Rattle.sievesyntax.specs.declared.tree.vacation.VacArgs.{VacArgs}
 use Rattle.sieveexec.specs.Mails.{MailSpec}
@@ -60,8 +60,8 @@ told_without_script same = cc
 looping_without_script : Disposes None (mail_with bob (replicate 101 (field (codes "Received")))) (Tells loop_text)
 looping_without_script = refl
 
-failures : (disposition_of (Failed TwoVacations) ≡ Tells (codes "vacation executed twice")) × ((disposition_of (Failed TooManyRedirects) ≡ Tells (codes "more than 16 redirects")) × (disposition_of (Failed TooManyMailboxes) ≡ Tells (codes "more than 100 mailboxes")))
-failures = (refl, (refl, refl))
+failures : (disposition_of (Failed TwoVacations) ≡ Tells (codes "vacation executed twice")) × ((disposition_of (Failed TooManyRedirects) ≡ Tells (codes "more than 16 redirects")) × ((disposition_of (Failed TooManyMailboxes) ≡ Tells (codes "more than 100 mailboxes")) × (disposition_of (Failed TooMuchWork) ≡ Tells (codes "script takes too much work"))))
+failures = (refl, (refl, (refl, refl)))
 
 -- ---- the response to the sender
 

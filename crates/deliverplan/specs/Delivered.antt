@@ -7,7 +7,7 @@ use Rattle.addrparts.specs.Spelling.{spelling}
 use Rattle.mailflags.specs.declared.placement.Placement.{Placement}
 use Rattle.sievesyntax.specs.Tree.{Commands}
 use Rattle.sievesyntax.specs.Means.{Means}
-use Rattle.sievesyntax.specs.RunState.{Failure, TwoVacations, TooManyRedirects, TooManyMailboxes, inbox}
+use Rattle.sievesyntax.specs.RunState.{Failure, TwoVacations, TooManyRedirects, TooManyMailboxes, TooMuchWork, inbox}
 use Rattle.sievesyntax.specs.Meaning.{Actions, Outcome, Done, Failed}
 use Rattle.sievesyntax.specs.declared.tree.vacation.VacArgs.{VacArgs}
 use Rattle.sieveexec.specs.Mails.{MailSpec}
@@ -38,6 +38,7 @@ abbrev pub failure_text : Failure → List ℕ
 failure_text TwoVacations = codes "vacation executed twice"
 failure_text TooManyRedirects = codes "more than 16 redirects"
 failure_text TooManyMailboxes = codes "more than 100 mailboxes"
+failure_text TooMuchWork = codes "script takes too much work"
 
 -- the notice on a message that may go round in a loop
 abbrev pub loop_text : List ℕ

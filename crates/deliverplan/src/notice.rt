@@ -19,5 +19,6 @@ pub fn failure_text(failure: Failure) -> &'static [u8]
         Failure::TwoVacations => b"vacation executed twice",
         Failure::TooManyRedirects => b"more than 16 redirects",
         Failure::TooManyMailboxes => b"more than 100 mailboxes",
+        Failure::TooMuchWork => b"script takes too much work",
     }
 }

@@ -1,31 +1,49 @@
--- Code that is read from its front, with targets counted from the end, does what the tree does.
-use Rattle.std.proofs.Common.{◌≡◌, ℕ, zero, suc, ◌-◌, ◌≤◌, Bool, true, false, not, ◌&&◌, ◌||◌, cond, List, [], ◌∷◌, ◌++◌, length, drop, refl, sym, ap, ◌∙◌, arith, append_assoc, length-append}
+-- Code that is read from its front, with targets counted from the end, does what the tree does, and takes what it takes.
+use Rattle.std.proofs.Common.{◌≡◌, ℕ, zero, suc, ◌-◌, ◌≤◌, Bool, true, false, not, ◌&&◌, ◌||◌, cond, List, [], ◌∷◌, ◌++◌, length, drop, refl, sym, ap, ◌∙◌, ◌+◌, arith, append_assoc, length-append, add_assoc, add-zero, zero-add}
 use Rattle.std.proofs.lemmas.List.{drop_at}
 use Rattle.sievesyntax.specs.declared.tree.checks.Check.{Check}
 use Rattle.sievesyntax.specs.RunState.{RunState, Flow, Going, Stopped, Failed, and_then, performed}
 use Rattle.sievesyntax.specs.Tree.{TestTree, yes, no, looks, not_of, all_of, any_of, Tests, no_tests, test, CommandTree, require, choose, stop, act, Branches, no_branches, branch, Commands, no_commands, command}
 use Rattle.sievesyntax.specs.Meaning.{holds, all_hold, some_holds, does, chooses, does_all}
+use Rattle.sievesyntax.specs.Work.{asked, all_asked, some_asked, then_takes, takes, choice_takes, all_take}
 use Rattle.sievecode.specs.Instructions.{Instruction, set, look, flip, jump, jump_if, jump_unless}
 use Rattle.sievecode.specs.Instructions as I
+use Rattle.sievecode.specs.Jumps.{Course, over, behind}
 use Rattle.sievecode.specs.Layout.{test_code, all_code, any_code, command_code, branches_code, commands_code}
 
--- what code does after it has passed over that many instructions
-abbrev pub run : (RunState → Check → Bool) → ℕ → List Instruction → Bool → RunState → Flow
-run truth k [] flag so_far = Going so_far
-run truth (suc k) (instr ∷ code) flag so_far = run truth k code flag so_far
-run truth zero (set value ∷ code) flag so_far = run truth zero code value so_far
-run truth zero (look check ∷ code) flag so_far = run truth zero code (truth so_far check) so_far
-run truth zero (flip ∷ code) flag so_far = run truth zero code (not flag) so_far
-run truth zero (jump left ∷ code) flag so_far = run truth (length code - left) code flag so_far
-run truth zero (jump_if left ∷ code) flag so_far = run truth (cond flag (length code - left) zero) code flag so_far
-run truth zero (jump_unless left ∷ code) flag so_far = run truth (cond flag zero (length code - left)) code flag so_far
-run truth zero (I.act action ∷ code) flag so_far = and_then (performed action so_far) (run truth zero code flag)
-run truth zero (I.stop ∷ code) flag so_far = Stopped so_far
+-- no work, and work behind work
+pub behind_none : (course : Course) → behind 0 course ≡ course
+behind_none course = ap (λ n. record course { work = n }) (zero-add course.work)
 
-pub past : (truth : RunState → Check → Bool) (k : ℕ) (code : List Instruction) (flag : Bool) (so_far : RunState) → run truth k code flag so_far ≡ run truth zero (drop k code) flag so_far
-past truth zero code flag so_far = refl
-past truth (suc k) [] flag so_far = refl
-past truth (suc k) (instr ∷ code) flag so_far = past truth k code flag so_far
+pub behind_both : (one two : ℕ) (course : Course) → behind one (behind two course) ≡ behind (one + two) course
+behind_both one two course = ap (λ n. record course { work = n }) (sym (add_assoc one two course.work))
+
+no_more : (work : ℕ) (course : Course) → behind work course ≡ behind (work + 0) course
+no_more work course = ap (λ n. behind n course) (sym (add-zero work))
+
+-- what comes next is run where the run goes on
+abbrev pub then_runs : Flow → (RunState → Course) → Course
+then_runs (Going so_far) next = next so_far
+then_runs (Stopped so_far) next = over (Stopped so_far)
+then_runs (Failed failure) next = over (Failed failure)
+
+-- what code does after it has passed over that many instructions
+abbrev pub run : (RunState → Check → Bool) → (RunState → Check → ℕ) → ℕ → List Instruction → Bool → RunState → Course
+run truth work k [] flag so_far = over (Going so_far)
+run truth work (suc k) (instr ∷ code) flag so_far = run truth work k code flag so_far
+run truth work zero (set value ∷ code) flag so_far = run truth work zero code value so_far
+run truth work zero (look check ∷ code) flag so_far = behind (work so_far check) (run truth work zero code (truth so_far check) so_far)
+run truth work zero (flip ∷ code) flag so_far = run truth work zero code (not flag) so_far
+run truth work zero (jump left ∷ code) flag so_far = run truth work (length code - left) code flag so_far
+run truth work zero (jump_if left ∷ code) flag so_far = run truth work (cond flag (length code - left) zero) code flag so_far
+run truth work zero (jump_unless left ∷ code) flag so_far = run truth work (cond flag zero (length code - left)) code flag so_far
+run truth work zero (I.act action ∷ code) flag so_far = then_runs (performed action so_far) (run truth work zero code flag)
+run truth work zero (I.stop ∷ code) flag so_far = over (Stopped so_far)
+
+pub past : (truth : RunState → Check → Bool) (work : RunState → Check → ℕ) (k : ℕ) (code : List Instruction) (flag : Bool) (so_far : RunState) → run truth work k code flag so_far ≡ run truth work zero (drop k code) flag so_far
+past truth work zero code flag so_far = refl
+past truth work (suc k) [] flag so_far = refl
+past truth work (suc k) (instr ∷ code) flag so_far = past truth work k code flag so_far
 
 -- code that ends with other code
 pub record Ends (code rest : List Instruction) : Type 0 where
@@ -44,13 +62,13 @@ ends_through code middle rest a b = record { front = a.front ++ b.front; is = a.
 pub ends_length : (code rest : List Instruction) → Ends code rest → length rest ≤ length code
 ends_length code rest e = omega (arith, ap length e.is, length-append e.front rest)
 
-skips : (truth : RunState → Check → Bool) (code rest : List Instruction) → Ends code rest → (flag : Bool) (so_far : RunState) → run truth (length code - length rest) code flag so_far ≡ run truth zero rest flag so_far
-skips truth code rest e flag so_far =
+skips : (truth : RunState → Check → Bool) (work : RunState → Check → ℕ) (code rest : List Instruction) → Ends code rest → (flag : Bool) (so_far : RunState) → run truth work (length code - length rest) code flag so_far ≡ run truth work zero rest flag so_far
+skips truth work code rest e flag so_far =
     let n = length code - length rest in
     let front : length e.front ≡ n = omega (arith, ap length e.is, length-append e.front rest) in
-    past truth n code flag so_far
-    ∙ ap (λ l. run truth zero (drop n l) flag so_far) e.is
-    ∙ ap (λ l. run truth zero l flag so_far) (drop_at e.front rest n front)
+    past truth work n code flag so_far
+    ∙ ap (λ l. run truth work zero (drop n l) flag so_far) e.is
+    ∙ ap (λ l. run truth work zero l flag so_far) (drop_at e.front rest n front)
 
 mutual
   pub test_ends : (tree : TestTree) (rest : List Instruction) → Ends (test_code tree rest) rest
@@ -93,88 +111,107 @@ mutual
   commands_ends no_commands rest = ends_here rest
   commands_ends (command first more) rest = ends_through _ (commands_code more rest) rest (command_ends first (commands_code more rest)) (commands_ends more rest)
 
--- the code of a test sets the flag to whether the test holds
-mutual
-  pub test_runs : (truth : RunState → Check → Bool) (tree : TestTree) (rest : List Instruction) (flag : Bool) (so_far : RunState) → run truth zero (test_code tree rest) flag so_far ≡ run truth zero rest (holds (truth so_far) tree) so_far
-  test_runs truth yes rest flag so_far = refl
-  test_runs truth no rest flag so_far = refl
-  test_runs truth (looks check) rest flag so_far = refl
-  test_runs truth (not_of inner) rest flag so_far = test_runs truth inner (flip ∷ rest) flag so_far
-  test_runs truth (all_of inner) rest flag so_far = all_runs truth inner rest flag so_far
-  test_runs truth (any_of inner) rest flag so_far = any_runs truth inner rest flag so_far
+module _ (truth : RunState → Check → Bool) (work : RunState → Check → ℕ) where
+  -- the code of a test sets the flag to whether the test holds, and takes the test's work
+  mutual
+    pub test_runs : (tree : TestTree) (rest : List Instruction) (flag : Bool) (so_far : RunState)
+        → run truth work zero (test_code tree rest) flag so_far ≡ behind (asked (truth so_far) (work so_far) tree) (run truth work zero rest (holds (truth so_far) tree) so_far)
+    test_runs yes rest flag so_far = sym (behind_none (run truth work zero rest true so_far))
+    test_runs no rest flag so_far = sym (behind_none (run truth work zero rest false so_far))
+    test_runs (looks check) rest flag so_far = refl
+    test_runs (not_of inner) rest flag so_far = test_runs inner (flip ∷ rest) flag so_far
+    test_runs (all_of inner) rest flag so_far = all_runs inner rest flag so_far
+    test_runs (any_of inner) rest flag so_far = any_runs inner rest flag so_far
 
-  all_runs : (truth : RunState → Check → Bool) (tests : Tests) (rest : List Instruction) (flag : Bool) (so_far : RunState) → run truth zero (all_code tests (length rest) (set true ∷ rest)) flag so_far ≡ run truth zero rest (all_hold (truth so_far) tests) so_far
-  all_runs truth no_tests rest flag so_far = refl
-  all_runs truth (test first more) rest flag so_far =
-      let after = all_code more (length rest) (set true ∷ rest) in
-      let ends = ends_through after (set true ∷ rest) rest (all_ends more (length rest) (set true ∷ rest)) (ends_more (set true) rest rest (ends_here rest)) in
-      test_runs truth first (jump_unless (length rest) ∷ after) flag so_far
-      ∙ (elim (holds (truth so_far) first) as (λ first. run truth (cond first zero (length after - length rest)) after first so_far ≡ run truth zero rest (first && all_hold (truth so_far) more) so_far) [
-        | true ↦ all_runs truth more rest true so_far
-        | false ↦ skips truth after rest ends false so_far
-      ])
+    all_runs : (tests : Tests) (rest : List Instruction) (flag : Bool) (so_far : RunState)
+        → run truth work zero (all_code tests (length rest) (set true ∷ rest)) flag so_far ≡ behind (all_asked (truth so_far) (work so_far) tests) (run truth work zero rest (all_hold (truth so_far) tests) so_far)
+    all_runs no_tests rest flag so_far = sym (behind_none (run truth work zero rest true so_far))
+    all_runs (test first more) rest flag so_far =
+        let after = all_code more (length rest) (set true ∷ rest) in
+        let ends = ends_through after (set true ∷ rest) rest (all_ends more (length rest) (set true ∷ rest)) (ends_more (set true) rest rest (ends_here rest)) in
+        let cost = asked (truth so_far) (work so_far) first in
+        test_runs first (jump_unless (length rest) ∷ after) flag so_far
+        ∙ (elim (holds (truth so_far) first) as (λ first. behind cost (run truth work (cond first zero (length after - length rest)) after first so_far)
+        ≡ behind (cost + cond first (all_asked (truth so_far) (work so_far) more) 0) (run truth work zero rest (first && all_hold (truth so_far) more) so_far)) [
+          | true ↦ ap (behind cost) (all_runs more rest true so_far) ∙ behind_both cost (all_asked (truth so_far) (work so_far) more) (run truth work zero rest (all_hold (truth so_far) more) so_far)
+          | false ↦ ap (behind cost) (skips truth work after rest ends false so_far) ∙ no_more cost (run truth work zero rest false so_far)
+        ])
 
-  any_runs : (truth : RunState → Check → Bool) (tests : Tests) (rest : List Instruction) (flag : Bool) (so_far : RunState) → run truth zero (any_code tests (length rest) (set false ∷ rest)) flag so_far ≡ run truth zero rest (some_holds (truth so_far) tests) so_far
-  any_runs truth no_tests rest flag so_far = refl
-  any_runs truth (test first more) rest flag so_far =
-      let after = any_code more (length rest) (set false ∷ rest) in
-      let ends = ends_through after (set false ∷ rest) rest (any_ends more (length rest) (set false ∷ rest)) (ends_more (set false) rest rest (ends_here rest)) in
-      test_runs truth first (jump_if (length rest) ∷ after) flag so_far
-      ∙ (elim (holds (truth so_far) first) as (λ first. run truth (cond first (length after - length rest) zero) after first so_far ≡ run truth zero rest (first || some_holds (truth so_far) more) so_far) [
-        | true ↦ skips truth after rest ends true so_far
-        | false ↦ any_runs truth more rest false so_far
-      ])
+    any_runs : (tests : Tests) (rest : List Instruction) (flag : Bool) (so_far : RunState)
+        → run truth work zero (any_code tests (length rest) (set false ∷ rest)) flag so_far ≡ behind (some_asked (truth so_far) (work so_far) tests) (run truth work zero rest (some_holds (truth so_far) tests) so_far)
+    any_runs no_tests rest flag so_far = sym (behind_none (run truth work zero rest false so_far))
+    any_runs (test first more) rest flag so_far =
+        let after = any_code more (length rest) (set false ∷ rest) in
+        let ends = ends_through after (set false ∷ rest) rest (any_ends more (length rest) (set false ∷ rest)) (ends_more (set false) rest rest (ends_here rest)) in
+        let cost = asked (truth so_far) (work so_far) first in
+        test_runs first (jump_if (length rest) ∷ after) flag so_far
+        ∙ (elim (holds (truth so_far) first) as (λ first. behind cost (run truth work (cond first (length after - length rest) zero) after first so_far)
+        ≡ behind (cost + cond first 0 (some_asked (truth so_far) (work so_far) more)) (run truth work zero rest (first || some_holds (truth so_far) more) so_far)) [
+          | true ↦ ap (behind cost) (skips truth work after rest ends true so_far) ∙ no_more cost (run truth work zero rest true so_far)
+          | false ↦ ap (behind cost) (any_runs more rest false so_far) ∙ behind_both cost (some_asked (truth so_far) (work so_far) more) (run truth work zero rest (some_holds (truth so_far) more) so_far)
+        ])
 
--- what is run after code that has this effect, with some flag
-abbrev Comes : (RunState → Check → Bool) → List Instruction → Flow → Flow → Type 0
-Comes truth rest effect whole = (flag : Bool) × (whole ≡ and_then effect (run truth zero rest flag))
+  -- what is run after code that has this effect and takes this work, with some flag
+  abbrev Comes : List Instruction → Flow → ℕ → Course → Type 0
+  Comes rest effect cost whole = (flag : Bool) × (whole ≡ behind cost (then_runs effect (run truth work zero rest flag)))
 
--- one effect after another
-comes_on : (truth : RunState → Check → Bool) (middle rest : List Instruction) (effect : Flow) (next : RunState → Flow) (whole : Flow) → Comes truth middle effect whole → ((flag : Bool) (so_far : RunState) → Comes truth rest (next so_far) (run truth zero middle flag so_far)) → Comes truth rest (and_then effect next) whole
-comes_on truth middle rest (Going so_far) next whole a b = let c = b a.0 so_far in (c.0, a.1 ∙ c.1)
-comes_on truth middle rest (Stopped so_far) next whole a b = (false, a.1)
-comes_on truth middle rest (Failed failure) next whole a b = (false, a.1)
+  -- one effect after another
+  comes_on : (middle rest : List Instruction) (effect : Flow) (next : RunState → Flow) (cost : ℕ) (later : RunState → ℕ) (whole : Course) → Comes middle effect cost whole
+      → ((flag : Bool) (so_far : RunState) → Comes rest (next so_far) (later so_far) (run truth work zero middle flag so_far)) → Comes rest (and_then effect next) (cost + then_takes effect later) whole
+  comes_on middle rest (Going so_far) next cost later whole a b =
+      let c = b a.0 so_far in (c.0, a.1 ∙ ap (behind cost) c.1 ∙ behind_both cost (later so_far) (then_runs (next so_far) (run truth work zero rest c.0)))
+  comes_on middle rest (Stopped so_far) next cost later whole a b = (false, a.1 ∙ no_more cost (over (Stopped so_far)))
+  comes_on middle rest (Failed failure) next cost later whole a b = (false, a.1 ∙ no_more cost (over (Failed failure)))
 
--- code that goes on elsewhere
-comes_to : (truth : RunState → Check → Bool) (middle rest : List Instruction) (effect whole : Flow) → ((flag : Bool) (so_far : RunState) → run truth zero middle flag so_far ≡ run truth zero rest flag so_far) → Comes truth middle effect whole → Comes truth rest effect whole
-comes_to truth middle rest (Going so_far) whole same a = (a.0, a.1 ∙ same a.0 so_far)
-comes_to truth middle rest (Stopped so_far) whole same a = (false, a.1)
-comes_to truth middle rest (Failed failure) whole same a = (false, a.1)
+  -- the same effect before code that does the same
+  comes_to : (middle rest : List Instruction) (effect : Flow) (cost : ℕ) (whole : Course) → ((flag : Bool) (so_far : RunState) → run truth work zero middle flag so_far ≡ run truth work zero rest flag so_far) → Comes middle effect cost whole → Comes rest effect cost whole
+  comes_to middle rest (Going so_far) cost whole same a = (a.0, a.1 ∙ ap (behind cost) (same a.0 so_far))
+  comes_to middle rest (Stopped so_far) cost whole same a = (false, a.1)
+  comes_to middle rest (Failed failure) cost whole same a = (false, a.1)
 
--- the code of commands does what they do
-mutual
-  pub command_runs : (truth : RunState → Check → Bool) (tree : CommandTree) (rest : List Instruction) (flag : Bool) (so_far : RunState) → Comes truth rest (does truth tree so_far) (run truth zero (command_code tree rest) flag so_far)
-  command_runs truth (require names) rest flag so_far = (flag, refl)
-  command_runs truth (choose branches) rest flag so_far = branches_run truth branches rest flag so_far
-  command_runs truth stop rest flag so_far = (flag, refl)
-  command_runs truth (act action) rest flag so_far = (flag, refl)
+  -- behind other work
+  comes_behind : (rest : List Instruction) (effect : Flow) (before cost : ℕ) (whole : Course) → Comes rest effect cost whole → Comes rest effect (before + cost) (behind before whole)
+  comes_behind rest effect before cost whole a = (a.0, ap (behind before) a.1 ∙ behind_both before cost (then_runs effect (run truth work zero rest a.0)))
 
-  branches_run : (truth : RunState → Check → Bool) (branches : Branches) (rest : List Instruction) (flag : Bool) (so_far : RunState) → Comes truth rest (chooses truth branches so_far) (run truth zero (branches_code branches (length rest) rest) flag so_far)
-  branches_run truth no_branches rest flag so_far = (flag, refl)
-  branches_run truth (branch condition block more) rest flag so_far =
-      let after = branches_code more (length rest) rest in
-      let blocked = commands_code block (jump (length rest) ∷ after) in
-      let tested = test_runs truth condition (jump_unless (length after) ∷ blocked) flag so_far in
-      let chosen : Comes truth rest (chooses truth (branch condition block more) so_far) (run truth zero (jump_unless (length after) ∷ blocked) (holds (truth so_far) condition) so_far) =
-      elim (holds (truth so_far) condition) as (λ first. Comes truth rest (cond first (does_all truth block so_far) (chooses truth more so_far)) (run truth (cond first zero (length blocked - length after)) blocked first so_far)) [
-        | true ↦ comes_to truth (jump (length rest) ∷ after) rest (does_all truth block so_far) _ (λ flag so_far. skips truth after rest (branches_ends more (length rest) rest) flag so_far) (commands_run truth block (jump (length rest) ∷ after) true so_far)
-        | false ↦
-            let skipped = skips truth blocked after (ends_through blocked (jump (length rest) ∷ after) after (commands_ends block (jump (length rest) ∷ after)) (ends_more (jump (length rest)) after after (ends_here after))) false so_far in
-            let others = branches_run truth more rest false so_far in
-            (others.0, skipped ∙ others.1)
-      ] in
-      (chosen.0, tested ∙ chosen.1)
+  -- the code of commands does what they do
+  mutual
+    pub command_runs : (tree : CommandTree) (rest : List Instruction) (flag : Bool) (so_far : RunState) → Comes rest (does truth tree so_far) (takes truth work tree so_far) (run truth work zero (command_code tree rest) flag so_far)
+    command_runs (require names) rest flag so_far = (flag, sym (behind_none (run truth work zero rest flag so_far)))
+    command_runs (choose branches) rest flag so_far = branches_run branches rest flag so_far
+    command_runs stop rest flag so_far = (flag, sym (behind_none (over (Stopped so_far))))
+    command_runs (act action) rest flag so_far = (flag, sym (behind_none (then_runs (performed action so_far) (run truth work zero rest flag))))
 
-  pub commands_run : (truth : RunState → Check → Bool) (commands : Commands) (rest : List Instruction) (flag : Bool) (so_far : RunState) → Comes truth rest (does_all truth commands so_far) (run truth zero (commands_code commands rest) flag so_far)
-  commands_run truth no_commands rest flag so_far = (flag, refl)
-  commands_run truth (command first more) rest flag so_far =
-      comes_on truth (commands_code more rest) rest (does truth first so_far) (does_all truth more) _ (command_runs truth first (commands_code more rest) flag so_far) (λ flag so_far. commands_run truth more rest flag so_far)
+    branches_run : (branches : Branches) (rest : List Instruction) (flag : Bool) (so_far : RunState) → Comes rest (chooses truth branches so_far) (choice_takes truth work branches so_far) (run truth work zero (branches_code branches (length rest) rest) flag so_far)
+    branches_run no_branches rest flag so_far = (flag, sym (behind_none (run truth work zero rest flag so_far)))
+    branches_run (branch condition block more) rest flag so_far =
+        let after = branches_code more (length rest) rest in
+        let blocked = commands_code block (jump (length rest) ∷ after) in
+        let tested = test_runs condition (jump_unless (length after) ∷ blocked) flag so_far in
+        let first = holds (truth so_far) condition in
+        let chosen : Comes rest (chooses truth (branch condition block more) so_far) (cond first (all_take truth work block so_far) (choice_takes truth work more so_far)) (run truth work zero (jump_unless (length after) ∷ blocked) first so_far) =
+        elim (holds (truth so_far) condition) as (λ first. Comes rest (cond first (does_all truth block so_far) (chooses truth more so_far)) (cond first (all_take truth work block so_far) (choice_takes truth work more so_far)) (run truth work (cond first zero (length blocked - length after)) blocked first so_far)) [
+          | true ↦ comes_to (jump (length rest) ∷ after) rest (does_all truth block so_far) (all_take truth work block so_far) _ (λ flag so_far. skips truth work after rest (branches_ends more (length rest) rest) flag so_far) (commands_run block (jump (length rest) ∷ after) true so_far)
+          | false ↦
+              let skipped = skips truth work blocked after (ends_through blocked (jump (length rest) ∷ after) after (commands_ends block (jump (length rest) ∷ after)) (ends_more (jump (length rest)) after after (ends_here after))) false so_far in
+              let others = branches_run more rest false so_far in
+              (others.0, skipped ∙ others.1)
+        ] in
+        let all = comes_behind rest (chooses truth (branch condition block more) so_far) (asked (truth so_far) (work so_far) condition) (cond first (all_take truth work block so_far) (choice_takes truth work more so_far)) _ chosen in
+        (all.0, tested ∙ all.1)
 
--- a whole script
-pub whole_runs : (truth : RunState → Check → Bool) (commands : Commands) (so_far : RunState) → run truth zero (commands_code commands []) false so_far ≡ does_all truth commands so_far
-whole_runs truth commands so_far = let run = commands_run truth commands [] false so_far in run.1 ∙ nothing_more (does_all truth commands so_far)
-  where
-    nothing_more : (flow : Flow) → and_then flow Going ≡ flow
-    nothing_more (Going so_far) = refl
-    nothing_more (Stopped so_far) = refl
-    nothing_more (Failed failure) = refl
+    pub commands_run : (commands : Commands) (rest : List Instruction) (flag : Bool) (so_far : RunState) → Comes rest (does_all truth commands so_far) (all_take truth work commands so_far) (run truth work zero (commands_code commands rest) flag so_far)
+    commands_run no_commands rest flag so_far = (flag, sym (behind_none (run truth work zero rest flag so_far)))
+    commands_run (command first more) rest flag so_far =
+        comes_on (commands_code more rest) rest (does truth first so_far) (does_all truth more) (takes truth work first so_far) (all_take truth work more) _ (command_runs first (commands_code more rest) flag so_far) (λ flag so_far. commands_run more rest flag so_far)
+
+  -- a whole script
+  pub whole_runs : (commands : Commands) (so_far : RunState) → run truth work zero (commands_code commands []) false so_far ≡ record { flow = does_all truth commands so_far; work = all_take truth work commands so_far }
+  whole_runs commands so_far =
+      let run = commands_run commands [] false so_far in
+      run.1 ∙ ap (behind (all_take truth work commands so_far)) (nothing_more (does_all truth commands so_far))
+      ∙ ap (λ n. record { flow = does_all truth commands so_far; work = n }) (add-zero (all_take truth work commands so_far))
+    where
+      nothing_more : (flow : Flow) → then_runs flow (λ so_far. over (Going so_far)) ≡ over flow
+      nothing_more (Going so_far) = refl
+      nothing_more (Stopped so_far) = refl
+      nothing_more (Failed failure) = refl

@@ -4,16 +4,17 @@ use Rattle.std.proofs.Math.Path.{fun_ext}
 use Rattle.mailhead.specs.Heads.{fields_of, size_of}
 use Rattle.mailfronts.specs.Fronts.{HasHeaderOf}
 use Rattle.mailfronts.proofs.FrontLemmas.{fields_in_front}
-use Rattle.sievesyntax.specs.Meaning.{outcome}
 use Rattle.sievesyntax.specs.RunState.{RunState}
 use Rattle.sievesyntax.specs.Tree.{Commands}
+use Rattle.sievesyntax.specs.Work.{outcome_within}
 use Rattle.sievesyntax.specs.declared.tree.checks.Check.{Check}
 use Rattle.sievesyntax.specs.declared.tree.checks.Check.TheVariants.{Size, Exists, Header, Address, Envelope, MailboxExists, Date, CurrentDate, HasFlag}
 use Rattle.sieveexec.specs.declared.envelope.Envelope as E
 use Rattle.sieveexec.specs.declared.when.When.{When}
 use Rattle.sieveexec.specs.Mails.{MailSpec, mail_of, with_size}
 use Rattle.sieveexec.specs.Outcomes.{outcome_at}
-use Rattle.sieveexec.specs.Truth.{truth_by}
+use Rattle.sieveexec.specs.Truth.{truth_by, truth_at}
+use Rattle.sieveexec.specs.Work.{work_by, work_at}
 
 same_truth : (mail : MailSpec) (octets : List ℕ) (flags : List (List ℕ)) (check : Check) → truth_by (record mail { octets = octets }) flags check ≡ truth_by mail flags check
 same_truth mail octets flags (Size size) = refl
@@ -26,9 +27,22 @@ same_truth mail octets flags (Date test) = refl
 same_truth mail octets flags (CurrentDate test) = refl
 same_truth mail octets flags (HasFlag test) = refl
 
+same_work : (mail : MailSpec) (octets : List ℕ) (flags : List (List ℕ)) (check : Check) → work_by (record mail { octets = octets }) flags check ≡ work_by mail flags check
+same_work mail octets flags (Size size) = refl
+same_work mail octets flags (Exists names) = refl
+same_work mail octets flags (Header header) = refl
+same_work mail octets flags (Address address) = refl
+same_work mail octets flags (Envelope test) = refl
+same_work mail octets flags (MailboxExists names) = refl
+same_work mail octets flags (Date test) = refl
+same_work mail octets flags (CurrentDate test) = refl
+same_work mail octets flags (HasFlag test) = refl
+
 -- so the outcome is the same, whatever they are
 same_outcome : (mail : MailSpec) (octets : List ℕ) (tree : Commands) → outcome_at (record mail { octets = octets }) tree ≡ outcome_at mail tree
-same_outcome mail octets tree = ap (λ truth. outcome truth tree) (fun_ext (λ (so_far : RunState). fun_ext (same_truth mail octets so_far.flags)))
+same_outcome mail octets tree =
+    ap (λ truth. outcome_within truth (work_at (record mail { octets = octets })) tree) (fun_ext (λ (so_far : RunState). fun_ext (same_truth mail octets so_far.flags)))
+    ∙ ap (λ work. outcome_within (truth_at mail) work tree) (fun_ext (λ (so_far : RunState). fun_ext (same_work mail octets so_far.flags)))
 
 module _ (envelope : E.Envelope) (when : When) (tree : Commands) where
   -- with the fields and the size of another message

@@ -14,3 +14,4 @@ mod Examples
 mod DateExamples
 pub mod MachineLemmas
 pub mod MailboxLemmas
+pub mod WorkLemmas

@@ -1,71 +1,174 @@
--- Turn by turn the machine does what the code gives.
-use Rattle.std.proofs.Common.{◌≡◌, ℕ, zero, suc, ◌+◌, ◌<◌, ◌≤◌, Bool, List, length, map, Option, Some, None, Result, Ok, Err, IfOk, get_or, refl, sym, ap, ◌∙◌, subst, arith}
-use Rattle.std.specs.Prelude.{slice_get}
+-- Turn by turn the machine does what the code gives, and takes its work.
+use Rattle.std.proofs.Common.{◌≡◌, ℕ, zero, suc, ◌+◌, ◌<◌, ◌≤◌, Bool, true, false, cond, List, length, map, Option, Some, None, Result, Ok, Err, IfOk, get_or, refl, sym, ap, ◌∙◌, subst, arith, zero-add}
+use Rattle.std.specs.Prelude.{nat_lt, slice_get}
 use Rattle.std.specs.Option.{option_map}
 use Rattle.std.specs.declared.alloc.AllocError.{AllocError}
+use Rattle.std.proofs.lemmas.Bool.{lt-ltb, le-ltb}
 use Rattle.std.proofs.lemmas.List.{length-map}
 use Rattle.std.proofs.lemmas.Option.{slice_get-map, slice_get_past, slice_get_read, slice_get_within}
 use Rattle.sievesyntax.specs.declared.tree.checks.Check.{Check}
-use Rattle.sievesyntax.specs.RunState.{RunState, Flow, Going}
+use Rattle.sievesyntax.specs.RunState.{RunState, TooMuchWork, Flow, Going}
 use Rattle.sievesyntax.specs.RunState as F
-use Rattle.sievesyntax.specs.Meaning.{Outcome as OutcomeSpec}
+use Rattle.sievesyntax.specs.Meaning.{Outcome as OutcomeSpec, Failed, ended}
+use Rattle.sievesyntax.specs.Work.{max_work, within_work}
 use Rattle.sievecode.specs.declared.instr.Instr.{Instr}
 use Rattle.sievecode.specs.Instructions.{Instruction, instr_view}
-use Rattle.sievecode.specs.Jumps.{IsForward, LeadsForward, Run, turn, at_place, jumps_from, outcome_of}
+use Rattle.sievecode.specs.Jumps.{Course, over, behind, IsForward, LeadsForward, Run, after_work, instr_work, turn, at_place, paid_turn, jumps_from, outcome_of}
+use Rattle.sievecode.proofs.Runs.{behind_none, behind_both}
+use Rattle.sievecode.proofs.Endings.{turn_ends, comes_to_an_end}
 use Rattle.sieveexec.specs.Mails.{MailSpec}
 use Rattle.sieveexec.specs.Truth.{truth_at}
+use Rattle.sieveexec.specs.Work.{IsPaid, work_at}
 use Rattle.sieveexec.specs.declared.outcome.Outcome.{Outcome}
 use Rattle.sieveexec.specs.declared.machine.Turn.{Turn}
 use Rattle.sieveexec.specs.declared.machine.Turn.TheVariants.{Next, Stopped}
 use Rattle.sieveexec.specs.declared.machine.Turn.TheVariants as T
 use Rattle.sieveexec.specs.Runs.{after_turn, failure_view, MovesOn, outcome_view}
 
--- with as many turns as there are places left, the code gives this from here
-abbrev pub Gives : (RunState → Check → Bool) → List Instruction → Option Flow → ℕ → Bool → RunState → Type 0
-Gives truth code whole place flag state = (n : ℕ) × (length code ≤ place + n) × (jumps_from truth code n place flag state ≡ whole)
+-- no work, and work behind work
+none_after : (given : Option Course) → after_work 0 given ≡ given
+none_after None = refl
+none_after (Some course) = ap Some (behind_none course)
+
+both_after : (one two : ℕ) (given : Option Course) → after_work one (after_work two given) ≡ after_work (one + two) given
+both_after one two None = refl
+both_after one two (Some course) = ap Some (behind_both one two course)
+
+-- with as many turns as there are places left, and so much work that was taken, the code gives this from here
+pub record Gives (truth : RunState → Check → Bool) (work : RunState → Check → ℕ) (code : List Instruction) (whole : Option Course) (place : ℕ) (flag : Bool) (state : RunState) (left : ℕ) : Type 0 where
+  pub turns : ℕ
+  pub taken : ℕ
+  pub enough : length code ≤ place + turns
+  pub within : taken + left ≡ max_work
+  pub is : after_work taken (jumps_from truth work code turns place flag state) ≡ whole
+
+-- a run is over, behind so much work as may be
+pub record IsOver (whole : Option Course) (flow : Flow) : Type 0 where
+  pub taken : ℕ
+  pub within : taken ≤ max_work
+  pub is : Some (behind taken (over flow)) ≡ whole
 
 -- what a turn leaves to do
-abbrev pub Leaves : (RunState → Check → Bool) → List Instruction → Option Flow → Turn → Bool → RunState → Type 0
-Leaves truth code whole (Next place) flag state = Gives truth code whole place flag state
-Leaves truth code whole Stopped flag state = Some (F.Stopped state) ≡ whole
-Leaves truth code whole (T.Failed failure) flag state = Some (F.Failed (failure_view failure)) ≡ whole
+abbrev pub Leaves : (RunState → Check → Bool) → (RunState → Check → ℕ) → List Instruction → Option Course → Turn → Bool → RunState → ℕ → Type 0
+Leaves truth work code whole (Next place) flag state left = Gives truth work code whole place flag state left
+Leaves truth work code whole Stopped flag state left = IsOver whole (F.Stopped state)
+Leaves truth work code whole (T.Failed failure) flag state left = IsOver whole (F.Failed (failure_view failure))
 
-module _ (truth : RunState → Check → Bool) (code : List Instruction) (whole : Option Flow) (place : ℕ) where
+-- at first
+pub gives_first : (truth : RunState → Check → Bool) (work : RunState → Check → ℕ) (code : List Instruction) (state : RunState) → Gives truth work code (jumps_from truth work code (length code) 0 false state) 0 false state max_work
+gives_first truth work code state = record {
+  turns = length code;
+  taken = 0;
+  enough = omega arith;
+  within = zero-add max_work;
+  is = none_after (jumps_from truth work code (length code) 0 false state);
+}
+
+module _ (truth : RunState → Check → Bool) (work : RunState → Check → ℕ) (code : List Instruction) (whole : Option Course) (place : ℕ) where
   -- the rest is what the turn leaves
-  rest_of : (m : ℕ) → length code ≤ place + suc m → (made : Turn) (flag : Bool) (state : RunState) → MovesOn place made → after_turn made (jumps_from truth code m) flag state ≡ whole → Leaves truth code whole made flag state
-  rest_of m enough (Next place') flag state forward e = (m, omega arith, e)
-  rest_of m enough Stopped flag state forward e = e
-  rest_of m enough (T.Failed failure) flag state forward e = e
+  rest_of : (m taken left : ℕ) → length code ≤ place + suc m → taken + left ≡ max_work → (made : Turn) (flag : Bool) (state : RunState) → MovesOn place made
+      → after_work taken (after_turn made (jumps_from truth work code m) flag state) ≡ whole → Leaves truth work code whole made flag state left
+  rest_of m taken left enough within (Next place') flag state forward e = record { turns = m; taken = taken; enough = omega (arith, enough, forward); within = within; is = e }
+  rest_of m taken left enough within Stopped flag state forward e = record { taken = taken; within = omega (arith, within); is = e }
+  rest_of m taken left enough within (T.Failed failure) flag state forward e = record { taken = taken; within = omega (arith, within); is = e }
 
-  -- one turn
-  one_turn : (instr : Instruction) (made : Turn) (flag flag' : Bool) (state state' : RunState) → Gives truth code whole place flag state → slice_get code place ≡ Some instr → ((next : Run) → turn truth next instr place flag state ≡ after_turn made next flag' state') → MovesOn place made → Leaves truth code whole made flag' state'
-  one_turn instr made flag flag' state state' (zero, enough, e) here turned forward = let within = slice_get_within code place instr here in absurd (omega arith)
-  one_turn instr made flag flag' state state' (suc m, enough, e) here turned forward =
-      rest_of m enough made flag' state' forward
-      (sym (turned (jumps_from truth code m))
-      ∙ sym (ap (λ o. at_place o (λ instr. turn truth (jumps_from truth code m) instr place flag state) state) here) ∙ e)
+  -- what the code gives here, where a turn is left
+  here_given : (m : ℕ) (instr : Instruction) (flag : Bool) (state : RunState) → slice_get code place ≡ Some instr
+      → jumps_from truth work code (suc m) place flag state ≡ after_work (instr_work work instr state) (turn truth (jumps_from truth work code m) instr place flag state)
+  here_given m instr flag state here = ap (λ o. at_place o (λ instr. paid_turn truth work (jumps_from truth work code m) instr place flag state) state) here
+
+  -- one turn, and its work
+  one_turn : (instr : Instruction) (made : Turn) (flag flag' : Bool) (state state' : RunState) (before left : ℕ) → Gives truth work code whole place flag state before → slice_get code place ≡ Some instr
+      → left + instr_work work instr state ≡ before → ((next : Run) → turn truth next instr place flag state ≡ after_turn made next flag' state') → MovesOn place made → Leaves truth work code whole made flag' state' left
+  one_turn instr made flag flag' state state' before left gives here paid turned forward = step gives.turns gives.enough gives.is
+    where
+      step : (turns : ℕ) → length code ≤ place + turns → after_work gives.taken (jumps_from truth work code turns place flag state) ≡ whole → Leaves truth work code whole made flag' state' left
+      step zero enough e = let within = slice_get_within code place instr here in absurd (omega (arith, enough, within))
+      step (suc m) enough e =
+          let next = jumps_from truth work code m in
+          let w = instr_work work instr state in
+          rest_of m (gives.taken + w) left enough (omega (arith, gives.within, paid)) made flag' state' forward
+          (ap (after_work (gives.taken + w)) (sym (turned next)) ∙ sym (both_after gives.taken w (turn truth next instr place flag state))
+          ∙ ap (after_work gives.taken) (sym (here_given m instr flag state here)) ∙ e)
+
+  -- an instruction whose work is more than is left
+  too_much : (instr : Instruction) (flag : Bool) (state : RunState) (before : ℕ) → Gives truth work code whole place flag state before → slice_get code place ≡ Some instr → IsForward code
+      → before < instr_work work instr state → outcome_of whole ≡ Some (Failed TooMuchWork)
+  too_much instr flag state before gives here forward more = step gives.turns gives.enough gives.is
+    where
+      step : (turns : ℕ) → length code ≤ place + turns → after_work gives.taken (jumps_from truth work code turns place flag state) ≡ whole → outcome_of whole ≡ Some (Failed TooMuchWork)
+      step zero enough e = let within = slice_get_within code place instr here in absurd (omega (arith, enough, within))
+      step (suc m) enough e =
+          let next = jumps_from truth work code m in
+          let w = instr_work work instr state in
+          let inner = turn_ends truth work code next place instr (forward place instr here) flag state (λ later flag state past. comes_to_an_end truth work code forward m later flag state (omega (arith, enough, past))) in
+          let all = gives.taken + (w + inner.0.work) in
+          let high : nat_lt max_work all ≡ true = lt-ltb max_work all (omega (arith, gives.within, more)) in
+          ap outcome_of (sym e ∙ ap (after_work gives.taken) (here_given m instr flag state here ∙ ap (after_work w) inner.1))
+          ∙ ap (λ b. Some (cond b (Failed TooMuchWork) (ended inner.0.flow))) high
 
   -- after the last place
-  pub at_end : (flag : Bool) (state : RunState) → Gives truth code whole place flag state → length code ≤ place → Some (Going state) ≡ whole
-  at_end flag state (zero, enough, e) end = sym (ap (λ o. at_place o (λ instr. None) state) (slice_get_past code place end)) ∙ e
-  at_end flag state (suc m, enough, e) end =
-      sym (ap (λ o. at_place o (λ instr. turn truth (jumps_from truth code m) instr place flag state) state) (slice_get_past code place end)) ∙ e
+  pub at_end : (flag : Bool) (state : RunState) (left : ℕ) → Gives truth work code whole place flag state left → length code ≤ place → IsOver whole (Going state)
+  at_end flag state left gives end = step gives.turns gives.is
+    where
+      step : (turns : ℕ) → after_work gives.taken (jumps_from truth work code turns place flag state) ≡ whole → IsOver whole (Going state)
+      step zero e = record {
+        taken = gives.taken;
+        within = omega (arith, gives.within);
+        is = ap (after_work gives.taken) (sym (ap (λ o. at_place o (λ instr. None) state) (slice_get_past code place end))) ∙ e;
+      }
+      step (suc m) e = record {
+        taken = gives.taken;
+        within = omega (arith, gives.within);
+        is = ap (after_work gives.taken) (sym (ap (λ o. at_place o (λ instr. paid_turn truth work (jumps_from truth work code m) instr place flag state) state) (slice_get_past code place end))) ∙ e;
+      }
 
--- a turn of the machine, with the clauses of what it calls
-pub machine_turn : (mail cached : MailSpec) (instrs : List Instr) (code : List Instruction) (whole : Option Flow) (place : ℕ) (instr : Instr) (made made' : Turn) (flag flag' : Bool) (state state' : RunState) → cached ≡ mail → map instr_view instrs ≡ code → IsForward code → place < length instrs → instr ≡ get_or instrs place instr → ((next : Run) → turn (truth_at cached) next (instr_view instr) place flag state ≡ after_turn made next flag' state') → ((len : ℕ) → LeadsForward place len (instr_view instr) → MovesOn place made) → made ≡ made' → Gives (truth_at mail) code whole place flag state → MovesOn place made' × Leaves (truth_at mail) code whole made' flag' state'
-machine_turn mail cached instrs code whole place instr made made' flag flag' state state' same seen forward within here turned moves is gives =
-    let at : slice_get code place ≡ Some (instr_view instr) =
-    ap (λ l. slice_get l place) (sym seen) ∙ slice_get-map instr_view instrs place ∙ ap (option_map instr_view) (slice_get_read instrs (length instrs) place instr refl within here) in
+-- the instruction at a place of the code
+at_the_place : (instrs : List Instr) (code : List Instruction) (place : ℕ) (instr : Instr) → map instr_view instrs ≡ code → place < length instrs → instr ≡ get_or instrs place instr → slice_get code place ≡ Some (instr_view instr)
+at_the_place instrs code place instr seen within here =
+    ap (λ l. slice_get l place) (sym seen) ∙ slice_get-map instr_view instrs place ∙ ap (option_map instr_view) (slice_get_read instrs (length instrs) place instr refl within here)
+
+-- a turn of the machine that was paid for, with the clauses of what it calls; paying changes nothing but what is left
+pub machine_turn : (mail cached paying : MailSpec) (instrs : List Instr) (code : List Instruction) (whole : Option Course) (place : ℕ) (instr : Instr) (made made' : Turn) (flag0 flag flag' : Bool) (state0 state state' : RunState) (before left left' : ℕ)
+    → cached ≡ mail → paying ≡ mail → flag ≡ flag0 → state ≡ state0 → left' ≡ left → map instr_view instrs ≡ code → IsForward code → place < length instrs → instr ≡ get_or instrs place instr
+    → left + instr_work (work_at paying) (instr_view instr) state0 ≡ before
+    → ((next : Run) → turn (truth_at cached) next (instr_view instr) place flag state ≡ after_turn made next flag' state')
+    → ((len : ℕ) → LeadsForward place len (instr_view instr) → MovesOn place made) → made ≡ made'
+    → Gives (truth_at mail) (work_at mail) code whole place flag0 state0 before → MovesOn place made' × Leaves (truth_at mail) (work_at mail) code whole made' flag' state' left'
+machine_turn mail cached paying instrs code whole place instr made made' flag0 flag flag' state0 state state' before left left' same pays same_flag same_state same_left seen forward within here paid turned moves is gives =
+    let truth = truth_at mail in
+    let work = work_at mail in
+    let at = at_the_place instrs code place instr seen within here in
     let on = moves (length code) (forward place (instr_view instr) at) in
-    let turned' : (next : Run) → turn (truth_at mail) next (instr_view instr) place flag state ≡ after_turn made next flag' state' =
+    let paid' : left + instr_work work (instr_view instr) state ≡ before =
+    ap (λ m. left + instr_work (work_at m) (instr_view instr) state) (sym pays) ∙ ap (λ s. left + instr_work (work_at paying) (instr_view instr) s) same_state ∙ paid in
+    let turned' : (next : Run) → turn truth next (instr_view instr) place flag state ≡ after_turn made next flag' state' =
     λ next. ap (λ m. turn (truth_at m) next (instr_view instr) place flag state) (sym same) ∙ turned next in
-    (subst (MovesOn place) is on, subst (λ t. Leaves (truth_at mail) code whole t flag' state') is (one_turn (truth_at mail) code whole place (instr_view instr) made flag flag' state state' gives at turned' on))
+    let gives' = subst (λ f. Gives truth work code whole place f state before) (sym same_flag) (subst (λ s. Gives truth work code whole place flag0 s before) (sym same_state) gives) in (
+      subst (MovesOn place) is on,
+      subst (λ n. Leaves truth work code whole made' flag' state' n) (sym same_left)
+          (subst (λ t. Leaves truth work code whole t flag' state' left) is (one_turn truth work code whole place (instr_view instr) made flag flag' state state' before left gives' at paid' turned' on)),
+    )
+
+-- one that can't be paid for
+pub machine_fails : (mail paying : MailSpec) (instrs : List Instr) (code : List Instruction) (whole : Option Course) (place : ℕ) (instr : Instr) (flag : Bool) (state : RunState) (before : ℕ)
+    → paying ≡ mail → map instr_view instrs ≡ code → IsForward code → place < length instrs → instr ≡ get_or instrs place instr
+    → before < instr_work (work_at paying) (instr_view instr) state → Gives (truth_at mail) (work_at mail) code whole place flag state before → outcome_of whole ≡ Some (Failed TooMuchWork)
+machine_fails mail paying instrs code whole place instr flag state before pays seen forward within here more gives =
+    too_much (truth_at mail) (work_at mail) code whole place (instr_view instr) flag state before gives (at_the_place instrs code place instr seen within here) forward
+    (subst (λ m. before < instr_work (work_at m) (instr_view instr) state) pays more)
 
 -- a place after all instructions
 pub after_all : (instrs : List Instr) (code : List Instruction) (place : ℕ) → map instr_view instrs ≡ code → length instrs ≤ place → length code ≤ place
 after_all instrs code place seen past = let long = length-map instrs instr_view in omega (arith, ap length seen)
 
+-- what a run that is over comes to
+pub over_is : (whole : Option Course) (flow : Flow) → IsOver whole flow → outcome_of whole ≡ Some (ended flow)
+over_is whole flow is =
+    let low : nat_lt max_work (is.taken + 0) ≡ false = le-ltb max_work (is.taken + 0) (omega (arith, is.within)) in
+    ap outcome_of (sym is.is) ∙ ap (λ b. Some (cond b (Failed TooMuchWork) (ended flow))) low
+
 -- the outcome of a run that is over
-pub over : (result : Result Outcome AllocError) (end : OutcomeSpec) (whole : Option Flow) → Some end ≡ outcome_of whole → IfOk result (λ done. outcome_view done ≡ end) → IfOk result (λ done. Some (outcome_view done) ≡ outcome_of whole)
-over (Ok done) end whole e h = ap Some h ∙ e
-over (Err error) end whole e h = h
+pub over_so : (result : Result Outcome AllocError) (end : OutcomeSpec) (whole : Option Course) → outcome_of whole ≡ Some end → IfOk result (λ done. outcome_view done ≡ end) → IfOk result (λ done. Some (outcome_view done) ≡ outcome_of whole)
+over_so (Ok done) end whole e h = ap Some h ∙ sym e
+over_so (Err error) end whole e h = h

@@ -7,10 +7,11 @@ use Rattle.sievesyntax.specs.Languages.{unflagged}
 use Rattle.sievesyntax.specs.Meaning.{holds, all_hold, some_holds, does, chooses, does_all, ended, outcome}
 use Rattle.sievesyntax.specs.Means.{MeansIn}
 use Rattle.sievesyntax.specs.RunState.{RunState, at_first, Flow, Going, Stopped, Failed, and_then}
+use Rattle.sievesyntax.specs.Work.{within_work}
 use Rattle.sievesyntax.specs.Tree.{TestTree, yes, no, looks, not_of, all_of, any_of, Tests, no_tests, test, CommandTree, require, choose, stop, act, Branches, no_branches, branch, Commands, no_commands, command}
 use Rattle.sievesyntax.proofs.LanguageLaws.{means_unflagged}
 use Rattle.sieveexec.specs.Mails.{MailSpec}
-use Rattle.sieveexec.specs.Outcomes.{outcome_at}
+use Rattle.sieveexec.specs.Outcomes.{outcome_at, work_of}
 use Rattle.sieveexec.specs.Truth.{truth_at, truth_by}
 
 pub same_without : (mail : MailSpec) (one other : List (List ℕ)) (check : Check) → IsUnflaggedCheck check → truth_by mail one check ≡ truth_by mail other check
@@ -70,8 +71,9 @@ module _ (P : Check → Type 0) (one other : RunState → Check → Bool) (agree
   same_outcome : (tree : Commands) → EachAsksIn P tree → outcome one tree ≡ outcome other tree
   same_outcome tree each = ap ended (same_commands tree each at_first)
 
-pub outcome_then : (mail : MailSpec) (text : List ℕ) (tree : Commands) → MeansIn unflagged text tree → outcome_at mail tree ≡ outcome_in unflagged (λ so_far. truth_by mail []) tree
+pub outcome_then : (mail : MailSpec) (text : List ℕ) (tree : Commands) → MeansIn unflagged text tree → outcome_at mail tree ≡ within_work (work_of mail tree) (outcome_in unflagged (λ so_far. truth_by mail []) tree)
 outcome_then mail text tree was =
     let means = means_unflagged text tree was in
-    same_outcome IsUnflaggedCheck (truth_at mail) (λ so_far. truth_by mail []) (λ so_far. same_without mail so_far.flags []) tree means.checks
-    ∙ means.same (λ so_far. truth_by mail [])
+    ap (within_work (work_of mail tree))
+    (same_outcome IsUnflaggedCheck (truth_at mail) (λ so_far. truth_by mail []) (λ so_far. same_without mail so_far.flags []) tree means.checks
+    ∙ means.same (λ so_far. truth_by mail []))

@@ -8,5 +8,6 @@ pub mod Holding
 pub mod Truth
 pub mod Indexes
 pub mod Joined
+pub mod Work
 pub mod Outcomes
 pub mod Runs

@@ -1,9 +1,17 @@
 -- What a script comes to on a mail.
+use Rattle.std.specs.Prelude.{ℕ}
+use Rattle.sievesyntax.specs.RunState.{at_first}
 use Rattle.sievesyntax.specs.Tree.{Commands}
-use Rattle.sievesyntax.specs.Meaning.{Outcome, outcome}
+use Rattle.sievesyntax.specs.Meaning.{Outcome}
+use Rattle.sievesyntax.specs.Work.{all_take, outcome_within}
 use Rattle.sieveexec.specs.Mails.{MailSpec}
 use Rattle.sieveexec.specs.Truth.{truth_at}
+use Rattle.sieveexec.specs.Work.{work_at}
 
--- the outcome of a script, where its tests have the truth that they have at the mail and at what the run has done by then
+-- the outcome of a script, where its tests have the truth and the work that they have at the mail and at what the run has done by then
 abbrev pub outcome_at : MailSpec → Commands → Outcome
-outcome_at mail tree = outcome (truth_at mail) tree
+outcome_at mail tree = outcome_within (truth_at mail) (work_at mail) tree
+
+-- the work that it takes
+abbrev pub work_of : MailSpec → Commands → ℕ
+work_of mail tree = all_take (truth_at mail) (work_at mail) tree at_first

@@ -4,13 +4,13 @@ use Rattle.sievesyntax.specs.RunState.{RunState as RunStateSpec, Failure as Fail
 use Rattle.sievesyntax.specs.RunState as F
 use Rattle.sievesyntax.specs.Meaning.{Outcome as OutcomeSpec}
 use Rattle.sievesyntax.specs.Meaning as M
-use Rattle.sievecode.specs.Jumps.{Run}
+use Rattle.sievecode.specs.Jumps.{Course, over, Run}
 use Rattle.sieveexec.specs.declared.machine.Turn.{Turn}
 use Rattle.sieveexec.specs.declared.machine.Turn.TheVariants.{Next, Stopped}
 use Rattle.sieveexec.specs.declared.machine.Turn.TheVariants as turn
 use Rattle.sieveexec.specs.declared.run_state.RunState.{RunState}
 use Rattle.sieveexec.specs.declared.outcome.Failure.{Failure}
-use Rattle.sieveexec.specs.declared.outcome.Failure.TheVariants.{TwoVacations, TooManyRedirects, TooManyMailboxes}
+use Rattle.sieveexec.specs.declared.outcome.Failure.TheVariants.{TwoVacations, TooManyRedirects, TooManyMailboxes, TooMuchWork}
 use Rattle.sieveexec.specs.declared.outcome.Outcome.{Outcome}
 use Rattle.sieveexec.specs.declared.outcome.Outcome.TheVariants.{Done, Failed}
 
@@ -23,6 +23,7 @@ abbrev pub failure_view : Failure → FailureSpec
 failure_view TwoVacations = F.TwoVacations
 failure_view TooManyRedirects = F.TooManyRedirects
 failure_view TooManyMailboxes = F.TooManyMailboxes
+failure_view TooMuchWork = F.TooMuchWork
 
 -- how a run stands after an action
 abbrev pub flow_of : Option Failure → RunStateSpec → Flow
@@ -35,10 +36,10 @@ outcome_view (Done filed sent reply) = M.Done (record { filed = filed; sent = se
 outcome_view (Failed failure) = M.Failed (failure_view failure)
 
 -- how a run goes on after a turn, where next is the run from a place on
-abbrev pub after_turn : Turn → Run → Bool → RunStateSpec → Option Flow
+abbrev pub after_turn : Turn → Run → Bool → RunStateSpec → Option Course
 after_turn (Next place) next flag state = next place flag state
-after_turn Stopped next flag state = Some (F.Stopped state)
-after_turn (turn.Failed failure) next flag state = Some (F.Failed (failure_view failure))
+after_turn Stopped next flag state = Some (over (F.Stopped state))
+after_turn (turn.Failed failure) next flag state = Some (over (F.Failed (failure_view failure)))
 
 -- a turn that doesn't end the run leads past this place
 abbrev pub MovesOn : ℕ → Turn → Type 0

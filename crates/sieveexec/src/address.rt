@@ -6,11 +6,13 @@ ghost use Rattle.addrparts.specs.Reading.{addrs};
 ghost use Rattle.sieveexec.specs.Counts.{has_part};
 ghost use Rattle.sieveexec.specs.Indexes.{is_address_key};
 ghost use Rattle.sieveexec.specs.Truth.{address_matches};
+ghost use Rattle.sieveexec.specs.Work.{IsWithin, sizes_of_addresses};
 
 use crate::field_cache::{FieldTest, FieldValues};
 use crate::joined_address::{JoinedAddress, push_joined};
 use crate::mail::Mail;
 use crate::matching::matches_some;
+use crate::sizes::Sizes;
 use addrparts::addresses;
 use mailhead::unfolded;
 use octets::{List, Octets};
@@ -37,8 +39,11 @@ const ADDRESS_FIELDS: [&[u8]; 14] = [
 
 impl FieldValues for List<JoinedAddress> {
     ghost use Rattle.sieveexec.specs.Indexes.{addresses_keyed};
+    ghost use Rattle.sieveexec.specs.Work.{sizes_of_addresses};
 
     ghost keyed = { addresses_keyed };
+
+    ghost sizes_of = { sizes_of_addresses };
 
     /// None where fields of the name have no addresses.
     fn read(
@@ -53,6 +58,10 @@ impl FieldValues for List<JoinedAddress> {
             Some(raws) => addresses_in(alloc, raws.as_slice()),
             None => Ok(List::new(alloc)),
         }
+    }
+
+    fn sizes(&self, most: u64) -> Option<Sizes> {
+        address_sizes(self.as_slice(), most)
     }
 }
 
@@ -99,6 +108,17 @@ fn addresses_in(alloc: Global, raws: &[&[u8]]) -> Result<List<JoinedAddress>, Al
         push_joined(alloc, &mut found, more.as_slice())?;
     }
     Ok(found)
+}
+
+/// The sizes of addresses as `:all` has them, or None where they have more octets than may be.
+fn address_sizes(found: &[JoinedAddress], most: u64) -> Option<Sizes>
+    ensures { IsWithin most (sizes_of_addresses found.now) result }
+{
+    let mut sizes = Sizes::NONE;
+    for one in found {
+        sizes = sizes.and_text(one.len(), most)?;
+    }
+    Some(sizes)
 }
 
 /// How many addresses have this part.

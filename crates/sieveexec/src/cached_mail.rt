@@ -1,6 +1,9 @@
 //! What the tests of a run look at.
-ghost use Rattle.std.specs.Prelude.{◌≡◌, ◌↔◌, ◌≤◌, ◌&&◌, All, IsTrue, IfOk, cond};
+ghost use Rattle.std.specs.Prelude.{◌≡◌, ◌↔◌, ◌≤◌, ◌+◌, ◌&&◌, All, IsTrue, IfOk, cond};
+ghost use Rattle.octets.specs.Ascii.{lowered};
 ghost use Rattle.sievesyntax.specs.Valid.{IsMailbox};
+ghost use Rattle.sieveexec.specs.Indexes.{raws_keyed};
+ghost use Rattle.sieveexec.specs.Work.{IsLeft, text_size, texts_size, header_sizes, address_sizes, envelope_sizes as envelope_sizes_of, first_size, short_sizes, keys_work, values_work, work_by};
 ghost use Rattle.sieveexec.specs.Counts.{is_counted, envelope_counted};
 ghost use Rattle.sieveexec.specs.Truth.{truth_by, is_beyond, header_holds, address_holds, envelope_holds, some_named_matches, envelope_matches};
 
@@ -11,9 +14,14 @@ use crate::flags::flag_holds;
 use crate::joined_address::JoinedAddress;
 use crate::mail::Mail;
 use crate::matching::{count_matches, is_count, matches_some};
+use crate::work::{
+    SHORT, envelope_sizes, spend, spend_flags, spend_keys, spend_text, spend_texts, spend_values,
+};
 use mailflags::Flags;
-use octets::{List, Octets, Texts};
-use sievesyntax::{Address, AddressPart, Bound, Check, EnvelopeTest, Header, Size, is_mailbox};
+use octets::{List, Octets, Texts, lowered};
+use sievesyntax::{
+    Address, AddressPart, Bound, Check, DateTest, EnvelopeTest, Header, Size, is_mailbox,
+};
 use std::alloc::{AllocError, Global};
 use std::marker::Model;
 
@@ -81,6 +89,78 @@ impl<'m, 'a> CachedMail<'m, 'a> {
         }
     }
 
+    /// What a test leaves of the work that may be taken, or None where it takes more (`specs/Work.antt`).
+    ///
+    /// The fields that the test looks at are read, where no test has asked for them yet: once a run, and linear in the message. No
+    /// value is compared. Linear in names and keys besides, and in the values of each name, up to the work that may be taken.
+    pub(crate) fn spend(
+        &mut self,
+        alloc: Global,
+        check: &Check,
+        flags: &Flags,
+        left: u64,
+    ) -> Result<Option<u64>, AllocError>
+        ensures left { IfOk result (IsLeft left (work_by self.old flags.now check.now)) }
+        ensures kept { self.new ≡ self.old }
+    {
+        match check {
+            Check::Size(_) => Ok(spend(left, 1)),
+            Check::Exists(names) => Ok(spend_texts(left, names.as_slice())),
+            Check::Header(header) => self.spend_header(alloc, header, left),
+            Check::Address(address) => self.spend_address(alloc, address, left),
+            Check::Envelope(test) => Ok(spend_envelope(self.mail, test, left)),
+            Check::MailboxExists(names) => Ok(spend_texts(left, names.as_slice())),
+            Check::Date(test) => spend_date(alloc, self.mail, test, left),
+            Check::CurrentDate(test) => Ok(spend_keys(
+                left,
+                test.matching,
+                SHORT,
+                test.keys.as_slice(),
+            )),
+            Check::HasFlag(test) => Ok(spend_flags(left, flags.names(), test.keys.as_slice())),
+        }
+    }
+
+    /// What `header` leaves.
+    fn spend_header(
+        &mut self,
+        alloc: Global,
+        header: &Header,
+        left: u64,
+    ) -> Result<Option<u64>, AllocError>
+        ensures left { IfOk result (IsLeft left (texts_size header.now.fields + values_work header.now.matching (header_sizes self.old header.now.fields) header.now.keys)) }
+        ensures kept { self.new ≡ self.old }
+    {
+        let names = header.fields.as_slice();
+        let Some(left) = spend_texts(left, names) else {
+            return Ok(None);
+        };
+        let Some(sizes) = self.texts.sizes(alloc, names, left)? else {
+            return Ok(None);
+        };
+        Ok(spend_values(left, header.matching, sizes, header.keys.as_slice()))
+    }
+
+    /// What `address` leaves.
+    fn spend_address(
+        &mut self,
+        alloc: Global,
+        address: &Address,
+        left: u64,
+    ) -> Result<Option<u64>, AllocError>
+        ensures left { IfOk result (IsLeft left (texts_size address.now.fields + values_work address.now.matching (address_sizes self.old address.now.fields) address.now.keys)) }
+        ensures kept { self.new ≡ self.old }
+    {
+        let names = address.fields.as_slice();
+        let Some(left) = spend_texts(left, names) else {
+            return Ok(None);
+        };
+        let Some(sizes) = self.addresses.sizes(alloc, names, left)? else {
+            return Ok(None);
+        };
+        Ok(spend_values(left, address.matching, sizes, address.keys.as_slice()))
+    }
+
     /// The mail's size, which is counted where it is asked for first.
     fn size(&mut self) -> u64
         ensures size { result ≡ self.old.size }
@@ -129,6 +209,39 @@ impl<'m, 'a> CachedMail<'m, 'a> {
             count,
         ))
     }
+}
+
+/// What `envelope` leaves.
+fn spend_envelope(mail: &Mail<'_>, test: &EnvelopeTest, left: u64) -> Option<u64>
+    ensures { IsLeft left (values_work test.now.matching (envelope_sizes_of mail.now test.now.parts) test.now.keys) result }
+{
+    let sizes = envelope_sizes(mail, test.parts, left)?;
+    spend_values(left, test.matching, sizes, test.keys.as_slice())
+}
+
+/// What `date` leaves.
+fn spend_date(
+    alloc: Global,
+    mail: &Mail<'_>,
+    test: &DateTest,
+    left: u64,
+) -> Result<Option<u64>, AllocError>
+    ensures { IfOk result (IsLeft left (text_size test.now.field + first_size (raws_keyed mail.now.fields (lowered test.now.field)) + keys_work test.now.matching short_sizes test.now.keys)) }
+{
+    let key = lowered(alloc, test.field.as_slice())?;
+    Ok(spend_first(mail, test, &key, left))
+}
+
+/// The same of the field with this name in lower case.
+fn spend_first(mail: &Mail<'_>, test: &DateTest, key: &Octets, left: u64) -> Option<u64>
+    ensures { IsLeft left (text_size test.now.field + first_size (raws_keyed mail.now.fields key.now) + keys_work test.now.matching short_sizes test.now.keys) result }
+{
+    let named = spend_text(left, test.field.as_slice())?;
+    let read = match mail.first_raw(key) {
+        Some(raw) => spend_text(named, raw)?,
+        None => named,
+    };
+    spend_keys(read, test.matching, SHORT, test.keys.as_slice())
 }
 
 /// Whether a size is over or under a limit (RFC 5228, 5.9).

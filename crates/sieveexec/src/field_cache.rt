@@ -2,8 +2,10 @@
 ghost use Rattle.std.specs.Prelude.{◌≡◌, IfOk, sum_by};
 ghost use Rattle.std.specs.List.{list_any};
 ghost use Rattle.octets.specs.Ascii.{lowered};
+ghost use Rattle.sieveexec.specs.Work.{IsWithin, named_sizes};
 
 use crate::mail::Mail;
+use crate::sizes::Sizes;
 use octets::Octets;
 use std::alloc::{AllocError, Global};
 use std::collections::BTreeMap;
@@ -13,13 +15,21 @@ use std::mem;
 /// What is read of the fields of a name.
 pub trait FieldValues: Sized + Drop {
     ghost use Rattle.std.specs.Prelude.{◌≡◌, ℕ, List, IfOk};
+    ghost use Rattle.sieveexec.specs.declared.sizes.Sizes.{Sizes};
     ghost use Rattle.sieveexec.specs.Mails.{MailSpec};
+    ghost use Rattle.sieveexec.specs.Work.{IsWithin};
 
     ghost keyed: { MailSpec → List ℕ → Self };
+
+    ghost sizes_of: { Self → Sizes };
 
     /// Reads the fields of a name in lower case.
     fn read(alloc: Global, mail: &Mail<'_>, key: &Octets) -> Result<Self, AllocError>
         ensures { IfOk result (λ values. values ≡ keyed mail.now key.now) };
+
+    /// How large the values are, or None where they have more octets than may be.
+    fn sizes(&self, most: u64) -> Option<Sizes>
+        ensures { IsWithin most (sizes_of self.now) result };
 }
 
 /// A test that looks at what is read of fields.
@@ -104,6 +114,51 @@ impl<'m, 'a, V: FieldValues> FieldCache<'m, 'a, V> {
             }
         }
         Ok(false)
+    }
+
+    /// How large the values of the fields of these names are, or None where they have more octets than may be.
+    pub(crate) fn sizes(
+        &mut self,
+        alloc: Global,
+        names: &[Octets],
+        most: u64,
+    ) -> Result<Option<Sizes>, AllocError>
+        ensures sizes { IfOk result (IsWithin most (named_sizes (λ name. V.sizes_of (V.keyed self.old (lowered name))) names.now)) }
+        ensures kept { self.new ≡ self.old }
+    {
+        let mut sizes = Sizes::NONE;
+        for name in names {
+            let Some(here) = self.sizes_at(alloc, name.as_slice(), most)? else {
+                return Ok(None);
+            };
+            let Some(both) = sizes.and(here, most) else {
+                return Ok(None);
+            };
+            sizes = both;
+        }
+        Ok(Some(sizes))
+    }
+
+    /// How large the values of the fields of a name are, whose ASCII case is ignored.
+    fn sizes_at(
+        &mut self,
+        alloc: Global,
+        name: &[u8],
+        most: u64,
+    ) -> Result<Option<Sizes>, AllocError>
+        ensures sizes { IfOk result (IsWithin most (V.sizes_of (V.keyed self.old (lowered name.now)))) }
+        ensures kept { self.new ≡ self.old }
+    {
+        let key = self.key_of(alloc, name)?;
+        if let Some(values) = self.known.get(&key) {
+            let sizes = values.sizes(most);
+            self.room = key.into_vec();
+            return Ok(sizes);
+        }
+        let values = V::read(alloc, self.mail, &key)?;
+        let sizes = values.sizes(most);
+        self.known.insert(key, values)?;
+        Ok(sizes)
     }
 
     /// How many values a test counts in the fields of all its names.

@@ -8,6 +8,7 @@ ghost use Rattle.sieveexec.specs.Truth.{text_matches};
 use crate::field_cache::{FieldTest, FieldValues};
 use crate::mail::Mail;
 use crate::matching::matches_some;
+use crate::sizes::{Sizes, sizes_in};
 use encwords::decoded;
 use mailhead::unfolded;
 use octets::{Octets, Texts, trim_blanks};
@@ -16,14 +17,21 @@ use std::alloc::{AllocError, Global};
 
 impl FieldValues for Texts {
     ghost use Rattle.sieveexec.specs.Indexes.{texts_keyed};
+    ghost use Rattle.sieveexec.specs.Work.{sizes_of};
 
     ghost keyed = { texts_keyed };
+
+    ghost sizes_of = { sizes_of };
 
     fn read(alloc: Global, mail: &Mail<'_>, key: &Octets) -> Result<Texts, AllocError> {
         match mail.raws(key) {
             Some(raws) => texts_in(alloc, raws.as_slice()),
             None => Ok(Texts::new(alloc)),
         }
+    }
+
+    fn sizes(&self, most: u64) -> Option<Sizes> {
+        sizes_in(self.as_slice(), most)
     }
 }
 

@@ -1,5 +1,6 @@
 //! Addresses that are written out once.
-ghost use Rattle.std.specs.Prelude.{◌≡◌, ◌++◌, None, Some, MatchOption, IfOk, OnOk};
+ghost use Rattle.std.specs.Prelude.{◌≡◌, ◌++◌, length, None, Some, MatchOption, IfOk, OnOk};
+ghost use Rattle.addrparts.specs.Spelling.{all_of};
 ghost use Rattle.sieveexec.specs.Parts.{part_of};
 
 use crate::local_part::{detail_in, user_in};
@@ -38,6 +39,13 @@ impl JoinedAddress {
             all: address.all(alloc)?,
             at: address.local.len(),
         })
+    }
+
+    /// How many octets it has as `:all` compares it.
+    pub(crate) fn len(&self) -> usize
+        ensures { result ≡ length (all_of self.now) }
+    {
+        self.all.len()
     }
 
     /// A part of the address (RFC 5228, 2.7.4; RFC 5233, 4); None for the detail of a local part without `+`.

@@ -9,11 +9,12 @@ ghost use Rattle.sievesyntax.specs.Languages.{unflagged};
 ghost use Rattle.sievesyntax.specs.Means.{MeansIn};
 ghost use Rattle.sievesyntax.specs.RunState.{RunState};
 ghost use Rattle.sievesyntax.specs.Tree.{Commands};
+ghost use Rattle.sievesyntax.specs.Work.{within_work};
 ghost use Rattle.sievesyntax.specs.declared.tree.checks.Check.{Check};
 ghost use Rattle.sieveexec.specs.declared.envelope.Envelope.{Envelope};
 ghost use Rattle.sieveexec.specs.declared.when.When.{When};
 ghost use Rattle.sieveexec.specs.Mails.{MailSpec, mail_of, values_of, with_size};
-ghost use Rattle.sieveexec.specs.Outcomes.{outcome_at};
+ghost use Rattle.sieveexec.specs.Outcomes.{outcome_at, work_of};
 ghost use Rattle.sieveexec.specs.Parts.{IsUser, IsDetail, user_of, detail_of, Cuts, local_of, domain_of};
 ghost use Rattle.sieveexec.specs.Holding.{TestHolds};
 ghost use Rattle.sieveexec.specs.Truth.{truth_at, truth_by};
@@ -28,10 +29,11 @@ pub fn truth_without_flags()
     ensures { (mail : MailSpec) (one other : List (List ℕ)) (check : Check) → IsUnflaggedCheck check → truth_by mail one check ≡ truth_by mail other check }
 {}
 
-/// So a text that meant a tree in that language comes on every mail to what it came to then, when tests asked the mail alone.
+/// So a text that meant a tree in that language comes on every mail to what it came to then, when tests asked the mail alone, but for
+/// the limit of work.
 pub fn outcome_without_flags()
     ensures { (mail : MailSpec) (text : List ℕ) (tree : Commands) → MeansIn unflagged text tree
-        → outcome_at mail tree ≡ outcome_in unflagged (λ so_far. truth_by mail []) tree }
+        → outcome_at mail tree ≡ within_work (work_of mail tree) (outcome_in unflagged (λ so_far. truth_by mail []) tree) }
 {}
 
 /// What a script comes to on a message depends on the message's fields and its size alone.

@@ -20,7 +20,9 @@ mod matching;
 mod outcome;
 mod raw_values;
 mod run_state;
+mod sizes;
 mod when;
+mod work;
 
 pub use cached_mail::CachedMail;
 pub use envelope::{Envelope, domain_in, local_in};

@@ -1,16 +1,18 @@
 //! The run of flat code.
 ghost use Rattle.std.specs.Prelude.{◌≡◌, ℕ, ◌<◌, ◌+◌, ◌^◌, Option, Some, length, IfOk, OnOk};
 ghost use Rattle.sieveexec.specs.Truth.{truth_at};
+ghost use Rattle.sieveexec.specs.Work.{IsPaid, work_at};
 ghost use Rattle.sieveexec.specs.Runs.{run_state_of, outcome_view, after_turn, MovesOn};
 ghost use Rattle.sievesyntax.specs.RunState.{Going};
 ghost use Rattle.sievesyntax.specs.Meaning.{ended};
 ghost use Rattle.sievecode.specs.Instructions.{instr_view};
-ghost use Rattle.sievecode.specs.Jumps.{LeadsForward, Run, jumps, turn as turn_of};
+ghost use Rattle.sievecode.specs.Jumps.{LeadsForward, Run, instr_work, jumps, turn as turn_of};
 
 use crate::cached_mail::CachedMail;
 use crate::mail::Mail;
 use crate::outcome::{Failure, Outcome};
 use crate::run_state::RunState;
+use crate::work::MAX_WORK;
 use sievecode::{Code, Instr};
 use std::alloc::{AllocError, Global};
 
@@ -30,28 +32,37 @@ pub struct Machine<'m, 'a> {
     cached: CachedMail<'m, 'a>,
     flag: bool,
     state: RunState,
+    /// How much work the tests to come may take.
+    left: u64,
 }
 
 /// Runs the code of a script on a mail (RFC 5228, 2.10 and 3).
 ///
 /// It makes at most as many turns as the code is long. A field's values are looked up and decoded once for each
-/// name, however many tests ask.
+/// name, however many tests ask. The work of a test is known before its values are compared; where the tests that are asked take more
+/// than [`MAX_WORK`] together, the run fails, and the test that passes it isn't asked.
 ///
 /// # Errors
 ///
 /// [`AllocError`] where memory was refused.
 pub fn run(alloc: Global, code: &Code<'_>, mail: &Mail<'_>) -> Result<Outcome, AllocError>
-    ensures { IfOk result (λ done. Some (outcome_view done) ≡ jumps (truth_at mail.now) code.now (length code.now)) }
+    ensures { IfOk result (λ done. Some (outcome_view done) ≡ jumps (truth_at mail.now) (work_at mail.now) code.now (length code.now)) }
 {
     let instrs = code.instrs();
     let mut machine = Machine {
         cached: CachedMail::new(alloc, mail),
         flag: false,
         state: RunState::new(alloc),
+        left: MAX_WORK,
     };
     let mut place = 0;
     while place < instrs.len() {
-        match machine.turn(alloc, &instrs[place], place)? {
+        let instr = &instrs[place];
+        let enough = machine.pay(alloc, instr)?;
+        if !enough {
+            return Ok(Outcome::Failed(Failure::TooMuchWork));
+        }
+        match machine.turn(alloc, instr, place)? {
             Turn::Next(next) => place = next,
             Turn::Stopped => return machine.finish(alloc),
             Turn::Failed(failure) => return Ok(Outcome::Failed(failure)),
@@ -68,6 +79,25 @@ impl<'m, 'a> Machine<'m, 'a> {
         self.state.finish(alloc)
     }
 
+    /// Takes the work of an instruction from what is left, and says whether there was enough.
+    fn pay(&mut self, alloc: Global, instr: &Instr<'_>) -> Result<bool, AllocError>
+        ensures paid { IfOk result (λ enough. IsPaid enough self.old.left (instr_work (work_at self.old.cached) (instr_view instr.now) (run_state_of self.old.state)) self.new.left) }
+        ensures cached { OnOk result (self.new.cached ≡ self.old.cached) }
+        ensures flag { OnOk result (self.new.flag ≡ self.old.flag) }
+        ensures state { OnOk result (self.new.state ≡ self.old.state) }
+    {
+        if let Instr::Look(check) = instr {
+            match self
+                .cached
+                .spend(alloc, check, &self.state.flags, self.left)?
+            {
+                Some(left) => self.left = left,
+                None => return Ok(false),
+            }
+        }
+        Ok(true)
+    }
+
     /// One turn: the instruction at this place is carried out.
     fn turn(&mut self, alloc: Global, instr: &Instr<'_>, place: usize) -> Result<Turn, AllocError>
         requires { place + 1 < 2 ^ 64 }
@@ -76,6 +106,7 @@ impl<'m, 'a> Machine<'m, 'a> {
             ≡ after_turn turn next self.new.flag (run_state_of self.new.state)) }
         ensures forward { IfOk result (λ turn. (len : ℕ) → LeadsForward place len (instr_view instr.now) → MovesOn place turn) }
         ensures kept { OnOk result (self.new.cached ≡ self.old.cached) }
+        ensures left { OnOk result (self.new.left ≡ self.old.left) }
     {
         let next = place + 1;
         match instr {

@@ -30,4 +30,6 @@ pub enum Failure {
     TooManyRedirects,
     /// The message was to go into a hundred and first mailbox, be it by the implicit keep.
     TooManyMailboxes,
+    /// The tests that were asked take more work than a run may.
+    TooMuchWork,
 }

@@ -24,3 +24,4 @@ pub mod LanguageLemmas
 pub mod LanguageLaws
 pub mod LanguageExamples
 pub mod FlagExamples
+mod WorkExamples

@@ -17,6 +17,7 @@ pub mod Tree
 pub mod Valid
 pub mod View
 pub mod Meaning
+pub mod Work
 pub mod Languages
 pub mod Means
 pub mod Trace

@@ -26,11 +26,12 @@ abbrev pub at_first : RunState
 at_first = record { filed = []; flags = []; sent = []; reply = None; cancelled = false }
 
 -- why a run fails (RFC 5228, 2.10.6): a second `vacation` is run (RFC 5230, 4.7), or the message would be
--- sent to more than 16 addresses, or filed into more than 100 mailboxes
+-- sent to more than 16 addresses, or filed into more than 100 mailboxes, or its tests take more work than a run may
 pub data Failure : Type 0 where
   TwoVacations : Failure
   TooManyRedirects : Failure
   TooManyMailboxes : Failure
+  TooMuchWork : Failure
 
 -- how a run stands: it goes on, `stop` was run, or it failed
 pub data Flow : Type 0 where

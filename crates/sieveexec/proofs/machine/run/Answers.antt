@@ -1,41 +1,58 @@
-use Rattle.std.proofs.Common.{◌<◌, false, length, ap, ◌∙◌, arith}
+use Rattle.std.proofs.Common.{◌≡◌, ◌+◌, ◌<◌, Bool, true, false, length, sym, ap, subst, ◌∙◌, arith}
+use Rattle.sievesyntax.specs.RunState.{at_first}
+use Rattle.sievesyntax.specs.Work.{max_work}
 use Rattle.sievecode.specs.Jumps.{jumps_from, outcome_of}
 use Rattle.sieveexec.specs.Truth.{truth_at}
-use Rattle.sieveexec.proofs.MachineLemmas.{machine_turn, at_end, after_all, over}
+use Rattle.sieveexec.specs.Work.{IsPaid, work_at}
+use Rattle.sieveexec.specs.Runs.{run_state_of}
+use Rattle.sieveexec.proofs.MachineLemmas.{Gives, gives_first, machine_turn, machine_fails, at_end, after_all, over_is, over_so}
 use Rattle.sieveexec.proofs.machine.run.Goals as goal
 
 pub loop-place-init : goal.loop-place-init
-loop-place-init c = record {
-  cached = c.new.ensures;
-  gives = (length c.args.code.now, omega arith, ap (jumps_from (truth_at c.args.mail.now) c.args.code.now (length c.args.code.now) 0 false) c.new-2.ensures);
-}
+loop-place-init c =
+    let truth = truth_at c.args.mail.now in
+    let work = work_at c.args.mail.now in
+    let code = c.args.code.now in
+    record {
+      cached = c.new.ensures;
+      gives = subst (λ s. Gives truth work code (jumps_from truth work code (length code) 0 false at_first) 0 false s max_work) (sym c.new-2.ensures) (gives_first truth work code at_first);
+    }
 
 pub loop-place-smaller : goal.loop-place-smaller
 loop-place-smaller c =
-    let turn = machine_turn _ _ _ _ _ _ _ _ _ _ _ _ _ c.loop-place.invariant.cached c.instrs-instrs.ensures.instrs c.instrs-instrs.ensures.forward c.loop-place-test.true c.index-instrs-place.is c.in_ok-next.ensures.turn c.in_ok-next.ensures.forward c.in-Next.is c.loop-place.invariant.gives in
+    let paid = rw c.if-not-enough.false at c.in_ok-enough.ensures.paid in
+    let turn = machine_turn _ _ _ _ _ _ _ _ _ _ _ _ _ _ _ _ _ _ _ (c.in_ok-enough.ensures.cached ∙ c.loop-place.invariant.cached) c.loop-place.invariant.cached c.in_ok-enough.ensures.flag (ap run_state_of c.in_ok-enough.ensures.state) c.in_ok-next.ensures.left c.instrs-instrs.ensures.instrs c.instrs-instrs.ensures.forward c.loop-place-test.true c.index-instrs-place.is paid c.in_ok-next.ensures.turn c.in_ok-next.ensures.forward c.in-Next.is c.loop-place.invariant.gives in
     let within = c.loop-place-test.true in
     let after : c.loop-place.place < c.in-Next.next = turn.0 in
     omega arith
 
 pub loop-place-preserved : goal.loop-place-preserved
 loop-place-preserved c =
-    let turn = machine_turn _ _ _ _ _ _ _ _ _ _ _ _ _ c.loop-place.invariant.cached c.instrs-instrs.ensures.instrs c.instrs-instrs.ensures.forward c.loop-place-test.true c.index-instrs-place.is c.in_ok-next.ensures.turn c.in_ok-next.ensures.forward c.in-Next.is c.loop-place.invariant.gives in
+    let paid = rw c.if-not-enough.false at c.in_ok-enough.ensures.paid in
+    let turn = machine_turn _ _ _ _ _ _ _ _ _ _ _ _ _ _ _ _ _ _ _ (c.in_ok-enough.ensures.cached ∙ c.loop-place.invariant.cached) c.loop-place.invariant.cached c.in_ok-enough.ensures.flag (ap run_state_of c.in_ok-enough.ensures.state) c.in_ok-next.ensures.left c.instrs-instrs.ensures.instrs c.instrs-instrs.ensures.forward c.loop-place-test.true c.index-instrs-place.is paid c.in_ok-next.ensures.turn c.in_ok-next.ensures.forward c.in-Next.is c.loop-place.invariant.gives in
     record {
-      cached = c.in_ok-next.ensures.kept ∙ c.loop-place.invariant.cached;
+      cached = c.in_ok-next.ensures.kept ∙ (c.in_ok-enough.ensures.cached ∙ c.loop-place.invariant.cached);
       gives = turn.1;
     }
 
 pub returns-in-Stopped : goal.returns-in-Stopped
 returns-in-Stopped c =
-    let turn = machine_turn _ _ _ _ _ _ _ _ _ _ _ _ _ c.loop-place.invariant.cached c.instrs-instrs.ensures.instrs c.instrs-instrs.ensures.forward c.loop-place-test.true c.index-instrs-place.is c.in_ok-next.ensures.turn c.in_ok-next.ensures.forward c.in-Stopped.is c.loop-place.invariant.gives in
-    over _ _ _ (ap outcome_of turn.1) c.finish.ensures
+    let paid = rw c.if-not-enough.false at c.in_ok-enough.ensures.paid in
+    let turn = machine_turn _ _ _ _ _ _ _ _ _ _ _ _ _ _ _ _ _ _ _ (c.in_ok-enough.ensures.cached ∙ c.loop-place.invariant.cached) c.loop-place.invariant.cached c.in_ok-enough.ensures.flag (ap run_state_of c.in_ok-enough.ensures.state) c.in_ok-next.ensures.left c.instrs-instrs.ensures.instrs c.instrs-instrs.ensures.forward c.loop-place-test.true c.index-instrs-place.is paid c.in_ok-next.ensures.turn c.in_ok-next.ensures.forward c.in-Stopped.is c.loop-place.invariant.gives in
+    over_so _ _ _ (over_is _ _ turn.1) c.finish.ensures
 
 pub returns-in-Failed : goal.returns-in-Failed
 returns-in-Failed c =
-    let turn = machine_turn _ _ _ _ _ _ _ _ _ _ _ _ _ c.loop-place.invariant.cached c.instrs-instrs.ensures.instrs c.instrs-instrs.ensures.forward c.loop-place-test.true c.index-instrs-place.is c.in_ok-next.ensures.turn c.in_ok-next.ensures.forward c.in-Failed.is c.loop-place.invariant.gives in
-    ap outcome_of turn.1
+    let paid = rw c.if-not-enough.false at c.in_ok-enough.ensures.paid in
+    let turn = machine_turn _ _ _ _ _ _ _ _ _ _ _ _ _ _ _ _ _ _ _ (c.in_ok-enough.ensures.cached ∙ c.loop-place.invariant.cached) c.loop-place.invariant.cached c.in_ok-enough.ensures.flag (ap run_state_of c.in_ok-enough.ensures.state) c.in_ok-next.ensures.left c.instrs-instrs.ensures.instrs c.instrs-instrs.ensures.forward c.loop-place-test.true c.index-instrs-place.is paid c.in_ok-next.ensures.turn c.in_ok-next.ensures.forward c.in-Failed.is c.loop-place.invariant.gives in
+    sym (over_is _ _ turn.1)
+
+pub returns-then-not-enough : goal.returns-then-not-enough
+returns-then-not-enough c =
+    let more = rw c.if-not-enough.true at c.in_ok-enough.ensures.paid in
+    sym (machine_fails _ _ _ _ _ _ _ _ _ _ c.loop-place.invariant.cached c.instrs-instrs.ensures.instrs c.instrs-instrs.ensures.forward c.loop-place-test.true c.index-instrs-place.is more c.loop-place.invariant.gives)
 
 pub returns : goal.returns
 returns c =
     let past = after_all c.instrs-instrs.result.now _ _ c.instrs-instrs.ensures.instrs c.loop-place-test.false in
-    over _ _ _ (ap outcome_of (at_end _ _ _ _ _ _ c.loop-place.invariant.gives past)) c.finish-2.ensures
+    over_so _ _ _ (over_is _ _ (at_end _ _ _ _ _ _ _ _ c.loop-place.invariant.gives past)) c.finish-2.ensures

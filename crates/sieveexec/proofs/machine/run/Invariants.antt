@@ -1,8 +1,9 @@
--- What is left to run gives what the whole code gives.
+-- What is left to run gives what the whole code gives, behind the work that was taken.
 use Rattle.std.proofs.Common.{◌≡◌, ◌-◌, false, length}
 use Rattle.sievesyntax.specs.RunState.{at_first}
 use Rattle.sievecode.specs.Jumps.{jumps_from}
 use Rattle.sieveexec.specs.Truth.{truth_at}
+use Rattle.sieveexec.specs.Work.{work_at}
 use Rattle.sieveexec.specs.Runs.{run_state_of}
 use Rattle.sieveexec.proofs.MachineLemmas.{Gives}
 use Rattle.sieveexec.proofs.machine.run.Given as goal
@@ -10,7 +11,7 @@ use Rattle.sieveexec.proofs.machine.run.Given as goal
 abbrev pub invariant-loop-place : goal.invariant-loop-place
 invariant-loop-place l = record {
   cached : l.machine.cached ≡ l.mail;
-  gives : Gives (truth_at l.mail) l.code (jumps_from (truth_at l.mail) l.code (length l.code) 0 false at_first) l.place l.machine.flag (run_state_of l.machine.state);
+  gives : Gives (truth_at l.mail) (work_at l.mail) l.code (jumps_from (truth_at l.mail) (work_at l.mail) l.code (length l.code) 0 false at_first) l.place l.machine.flag (run_state_of l.machine.state) l.machine.left;
 }
 
 abbrev pub decreases-loop-place : goal.decreases-loop-place

@@ -1,0 +1,11 @@
+-- The sizes of the texts so far, which have no more octets than may be.
+use Rattle.std.proofs.Common.{◌≡◌, ◌≤◌, take}
+use Rattle.sieveexec.specs.Work.{sizes_of}
+use Rattle.sieveexec.proofs.sizes.sizes_in.Given as goal
+
+abbrev pub invariant-loop-text : goal.invariant-loop-text
+invariant-loop-text l = record {
+  sizes : l.sizes ≡ sizes_of (take l.text-index l.texts);
+  room : l.sizes.octets ≤ l.most;
+  few : l.sizes.count ≤ l.sizes.octets;
+}

@@ -1,0 +1,130 @@
+-- The work of a test: about how many octets it looks at and compares. It hangs on the sizes of its names and keys and of the values that it
+-- looks at, and so it is known before they are compared.
+use Rattle.std.specs.Prelude.{◌≡◌, ◌==◌, ℕ, ◌+◌, ◌*◌, ◌<◌, ◌≤◌, Bool, true, false, cond, length, List, [], ◌∷◌, Option, Some, None, sum_by}
+use Rattle.std.specs.List.{list_any}
+use Rattle.octets.specs.Ascii.{lowered}
+use Rattle.addrparts.specs.declared.address.Addr.{Addr}
+use Rattle.addrparts.specs.Spelling.{all_of}
+use Rattle.sievesyntax.specs.declared.tree.checks.EnvelopeParts.{EnvelopeParts}
+use Rattle.sievesyntax.specs.declared.tree.checks.Matching.{Matching}
+use Rattle.sievesyntax.specs.declared.tree.checks.Matching.TheVariants.{Matches}
+use Rattle.sievesyntax.specs.declared.tree.checks.Check.{Check}
+use Rattle.sievesyntax.specs.declared.tree.checks.Check.TheVariants.{Size, Exists, Header, Address, Envelope, MailboxExists, Date, CurrentDate, HasFlag}
+use Rattle.sievesyntax.specs.RunState.{RunState}
+use Rattle.sieveexec.specs.declared.sizes.Sizes.{Sizes}
+use Rattle.sieveexec.specs.Counts.{is_count}
+use Rattle.sieveexec.specs.Indexes.{raws_keyed}
+use Rattle.sieveexec.specs.Mails.{MailSpec, texts_of, addresses_of}
+
+-- the size of a text: its octets, and four for itself, since short texts take their time too
+abbrev pub text_size : List ℕ → ℕ
+text_size text = length text + 4
+
+abbrev pub texts_size : List (List ℕ) → ℕ
+texts_size texts = sum_by text_size texts
+
+-- how large values are, and how many
+abbrev pub sizes_of : List (List ℕ) → Sizes
+sizes_of values = record { octets = texts_size values; count = length values }
+
+-- of no values, and of some and others
+abbrev pub no_sizes : Sizes
+no_sizes = record { octets = 0; count = 0 }
+
+abbrev pub sizes_and : Sizes → Sizes → Sizes
+sizes_and one other = record { octets = one.octets + other.octets; count = one.count + other.count }
+
+-- ---- keys
+
+-- `?`
+abbrev pub is_question : ℕ → Bool
+is_question octet = octet == 63
+
+-- a pattern with a `?` may be tried at each octet of a value; any other key, and any other pattern, is compared in one pass over both
+abbrev pub is_tried : Matching → List ℕ → Bool
+is_tried Matches key = list_any is_question key
+is_tried _ key = false
+
+-- the work of a key that may be tried at each octet of values: a pair of octets counts eight times
+abbrev pub tried_work : ℕ → List ℕ → ℕ
+tried_work octets key = 8 * (octets * text_size key)
+
+-- the work of a key with all values together
+abbrev pub key_work : Matching → Sizes → List ℕ → ℕ
+key_work matching sizes key = cond (is_tried matching key) (tried_work sizes.octets key) (sizes.octets + sizes.count * text_size key)
+
+abbrev pub keys_work : Matching → Sizes → List (List ℕ) → ℕ
+keys_work matching sizes keys = sum_by (key_work matching sizes) keys
+
+-- one text of 40 octets: no number of values and no part of a date is longer
+abbrev pub short_sizes : Sizes
+short_sizes = record { octets = 44; count = 1 }
+
+-- what is compared: with `:count` a number
+abbrev pub compared : Matching → Sizes → Sizes
+compared matching sizes = cond (is_count matching) short_sizes sizes
+
+-- the work of values and keys: each value is looked at, and then compared with each key
+abbrev pub values_work : Matching → Sizes → List (List ℕ) → ℕ
+values_work matching sizes keys = sizes.octets + keys_work matching (compared matching sizes) keys
+
+-- ---- values
+
+-- those of the fields of these names
+abbrev pub named_sizes : (List ℕ → Sizes) → List (List ℕ) → Sizes
+named_sizes sizes names = record { octets = sum_by (λ name. (sizes name).octets) names; count = sum_by (λ name. (sizes name).count) names }
+
+abbrev pub header_sizes : MailSpec → List (List ℕ) → Sizes
+header_sizes mail names = named_sizes (λ name. sizes_of (texts_of mail name)) names
+
+-- addresses as `:all` has them
+abbrev pub sizes_of_addresses : List Addr → Sizes
+sizes_of_addresses found = record { octets = sum_by (λ one. text_size (all_of one)) found; count = length found }
+
+abbrev pub address_sizes : MailSpec → List (List ℕ) → Sizes
+address_sizes mail names = named_sizes (λ name. sizes_of_addresses (addresses_of mail name)) names
+
+-- those of the envelope that a test names
+abbrev pub one_sizes : Bool → List ℕ → Sizes
+one_sizes asked address = cond asked (record { octets = text_size address; count = 1 }) no_sizes
+
+abbrev pub envelope_sizes : MailSpec → EnvelopeParts → Sizes
+envelope_sizes mail parts = sizes_and (one_sizes parts.from mail.from) (one_sizes parts.to mail.to)
+
+-- the value that a date is read from: the first one, as it stands in the message
+abbrev pub first_size : List (List ℕ) → ℕ
+first_size [] = 0
+first_size (raw ∷ more) = text_size raw
+
+-- ---- tests
+
+-- the work of a test that looks at the message, its envelope or the flags of the run. A key of `hasflag` may have a word at each octet
+abbrev pub work_by : MailSpec → (flags : List (List ℕ)) → Check → ℕ
+work_by mail flags (Size size) = 1
+work_by mail flags (Exists names) = texts_size names
+work_by mail flags (Header header) = texts_size header.fields + values_work header.matching (header_sizes mail header.fields) header.keys
+work_by mail flags (Address address) = texts_size address.fields + values_work address.matching (address_sizes mail address.fields) address.keys
+work_by mail flags (Envelope test) = values_work test.matching (envelope_sizes mail test.parts) test.keys
+work_by mail flags (MailboxExists names) = texts_size names
+work_by mail flags (Date test) = text_size test.field + first_size (raws_keyed mail.fields (lowered test.field)) + keys_work test.matching short_sizes test.keys
+work_by mail flags (CurrentDate test) = keys_work test.matching short_sizes test.keys
+work_by mail flags (HasFlag test) = texts_size flags + sum_by (tried_work (texts_size flags)) test.keys
+
+-- the same, of a run that has done this so far
+abbrev pub work_at : MailSpec → RunState → Check → ℕ
+work_at mail so_far check = work_by mail so_far.flags check
+
+-- sizes, where there are no more octets than may be
+abbrev pub IsWithin : ℕ → Sizes → Option Sizes → Type 0
+IsWithin most sizes None = most < sizes.octets
+IsWithin most sizes (Some found) = (found ≡ sizes) × ((found.octets ≤ most) × (found.count ≤ found.octets))
+
+-- what is left of work that may be taken, behind this much, if it may be taken
+abbrev pub IsLeft : ℕ → ℕ → Option ℕ → Type 0
+IsLeft before work None = before < work
+IsLeft before work (Some left) = left + work ≡ before
+
+-- the same where what is left is told apart: there was enough, or there wasn't
+abbrev pub IsPaid : Bool → ℕ → ℕ → ℕ → Type 0
+IsPaid true before work after = after + work ≡ before
+IsPaid false before work after = before < work

@@ -1,0 +1,67 @@
+//! How large what a test looks at is.
+ghost use Rattle.std.specs.Prelude.{◌+◌, ◌^◌, ◌≤◌, ◌<◌};
+ghost use Rattle.std.specs.Option.{SomeIff};
+ghost use Rattle.sieveexec.specs.Work.{IsWithin, sizes_of, sizes_and};
+
+use octets::Octets;
+
+/// How large values are.
+#[derive(Clone, Copy)]
+pub struct Sizes {
+    /// Their octets, and four more for each.
+    pub octets: u64,
+    /// How many there are.
+    pub count: u64,
+}
+
+impl Sizes {
+    /// Those of no values.
+    pub(crate) const NONE: Sizes = Sizes {
+        octets: 0,
+        count: 0,
+    };
+
+    /// With others besides, or None where there are more octets than may be then.
+    pub(crate) fn and(self, other: Sizes, most: u64) -> Option<Sizes>
+        requires here { self.count ≤ self.octets }
+        requires there { other.count ≤ other.octets }
+        requires room { self.octets ≤ most }
+        ensures { IsWithin most (sizes_and self other) result }
+    {
+        if most - self.octets < other.octets {
+            return None;
+        }
+        Some(Sizes {
+            octets: self.octets + other.octets,
+            count: self.count + other.count,
+        })
+    }
+
+    /// With one text more of this length, or None where there are more octets than may be then.
+    pub(crate) fn and_text(self, len: usize, most: u64) -> Option<Sizes>
+        requires here { self.count ≤ self.octets }
+        requires room { self.octets ≤ most }
+        ensures { IsWithin most (sizes_and self (record { octets = len + 4; count = 1 })) result }
+    {
+        let octets = text_size(len)?;
+        self.and(Sizes { octets, count: 1 }, most)
+    }
+}
+
+/// The size of a text of so many octets: four more, since short texts take their time too. None where no number is so large.
+pub(crate) fn text_size(len: usize) -> Option<u64>
+    ensures { SomeIff result (len + 4 < 2 ^ 64) (len + 4) }
+{
+    (len as u64).checked_add(4)
+}
+
+/// The sizes of texts, or None where they have more octets than may be. One pass over the list; takes no memory.
+pub(crate) fn sizes_in(texts: &[Octets], most: u64) -> Option<Sizes>
+    ensures { IsWithin most (sizes_of texts.now) result }
+{
+    let mut sizes = Sizes::NONE;
+    for text in texts {
+        sizes = sizes.and_text(text.len(), most)?;
+    }
+    Some(sizes)
+}

@@ -1,0 +1,159 @@
+//! How much work a test takes, and what that leaves of the work that a run may take.
+ghost use Rattle.std.specs.Prelude.{◌≡◌, ◌+◌, sum_by};
+ghost use Rattle.std.specs.List.{list_any};
+ghost use Rattle.sieveexec.specs.Work.{IsLeft, IsWithin, is_question, is_tried as is_tried_by, tried_work, key_work, keys_work, compared as compared_by, values_work, text_size, texts_size, envelope_sizes as envelope_sizes_of, one_sizes as one_sizes_of};
+
+use crate::mail::Mail;
+use crate::matching::is_count;
+use crate::sizes::{Sizes, text_size as size_of};
+use octets::Octets;
+use sievesyntax::{EnvelopeParts, Matching};
+
+/// How much work the tests of a run may take together. A unit is about an octet that is looked at or compared, and takes from 0.1 to
+/// 2 ns of a processor, mostly below 1: so the tests of a run take some 200 ms at most. 1,000 keys, or 800 rules, are compared with all
+/// of a header of 100 kB within it.
+pub(crate) const MAX_WORK: u64 = 200_000_000;
+
+/// One text of 40 octets: no number of values and no part of a date is longer.
+pub(crate) const SHORT: Sizes = Sizes {
+    octets: 44,
+    count: 1,
+};
+
+/// What some work leaves, if it may be taken.
+pub(crate) fn spend(left: u64, work: u64) -> Option<u64>
+    ensures { IsLeft left work result }
+{
+    if left < work {
+        return None;
+    }
+    Some(left - work)
+}
+
+/// What looking at a text leaves.
+pub(crate) fn spend_text(left: u64, text: &[u8]) -> Option<u64>
+    ensures { IsLeft left (text_size text.now) result }
+{
+    spend(left, size_of(text.len())?)
+}
+
+/// What looking at texts leaves.
+pub(crate) fn spend_texts(left: u64, texts: &[Octets]) -> Option<u64>
+    ensures { IsLeft left (texts_size texts.now) result }
+{
+    let mut left = left;
+    for text in texts {
+        left = spend_text(left, text.as_slice())?;
+    }
+    Some(left)
+}
+
+/// What looking at values and comparing them with keys leaves.
+pub(crate) fn spend_values(
+    left: u64,
+    matching: Matching,
+    sizes: Sizes,
+    keys: &[Octets],
+) -> Option<u64>
+    ensures { IsLeft left (values_work matching sizes keys.now) result }
+{
+    let left = spend(left, sizes.octets)?;
+    spend_keys(left, matching, compared(matching, sizes), keys)
+}
+
+/// What is compared: with `:count` a number.
+fn compared(matching: Matching, sizes: Sizes) -> Sizes
+    ensures { result ≡ compared_by matching sizes }
+{
+    if is_count(matching) {
+        return SHORT;
+    }
+    sizes
+}
+
+/// What comparing values of these sizes with keys leaves.
+pub(crate) fn spend_keys(
+    left: u64,
+    matching: Matching,
+    sizes: Sizes,
+    keys: &[Octets],
+) -> Option<u64>
+    ensures { IsLeft left (keys_work matching sizes keys.now) result }
+{
+    let mut left = left;
+    for key in keys {
+        left = spend_key(left, matching, sizes, key.as_slice())?;
+    }
+    Some(left)
+}
+
+/// What comparing values of these sizes with a key leaves.
+fn spend_key(left: u64, matching: Matching, sizes: Sizes, key: &[u8]) -> Option<u64>
+    ensures { IsLeft left (key_work matching sizes key.now) result }
+{
+    if is_tried(matching, key) {
+        return spend_tried(left, sizes.octets, key);
+    }
+    let left = spend(left, sizes.octets)?;
+    spend(left, sizes.count.checked_mul(size_of(key.len())?)?)
+}
+
+/// What trying a key at each of so many octets leaves.
+fn spend_tried(left: u64, octets: u64, key: &[u8]) -> Option<u64>
+    ensures { IsLeft left (tried_work octets key.now) result }
+{
+    let pairs = octets.checked_mul(size_of(key.len())?)?;
+    spend(left, pairs.checked_mul(8)?)
+}
+
+/// Whether a pattern may be tried at each octet of a value. Linear in the key.
+fn is_tried(matching: Matching, key: &[u8]) -> bool
+    ensures { result ≡ is_tried_by matching key.now }
+{
+    match matching {
+        Matching::Matches => has_question(key),
+        _ => false,
+    }
+}
+
+fn has_question(key: &[u8]) -> bool
+    ensures { result ≡ list_any is_question key.now }
+{
+    key.iter().any(|octet| *octet == b'?')
+}
+
+/// What looking at flags and comparing them with the words of keys leaves.
+pub(crate) fn spend_flags(left: u64, flags: &[Octets], keys: &[Octets]) -> Option<u64>
+    ensures { IsLeft left (texts_size flags.now + sum_by (tried_work (texts_size flags.now)) keys.now) result }
+{
+    let rest = spend_texts(left, flags)?;
+    let octets = left - rest;
+    let mut left = rest;
+    for key in keys {
+        left = spend_tried(left, octets, key.as_slice())?;
+    }
+    Some(left)
+}
+
+/// The sizes of the addresses of the envelope that a test names.
+pub(crate) fn envelope_sizes(mail: &Mail<'_>, parts: EnvelopeParts, most: u64) -> Option<Sizes>
+    ensures { IsWithin most (envelope_sizes_of mail.now parts) result }
+{
+    let sender = one_sizes(parts.from, mail.from(), most)?;
+    let recipient = one_sizes(parts.to, mail.to(), most)?;
+    sender.and(recipient, most)
+}
+
+/// Those of an address, where it is asked for.
+fn one_sizes(asked: bool, address: &[u8], most: u64) -> Option<Sizes>
+    ensures { IsWithin most (one_sizes_of asked address.now) result }
+{
+    if !asked {
+        return Some(Sizes::NONE);
+    }
+    let octets = size_of(address.len())?;
+    if most < octets {
+        return None;
+    }
+    Some(Sizes { octets, count: 1 })
+}
