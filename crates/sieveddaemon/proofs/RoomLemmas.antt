@@ -1,5 +1,5 @@
 -- Who makes room has the earliest moment of all that claim one.
-use Rattle.std.proofs.Common.{◌≡◌, ℕ, ◌≤◌, nat_lt, Bool, true, false, List, [], ◌∷◌, Option, Some, None, option_map, is_some, unwrap_or, ◌⊎◌, inl, inr, refl, sym, ◌∙◌, ap, subst, if◌then◌else◌, arith}
+use Rattle.std.proofs.Common.{◌≡◌, ℕ, ◌≤◌, nat_lt, Bool, true, false, List, [], ◌∷◌, Option, Some, None, option_map, is_some, IfSome, unwrap_or, ◌⊎◌, inl, inr, refl, sym, ◌∙◌, ap, subst, if◌then◌else◌, arith}
 use Rattle.std.specs.List.{All, Contains}
 use Rattle.std.specs.Ordering.{nat_cmp}
 use Rattle.std.specs.BTreeMap as tree
@@ -147,6 +147,13 @@ module _ {V : Type 0} (claim : ℕ → V → Option ℕ) where
 
     pub nobody : earliest claim those ≡ None → NobodyGoes claim those
     nobody is = none_of (earliest_from claim None those.entries) (earliest_is None those.entries) is
+
+    pub if_some : (r : Option ℕ) → r ≡ earliest claim those → IfSome r (MakesRoom claim those)
+    if_some None is = tt
+    if_some (Some id) is = makes_room id (sym is)
+
+    pub if_none : (r : Option ℕ) → r ≡ earliest claim those → r ≡ None → NobodyGoes claim those
+    if_none r is none = nobody (sym is ∙ none)
 
   -- it claims a moment, whether or not the map is in order
   pub claims_one : (entries : List Entry) (id : ℕ) → number_of (earliest_from claim None entries) ≡ Some id → (v : V) × (moment : ℕ) × (claim id v ≡ Some moment)
