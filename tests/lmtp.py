@@ -189,35 +189,6 @@ def names():
     return "nine addresses by local part, three whole ones"
 
 
-def places():
-    """Beside 300 clients that say nothing, or that have no recipient, each new one delivers at once; one whose recipient was taken stays."""
-    store = new_store("alice")
-    server, port = daemon(store, "--lmtp", "0")
-    kept = Peer(port)
-    greet(kept)
-    kept.say(b"MAIL FROM:<s@x>\r\n")
-    assert kept.say(b"RCPT TO:<alice@x>\r\n")[0].startswith(b"250")
-    silent = []
-    for number in range(trials.some(300)):
-        silent.append(Peer(port))
-        if number % 3:
-            greet(silent[-1])
-    worst = 0
-    for number in range(20):
-        began = time.time()
-        peer = Peer(port)
-        greet(peer)
-        assert peer.deliver(b"Subject: a\r\n\r\nb\r\n", b"alice@x")[0].startswith(b"250")
-        worst = max(worst, time.time() - began)
-        silent.append(peer)
-    kept.say(b"DATA\r\n")
-    stayed = kept.say(b"Subject: kept\r\n\r\nb\r\n.\r\n")[0]
-    told = silent[0].lines.readline()
-    end(server)
-    assert worst < 1 and stayed.startswith(b"250") and told.startswith(b"421"), (worst, stayed, told)
-    return f"beside {len(silent)} clients without a recipient a new one delivers within {worst * 1000:.0f} ms, and one with a recipient goes on"
-
-
 def scripts():
     """A script that comes by ManageSieve beside deliveries, and what the replies tell."""
     store = new_store("alice", "bob")
@@ -461,7 +432,7 @@ def killed():
     return done.stdout.strip()
 
 
-TRIALS = {"dialogues": dialogues, "names": names, "places": places, "scripts": scripts, "default": default, "circles": circles, "thousand": thousand, "room": room, "little_room": little_room, "broken_off": broken_off, "away": away,
+TRIALS = {"dialogues": dialogues, "names": names, "scripts": scripts, "default": default, "circles": circles, "thousand": thousand, "room": room, "little_room": little_room, "broken_off": broken_off, "away": away,
           "sockets": sockets, "killed": killed}
 
 

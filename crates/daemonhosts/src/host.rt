@@ -593,6 +593,7 @@ impl<N: Net + time::Clock, E: Write + Drop, K: Keeper + Drop, T: MailSink + Drop
 
     fn tell_answered(&mut self, id: u32) {
         self.queue.leave(id);
+        self.end_free_act(id);
     }
 
     fn tell_spoke(&mut self, _id: u32) {

@@ -14,7 +14,7 @@ use Rattle.lmtp.specs.declared.reply.Reply.TheVariants.{MessageTooLarge, NoRoom}
 use Rattle.lmtp.specs.declared.text.Trouble.{Trouble}
 use Rattle.lmtp.specs.declared.text.Trouble.TheVariants.{TooLarge, Memory}
 use Rattle.mailposts.specs.Posts.{Post, behind, post_heard, Deed, Declined, Goes, AsksStore, IsAsked, first_form, IsOwed, Becomes, said_for, told_post, IsParcel}
-use Rattle.mailposts.specs.Tallies.{MayAsk, HasWaited, fresh, done, wanted, is_more}
+use Rattle.mailposts.specs.Tallies.{MayAsk, HasWaited, fresh, done}
 use Rattle.mailposts.specs.declared.addressee.Addressee.{Addressee}
 use Rattle.mailposts.specs.declared.addressee.Became.{Became}
 use Rattle.mailposts.specs.declared.demand.Demand.{Demand}
@@ -46,15 +46,6 @@ pub record Holds (c : Code) (p : Post) : Type 0 where
 pub record Stands (c : Code) (p : Post) : Type 0 where
   pub holds : Holds c p
   pub comes : Wants p.dialogue c.comes
-
--- since when its client owes octets, while no recipient was taken; none where one was, or where the client isn't owing
-abbrev pub owed_by : List Addressee → Bool → ℕ → Option ℕ
-owed_by [] true since = Some since
-owed_by [] false since = None
-owed_by (it ∷ others) more since = None
-
-abbrev pub owed_since : Code → Option ℕ
-owed_since c = owed_by c.addressees.items (is_more (wanted c.comes c.tally)) c.tally.since
 
 -- ---- what its calls make of it
 

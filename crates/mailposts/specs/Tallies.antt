@@ -4,7 +4,7 @@ use Rattle.mailposts.specs.declared.tally.Tally.{Tally}
 use Rattle.mailposts.specs.declared.tally.Waits.{Waits}
 use Rattle.mailposts.specs.declared.tally.Waits.TheVariants.{Nothing, Store}
 use Rattle.mailposts.specs.declared.tally.Wanted.{Wanted}
-use Rattle.mailposts.specs.declared.tally.Wanted.TheVariants.{More, Step, Until, Done}
+use Rattle.mailposts.specs.declared.tally.Wanted.TheVariants.{Until}
 
 -- so many milliseconds the store is asked for in vain, for all recipients of a message together; so many later it is asked for again; and
 -- so many a client may say nothing (RFC 5321, section 4.5.3.2.7)
@@ -78,10 +78,3 @@ wanted_by comes (Store since again) = Until again
 
 abbrev pub wanted : Wanted → Tally → Wanted
 wanted comes t = wanted_by comes t.waits
-
--- more octets are wanted: it is the client's turn
-abbrev pub is_more : Wanted → Bool
-is_more More = true
-is_more Step = false
-is_more (Until moment) = false
-is_more Done = false

@@ -76,18 +76,6 @@ impl Post {
         self.tally.due()
     }
 
-    /// Since when its client owes octets, while no recipient of a message was taken. None where one was, and where something is owed to
-    /// the client.
-    pub fn owed_since(&self) -> Option<u64>
-        ensures { result ≡ s.owed_since self.now }
-    {
-        if self.addressees.is_empty() && self.wanted().is_more() {
-            Some(self.tally.since)
-        } else {
-            None
-        }
-    }
-
     /// Octets of the client come.
     ///
     /// Lack of memory is the only error; nothing changes then.

@@ -24,15 +24,6 @@ pub enum Wanted {
     Done,
 }
 
-impl Wanted {
-    /// Whether more octets are wanted: it is the client's turn.
-    pub fn is_more(self) -> bool
-        ensures { result ≡ s.is_more self }
-    {
-        matches!(self, Wanted::More)
-    }
-}
-
 /// What a connection waits for, beside its socket.
 #[derive(Clone, Copy, Debug, PartialEq, Eq)]
 pub enum Waits {

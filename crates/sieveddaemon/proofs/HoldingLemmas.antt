@@ -29,7 +29,7 @@ use Rattle.wires.specs.declared.turn.Task.TheVariants.{Send, Hear, Step, Rest, H
 use Rattle.wires.specs.Rules.{Rules}
 use Rattle.wires.specs.Talk.{same, client_of, kind_of, waits as waiting, gathers, task, task_by, task_sent, task_unsent, task_wanted}
 use Rattle.wires.specs.Told.{largest_piece}
-use Rattle.wires.specs.Turns.{Turns, Tasks, GoesOn, Goes as Went, Lacks, Parting, Opens as Enters}
+use Rattle.wires.specs.Turns.{Turns, Tasks, StepsOn, Goes as Went, Lacks, Parting, Opens as Enters}
 use Rattle.wires.proofs.TalkLemmas.{one_number}
 use Rattle.sieveddaemon.specs.Acts.{LeadsBy, LeadsIn, Leads}
 use Rattle.sieveddaemon.specs.Bounds.{unread_of, held, bound, own}
@@ -421,10 +421,10 @@ module _ {R : Type 0} (view : View R) (d e : MailDaemon) (r q : R) (s u : Servic
       (client_less (place_at d.daemon n) (place_at d.daemon n) (client_at d.daemon.clients.sessions n) (client_at e.daemon.clients.sessions n) refl (still n))
       (omega (arith, g.does.held, ap firm_post g.was)))
 
-  session_goes : (n : ℕ) (note : Note) (said : List ℕ) → SessionGoes view d r s.moment n note said e q → GoesOn (mail_rules view) d s n Step u.turn → Grown d e (gained_by note) → Kept_on
+  session_goes : (n : ℕ) (note : Note) (said : List ℕ) → SessionGoes view d r s.moment n note said e q → StepsOn (mail_rules view) d s n u.turn → Grown d e (gained_by note) → Kept_on
   session_goes n note said g on more =
       let wants : Want = want_of (place_at d.daemon n) (client_at d.daemon.clients.sessions n) in
-      let wanted : task_wanted s.moment (wants_by (post_at d n) wants) ≡ Step = wanted_at (mail_rules view) d s.moment on.0 n (client_of s n) on.1.task in
+      let wanted : task_wanted s.moment (wants_by (post_at d n) wants) ≡ Step = wanted_at (mail_rules view) d s.moment on.count n (client_of s n) on.wanted.task in
       let its : task_wanted s.moment wants ≡ Step = subst (λ o. task_wanted s.moment (wants_by o wants) ≡ Step) g.other wanted in
       let due : IsDue s.moment g.goes.before.waits =
       due_at s.moment g.goes.before (client_at d.daemon.clients.sessions n) (subst (λ o. task_wanted s.moment (want_of o (client_at d.daemon.clients.sessions n)) ≡ Step) g.goes.was its) in
@@ -441,7 +441,7 @@ module _ {R : Type 0} (view : View R) (d e : MailDaemon) (r q : R) (s u : Servic
       ))
       (omega arith))
 
-  goes : (n : ℕ) (note : Note) (said : List ℕ) → GoesBy view d r s.moment n note said e q → GoesOn (mail_rules view) d s n Step u.turn → Grown d e (gained_by note) → Kept_on
+  goes : (n : ℕ) (note : Note) (said : List ℕ) → GoesBy view d r s.moment n note said e q → StepsOn (mail_rules view) d s n u.turn → Grown d e (gained_by note) → Kept_on
   goes n note said (inl g) on more = post_goes n note said g more
   goes n note said (inr g) on more = session_goes n note said g on more
 

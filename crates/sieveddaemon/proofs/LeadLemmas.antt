@@ -31,9 +31,9 @@ use Rattle.sieveddaemon.specs.Desk.{View, DoneAt, IsWorld, ComesTo, IsDone, Noth
 use Rattle.sieveddaemon.specs.MailRules.{mail_rules, displaced_for, OpensBy, GivesBy, GoesBy, LacksBy}
 use Rattle.sieveddaemon.specs.Moves.{MovedAt, TriedAt}
 use Rattle.sieveddaemon.specs.Places.{is_user}
-use Rattle.sieveddaemon.specs.Room.{guest_to_go, longest_sender}
+use Rattle.sieveddaemon.specs.Room.{guest_to_go}
 use Rattle.sieveddaemon.specs.Tried.{TriesBy, TriesAt}
-use Rattle.sieveddaemon.proofs.RoomLemmas.{no_user_goes, no_user_sends}
+use Rattle.sieveddaemon.proofs.RoomLemmas.{no_user_goes}
 use Rattle.sieveddaemon.specs.declared.daemon.Daemon.{Daemon}
 use Rattle.sieveddaemon.specs.declared.mail.MailDaemon.{MailDaemon}
 use Rattle.sieveddaemon.specs.declared.note.Note.{Note}
@@ -60,6 +60,11 @@ guest_of (Some c) is = by c.user is
     by : (user : Option (List ℕ)) → is_some user ≡ false → user ≡ None
     by None none = refl
     by (Some name) some = let never : true ≡ false = some in cc
+
+-- a client of LMTP makes no room
+by_kind : (b : Bool) (o : Option ℕ) (id : ℕ) → (if b then None else o) ≡ Some id → o ≡ Some id
+by_kind true o id is = let never : ◌≡◌ {A = Option ℕ} None (Some id) = is in cc
+by_kind false o id is = is
 
 -- what an act tried, as a crash may leave it: what the event makes of the world that it met
 abbrev pub TriedBy : World → Note → World → Trees → Type 0
@@ -191,14 +196,10 @@ module _ {R : Type 0} (view : View R) (d e : MailDaemon) (r q : R) where
 
   -- who makes room is a guest
   guest_goes : (s : Service) (kind id : ℕ) → makes_room (mail_rules view) d s kind ≡ Some id → (w : World) → IsWorld view r d.daemon.clients.sessions w → IsGuest w id
-  guest_goes s kind id room w is = guest_of (get w.sessions id) (subst (λ c. is_user c ≡ false) (is.sessions id) (by_kind (kind == lmtp) (named_by s kind (displaced_for d kind) id room)))
-    where
-      of_managesieve : displaced_of d.daemon kind ≡ Some id → is_user (client_at d.daemon.clients.sessions id) ≡ false
-      of_managesieve named = no_user_goes d.daemon.clients.sessions d.daemon.places id (if_named (kind == 0) (guest_to_go d.daemon.clients.sessions d.daemon.places) id named)
-
-      by_kind : (b : Bool) → (if b then longest_sender d.daemon.clients.sessions d.posts else displaced_of d.daemon kind) ≡ Some id → is_user (client_at d.daemon.clients.sessions id) ≡ false
-      by_kind true named = no_user_sends d.daemon.clients.sessions d.posts id named
-      by_kind false named = of_managesieve named
+  guest_goes s kind id room w is =
+      let chosen = by_kind (kind == lmtp) (displaced_of d.daemon kind) id (named_by s kind (displaced_for d kind) id room) in
+      let named = if_named (kind == 0) (guest_to_go d.daemon.clients.sessions d.daemon.places) id chosen in
+      guest_of (get w.sessions id) (subst (λ c. is_user c ≡ false) (is.sessions id) (no_user_goes d.daemon.clients.sessions d.daemon.places id named))
 
   -- where memory was lacking for a connection, that is what follows says
   module _ (s u : Service) (more : List (Act Note)) (lacks_then : (id kind : ℕ) → u.turn ≡ Stuffed id kind → LacksThen id more) where

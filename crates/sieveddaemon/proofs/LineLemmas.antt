@@ -14,7 +14,7 @@ use Rattle.wires.specs.declared.service.Service.{Service}
 use Rattle.wires.specs.declared.turn.Task.TheVariants.{Step, Rest}
 use Rattle.wires.specs.Moves.{Ticks}
 use Rattle.wires.specs.Talk.{same, client_of, kind_of, task_wanted}
-use Rattle.wires.specs.Turns.{Turns, GoesOn, Goes as Went, Lacks, Parting, Opens as Enters}
+use Rattle.wires.specs.Turns.{Turns, StepsOn, Goes as Went, Lacks, Parting, Opens as Enters}
 use Rattle.wires.proofs.TalkLemmas.{one_number}
 use Rattle.sieveddaemon.specs.Acts.{Line, new_line, line_came, moment_after, noted, idled, tell_line, IsRight}
 use Rattle.sieveddaemon.specs.Desk.{View}
@@ -236,16 +236,16 @@ module _ {R : Type 0} (view : View R) (d e : MailDaemon) (r q : R) (s u : Servic
     tied_then (Dropped n count) said t = still t.0.0
 
     -- what is done is allowed
-    session_allowed : (n : ℕ) (note : Note) (said : List ℕ) → same n id ≡ true → SessionGoes view d r s.moment n note said e q → GoesOn (mail_rules view) d s n Step u.turn → Allows s.moment l.waits id note
+    session_allowed : (n : ℕ) (note : Note) (said : List ℕ) → same n id ≡ true → SessionGoes view d r s.moment n note said e q → StepsOn (mail_rules view) d s n u.turn → Allows s.moment l.waits id note
     session_allowed n note said is g on =
         let wants : Want = want_of (place_at d.daemon n) (client_at d.daemon.clients.sessions n) in
-        let wanted : task_wanted s.moment (wants_by (post_at d n) wants) ≡ Step = wanted_at (mail_rules view) d s.moment on.0 n (client_of s n) on.1.task in
+        let wanted : task_wanted s.moment (wants_by (post_at d n) wants) ≡ Step = wanted_at (mail_rules view) d s.moment on.count n (client_of s n) on.wanted.task in
         let own : task_wanted s.moment wants ≡ Step = subst (λ o. task_wanted s.moment (wants_by o wants) ≡ Step) g.other wanted in
         let due : IsDue s.moment g.goes.before.waits =
         due_at s.moment g.goes.before (client_at d.daemon.clients.sessions n) (subst (λ o. task_wanted s.moment (want_of o (client_at d.daemon.clients.sessions n)) ≡ Step) g.goes.was own) in
         subst (λ w. Allows s.moment w id note) (ours n g.goes.before g.goes.was is) (subst (λ k. Allows s.moment g.goes.before.waits k note) (one_number n id is) (g.goes.allows due))
 
-    allowed : (b : Bool) (n : ℕ) (note : Note) (said : List ℕ) → same n id ≡ b → GoesBy view d r s.moment n note said e q → GoesOn (mail_rules view) d s n Step u.turn
+    allowed : (b : Bool) (n : ℕ) (note : Note) (said : List ℕ) → same n id ≡ b → GoesBy view d r s.moment n note said e q → StepsOn (mail_rules view) d s n u.turn
         → cond b (Allows s.moment l.waits id note) (Unit {0})
     allowed false n note said is g on = tt
     allowed true n note said is (inl g) on = absurd (no_post n g.before g.was is)

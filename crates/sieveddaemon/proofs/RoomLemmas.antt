@@ -10,15 +10,13 @@ use Rattle.std.proofs.lemmas.Cmp.{nat_cmp_total}
 use Rattle.std.proofs.lemmas.Bool.{ltb-false, ltb-true}
 use Rattle.sessions.specs.Clients.{Client}
 use Rattle.mailengine.specs.Hosts.{Kept}
-use Rattle.mailposts.specs.declared.post.Post.{Post}
-use Rattle.mailposts.specs.Stands.{owed_since}
 use Rattle.sieveddaemon.specs.Places.{client_at, is_user}
-use Rattle.sieveddaemon.specs.Room.{earlier, earliest_from, earliest, number_of, MakesRoom, NobodyGoes, claim_by, guest_claim, claim_of, longest_guest, or_else, guest_to_go, sender_claim, longest_sender}
+use Rattle.sieveddaemon.specs.Room.{earlier, earliest_from, earliest, number_of, MakesRoom, NobodyGoes, claim_by, guest_claim, claim_of, longest_guest, or_else, guest_to_go}
 use Rattle.sieveddaemon.specs.declared.place.Place.{Place}
 use Rattle.sieveddaemon.specs.declared.room.Rank.{Rank}
 use Rattle.sieveddaemon.specs.declared.room.Rank.TheVariants as rank
 
-abbrev It : Type 0
+abbrev pub It : Type 0
 It = ℕ × ℕ
 
 in_some : {X : Type 0} (a b : X) → Some a ≡ Some b → a ≡ b
@@ -27,31 +25,31 @@ in_some a b is = ap (λ (o : Option _). unwrap_or o a) is
 -- ---- the earliest of a list
 
 module _ {V : Type 0} (claim : ℕ → V → Option ℕ) where
-  abbrev Entry : Type 0
+  abbrev pub Entry : Type 0
   Entry = ℕ × V
 
   -- an entry that claims that moment
-  record From (entries : List Entry) (it : It) : Type 0 where
+  pub record From (entries : List Entry) (it : It) : Type 0 where
     pub value : V
     pub among : Contains entries (it.0, value)
     pub claims : claim it.0 value ≡ Some it.1
 
-  abbrev AtMost : It → Option It → Type 0
+  abbrev pub AtMost : It → Option It → Type 0
   AtMost it None = Unit {0}
   AtMost it (Some best) = it.1 ≤ best.1
 
-  abbrev Below : It → Entry → Type 0
+  abbrev pub Below : It → Entry → Type 0
   Below it e = (at : ℕ) → claim e.0 e.1 ≡ Some at → it.1 ≤ at
 
-  record Found (best : Option It) (entries : List Entry) (it : It) : Type 0 where
+  pub record Found (best : Option It) (entries : List Entry) (it : It) : Type 0 where
     pub whence : (best ≡ Some it) ⊎ From entries it
     pub at_most : AtMost it best
     pub least : All (Below it) entries
 
-  abbrev Silent : Entry → Type 0
+  abbrev pub Silent : Entry → Type 0
   Silent e = claim e.0 e.1 ≡ None
 
-  abbrev OutOf : Option It → List Entry → Option It → Type 0
+  abbrev pub OutOf : Option It → List Entry → Option It → Type 0
   OutOf best entries None = (best ≡ None) × All Silent entries
   OutOf best entries (Some it) = Found best entries it
 
@@ -193,10 +191,3 @@ no_user_goes sessions places id is = by (longest_guest sessions rank.Failed plac
     by : (first : Option ℕ) → longest_guest sessions rank.Failed places ≡ first → or_else first (longest_guest sessions rank.Silent places) ≡ Some id → is_user (client_at sessions id) ≡ false
     by (Some other) same is = rank_goes sessions rank.Failed places id (same ∙ is)
     by None same is = rank_goes sessions rank.Silent places id is
-
-pub no_user_sends : (sessions : Kept) (posts : tree.BTreeMap ℕ Post) (id : ℕ) → longest_sender sessions posts ≡ Some id → is_user (client_at sessions id) ≡ false
-no_user_sends sessions posts id is = let it = claims_one (sender_claim sessions) posts.entries id is in by (is_user (client_at sessions id)) refl it.1 it.2
-  where
-    by : (test : Bool) → is_user (client_at sessions id) ≡ test → {post : Post} (moment : ℕ) → (if test then None else owed_since post) ≡ Some moment → is_user (client_at sessions id) ≡ false
-    by true same moment is = let never : ◌≡◌ {A = Option ℕ} None (Some moment) = is in cc
-    by false same moment is = same

@@ -21,7 +21,6 @@ use Rattle.sieveddaemon.specs.Deeds.{DoesOne}
 use Rattle.sieveddaemon.specs.Desk.{View}
 use Rattle.sieveddaemon.specs.Holds.{has_work}
 use Rattle.sieveddaemon.specs.Places.{client_at, want_of, due_of}
-use Rattle.sieveddaemon.specs.Room.{longest_sender}
 use Rattle.sieveddaemon.specs.Waiting.{idle}
 use Rattle.sieveddaemon.specs.declared.mail.MailDaemon.{MailDaemon}
 use Rattle.sieveddaemon.specs.declared.note.Note.{Note}
@@ -29,16 +28,16 @@ use Rattle.sieveddaemon.specs.declared.place.Fit.{Fit}
 use Rattle.sieveddaemon.specs.declared.place.Fit.TheVariants as fit
 use Rattle.sieveddaemon.specs.declared.place.Place.{Place}
 
--- how many connections of LMTP there may be
+-- how many connections of LMTP there may be: the next waits at the door
 abbrev pub max_senders : ℕ
 max_senders = 20
 
 abbrev pub limit_for : ℕ → ℕ
 limit_for kind = if kind == lmtp then max_senders else limit_of kind
 
--- where so many are there, who makes room for another of that kind
+-- no client of LMTP makes room
 abbrev pub displaced_for : MailDaemon → ℕ → Option ℕ
-displaced_for d kind = if kind == lmtp then longest_sender d.daemon.clients.sessions d.posts else displaced_of d.daemon kind
+displaced_for d kind = if kind == lmtp then None else displaced_of d.daemon kind
 
 abbrev pub post_at : MailDaemon → ℕ → Option Post
 post_at d id = tree.get nat_cmp d.posts id

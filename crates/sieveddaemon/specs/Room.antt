@@ -4,11 +4,9 @@ use Rattle.std.specs.Ordering.{nat_cmp}
 use Rattle.std.specs.BTreeMap as tree
 use Rattle.sessions.specs.Clients.{Client, has_failed}
 use Rattle.mailengine.specs.Hosts.{Kept}
-use Rattle.mailposts.specs.Stands.{owed_since}
-use Rattle.mailposts.specs.declared.post.Post.{Post}
 use Rattle.wires.specs.declared.machine.Want.{Want}
 use Rattle.wires.specs.declared.machine.Want.TheVariants.{More, Step, Wait, Until, Done}
-use Rattle.sieveddaemon.specs.Places.{client_at, is_user, want_by}
+use Rattle.sieveddaemon.specs.Places.{client_at, want_by}
 use Rattle.sieveddaemon.specs.declared.place.Place.{Place}
 use Rattle.sieveddaemon.specs.declared.room.Rank.{Rank}
 use Rattle.sieveddaemon.specs.declared.room.Rank.TheVariants as rank
@@ -80,12 +78,3 @@ or_else None other = other
 
 abbrev pub guest_to_go : Kept → tree.BTreeMap ℕ Place → Option ℕ
 guest_to_go sessions places = or_else (longest_guest sessions rank.Failed places) (longest_guest sessions rank.Silent places)
-
--- ---- clients of LMTP
-
--- one with no recipient that was taken claims the moment since which it owes octets; none that has a session
-abbrev pub sender_claim : Kept → ℕ → Post → Option ℕ
-sender_claim sessions id post = if is_user (client_at sessions id) then None else owed_since post
-
-abbrev pub longest_sender : Kept → tree.BTreeMap ℕ Post → Option ℕ
-longest_sender sessions posts = earliest (sender_claim sessions) posts

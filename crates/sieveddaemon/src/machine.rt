@@ -8,7 +8,7 @@ use crate::mail::MailDaemon;
 use crate::mail_open::{enter_client, enter_post, hear_by, leave_by, say_last};
 use crate::mail_step::step_post;
 use crate::patience::patience_for;
-use crate::room::{guest_to_go, longest_sender};
+use crate::room::guest_to_go;
 use crate::step::step_once;
 use crate::want::{due_of, want_of};
 use mailposts::Wanted;
@@ -25,7 +25,7 @@ pub const MAX_CLIENTS: usize = 50;
 /// The kind of the connections of LMTP.
 pub const LMTP: u32 = 1;
 
-/// So many clients of LMTP may be there at once.
+/// So many clients of LMTP may be there at once; the next waits at the door.
 pub const MAX_SENDERS: usize = 20;
 
 impl<O: Desk> Machine<O> for MailDaemon {
@@ -44,9 +44,7 @@ impl<O: Desk> Machine<O> for MailDaemon {
     }
 
     fn displaced(&self, kind: u32) -> Option<u32> {
-        if kind == LMTP {
-            longest_sender(&self.daemon.clients, &self.posts)
-        } else if kind == MANAGESIEVE {
+        if kind == MANAGESIEVE {
             guest_to_go(&self.daemon.clients, &self.daemon.places)
         } else {
             None

@@ -8,7 +8,6 @@ ghost use Rattle.sieveddaemon.specs.Room.{MakesRoom, NobodyGoes};
 use crate::place::Place;
 use crate::want::want_by;
 use mailengine::Clients;
-use mailposts::Post;
 use sessions::Session;
 use std::collections::BTreeMap;
 use wires::machine::Want;
@@ -134,28 +133,4 @@ pub fn guest_to_go(clients: &Clients, places: &BTreeMap<u32, Place>) -> Option<u
         Some(id) => Some(id),
         None => longest_guest(clients, Rank::Silent, places),
     }
-}
-
-/// Since when a client of LMTP owes octets, while no recipient of a message was taken.
-fn sender_claim(clients: &Clients, id: u32, post: &Post) -> Option<u64>
-    ensures { result ≡ room.sender_claim clients.now.sessions id post.now }
-{
-    if is_user(clients, id) {
-        return None;
-    }
-    post.owed_since()
-}
-
-/// The client of LMTP that makes room: of those without a recipient that was taken, to whom nothing is owed, the one that has owed octets
-/// for the longest time. Time is linear in the connections.
-pub fn longest_sender(clients: &Clients, posts: &BTreeMap<u32, Post>) -> Option<u32>
-    ensures which { result ≡ room.longest_sender clients.now.sessions posts.now }
-    ensures some { IfSome result (MakesRoom (room.sender_claim clients.now.sessions) posts.now) }
-    ensures none { result ≡ None → NobodyGoes (room.sender_claim clients.now.sessions) posts.now }
-{
-    let mut best = None;
-    for (id, post) in posts.iter() {
-        best = earlier(best, *id, sender_claim(clients, *id, post));
-    }
-    number_of(best)
 }

@@ -75,7 +75,7 @@ impl<'n, N: Net + Clock> SystemSockets<'n, N> {
             moment: 0,
             poll: Poll::new(system)?,
             events: Events::with_capacity(alloc, MAX_EVENTS)?,
-            told: VecDeque::with_capacity(alloc, MAX_EVENTS)?,
+            told: VecDeque::with_capacity(alloc, 2 * MAX_EVENTS)?,
             doors: Vec::with_capacity(alloc, listeners.len())?,
             links: BTreeMap::new(alloc),
         };
@@ -119,7 +119,8 @@ impl<'n, N: Net + Clock> SystemSockets<'n, N> {
         ensures { OnErr result (ready.new ≡ ready.old) }
     {
         let within = if self.told.is_empty() { within } else { 0 };
-        if self.ask(within).is_err() && self.told.is_empty() {
+        let has_room = self.told.len() <= MAX_EVENTS;
+        if has_room && self.ask(within).is_err() && self.told.is_empty() {
             return Err(Fault::Wait);
         }
         for _ in 0..MAX_EVENTS {
