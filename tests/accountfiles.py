@@ -79,7 +79,7 @@ right(parts=[(b"mail", n + 1, b"f%d" % n, b"m%d" % n) for n in range(300)], numb
 right(parts=[(b"mail", 1, b"f0", b"m")] + [(b"copy", n + 1, b"f%d" % n, 1) for n in range(1, 300)], numbers=(1, 301, 1, 1))
 right(parts=[(b"redirect" if n % 2 else b"answer", n + 1, b"s", b"t%d" % n, b"m") for n in range(300)], numbers=(1, 1, 301, 1))
 right(parts=[(b"notice", n + 1, n, b"told") for n in range(300)], numbers=(1, 1, 1, 301))
-print("\n# A field has any length: one octet more than a message may have, a reply of a long subject, 40,000,000 octets")
+print("\n# A field has any length: one octet more than a message may have")
 for part in [(b"mail", 1, b"a", Long(b"x" * (LIMIT + 1)))]:
     right(parts=[part], numbers=(1, 2, 2, 1))
 
