@@ -238,7 +238,7 @@ def places():
     began = time.time()
     silent = [connect(port) for _ in range(300)]
     opened = time.time() - began
-    worst = max(timed(lambda: logged_in(port).close()) for _ in range(20))
+    worst = max(timed(lambda: connect(port).log_in("alice")) for _ in range(20))
     guests = [connect(port) for _ in range(49)]
     failed = connect(port)
     assert failed.ask(b'AUTHENTICATE "PLAIN" "AGFsaWNlAHdyb25n"')[-1].startswith(b"NO")
@@ -259,23 +259,27 @@ def busy():
     text = b"".join(b'if header :is "subject" "%d" { keep; }\r\n' % at for at in range(6000))
     command = b"CHECKSCRIPT {%d+}\r\n%s\r\n" % (len(text), text)
     assert len(text) < 262_144
+    checked = [0] * 20
     over = threading.Event()
 
     def flood(number):
         client = logged_in(port)
-        while not over.is_set():
-            client.ask(command[:-2])
+        try:
+            while not over.is_set():
+                checked[number] += client.ask(command[:-2])[-1].startswith(b"OK")
+        except Gone:
+            pass
 
     floods = [threading.Thread(target=flood, args=[number], daemon=True) for number in range(20)]
     other = logged_in(port, "bob")
     for thread in floods:
         thread.start()
     time.sleep(1)
-    times = sorted(timed(lambda: other.ask(b"NOOP")) for _ in range(trials.some(200)))
+    times = sorted(timed(lambda: other.ask(b"NOOP")[-1]) for _ in range(trials.some(200)))
     over.set()
     end(server)
-    assert times[-1] < 0.6, times[-5:]
-    return f"20 clients of one user with a script of {len(text)} octets each: another user's NOOP takes {times[-1] * 1000:.0f} ms at most"
+    assert times[-1] < 0.6 and sum(checked) > 20, (times[-5:], checked)
+    return f"{sum(checked)} checks of {len(text)} octets by 20 clients of one user: another's NOOP takes {times[-1] * 1000:.0f} ms at most"
 
 
 def share():
