@@ -291,6 +291,7 @@ def room():
     for peer in peers:
         greet(peer)
         assert peer.open(b"alice@x") == [b"250 2.1.5 Ok\r\n"] and peer.say(b"DATA\r\n")[0].startswith(b"354")
+        peer.sock.sendall(b"Subject: large\r\n\r\n")
     part = (b"x" * 998 + b"\r\n") * 1_000
     for _ in range(size // len(part)):
         for peer in peers:
