@@ -72,7 +72,10 @@ fn is_plain(octet: u8) -> bool
 fn is_mark(octet: u8) -> bool
     ensures { result ≡ values.is_mark octet }
 {
-    matches!(octet, b'+' | b'-' | b'.' | b'/' | b'<' | b'>' | b'@' | b'_' | b'~')
+    matches!(
+        octet,
+        b'+' | b'-' | b'.' | b'/' | b'<' | b'>' | b'@' | b'_' | b'~'
+    )
 }
 
 fn is_between(low: u8, high: u8, octet: u8) -> bool
