@@ -6,6 +6,7 @@ pub mod QuotedLemmas
 pub mod AlphabetLemmas
 pub mod ReadBackLemmas
 pub mod RunLaws
+pub mod FoldingLemmas
 pub mod PieceLaws
 pub mod QuotedLaws
 pub mod WordLaws

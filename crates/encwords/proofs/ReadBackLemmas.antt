@@ -40,7 +40,7 @@ visible_nonblank octet seen = grind arith
 visible_other : (octet : ℕ) → is_visible octet ≡ true → is_other octet ≡ true
 visible_other octet seen = grind arith
 
-printable_other : (octet : ℕ) → is_printable octet ≡ true → is_other octet ≡ true
+pub printable_other : (octet : ℕ) → is_printable octet ≡ true → is_other octet ≡ true
 printable_other octet seen = grind arith
 
 safe_visible : (octet : ℕ) → is_safe octet ≡ true → is_visible octet ≡ true
@@ -108,7 +108,7 @@ without_crlf line =
     take_at line (13 ∷ 10 ∷ []) (length whole - end_len whole) front
 
 -- a text without line end unfolds to itself
-unfold_plain : (text : List ℕ) → list_all is_other text ≡ true → unfold_of text ≡ text
+pub unfold_plain : (text : List ℕ) → list_all is_other text ≡ true → unfold_of text ≡ text
 unfold_plain [] all = refl
 unfold_plain (octet ∷ rest) all = ap joined (cut_open (octet ∷ rest) (λ none. absurd (cc none)) all) ∙ append-nil (octet ∷ rest)
 
@@ -117,7 +117,7 @@ pub unfold_printable : (text : List ℕ) → list_all is_printable text ≡ true
 unfold_printable text printable = unfold_plain text (list_all-weaker is_printable is_other text printable_other printable)
 
 -- CRLF before a blank is removed
-unfold_crlf : (front rest : List ℕ) → list_all is_other front ≡ true → begins_blank rest ≡ true → unfold_of ((front ++ (13 ∷ 10 ∷ [])) ++ rest) ≡ front ++ unfold_of rest
+pub unfold_crlf : (front rest : List ℕ) → list_all is_other front ≡ true → begins_blank rest ≡ true → unfold_of ((front ++ (13 ∷ 10 ∷ [])) ++ rest) ≡ front ++ unfold_of rest
 unfold_crlf front rest all blank =
     let line : front ++ (13 ∷ 10 ∷ []) ≡ (front ++ 13 ∷ []) ++ 10 ∷ [] = sym (append_assoc front (13 ∷ []) (10 ∷ [])) in
     let others : list_all is_other (front ++ 13 ∷ []) ≡ true = list_all-append is_other front (13 ∷ []) ∙ and_true _ _ all refl in

@@ -151,26 +151,33 @@ pub given_step : (after_word : Bool) (text blanks run after : List ℕ) → IsFr
 given_step after_word text blanks run after front =
     ap (λ t. given_from after_word (runs_of t)) front.whole ∙ given_front after_word blanks run after front.blank front.nonblank front.ends front.last
 
--- what passes of the runs that they begin, where blanks pass
+-- what passes of the runs that they begin
 passes_front : (p : List ℕ → Bool) (blanks run after : List ℕ) → list_all is_blank blanks ≡ true → list_all is_nonblank run ≡ true → begins_nonblank after ≡ false → (run ≡ [] → after ≡ [])
-    → p [] ≡ true → p blanks ≡ true → list_all p (runs_of (blanks ++ (run ++ after))) ≡ (p run && list_all p (runs_of after))
-passes_front p [] [] after blank nonblank ends last none pass = let end = last refl in rw (end, none) refl
-passes_front p [] (octet ∷ run) after blank nonblank ends last none pass =
+    → p [] ≡ true → list_all p (runs_of (blanks ++ (run ++ after))) ≡ (p blanks && (p run && list_all p (runs_of after)))
+passes_front p [] [] after blank nonblank ends last none = let end = last refl in rw (end, none) refl
+passes_front p [] (octet ∷ run) after blank nonblank ends last none =
     ap (list_all p) (runs_nonblank (octet ∷ run) after (λ empty. absurd (cc empty)) nonblank ends)
-passes_front p (blank ∷ blanks) [] after all nonblank ends last none pass =
+    ∙ ap (λ t. t && (p (octet ∷ run) && list_all p (runs_of after))) (sym none)
+passes_front p (blank ∷ blanks) [] after all nonblank ends last none =
     let end = last refl in
     let runs = runs_blank (blank ∷ blanks) [] (λ empty. absurd (cc empty)) all refl in
-    rw (end, runs, none, pass) refl
-passes_front p (blank ∷ blanks) (octet ∷ run) after all nonblank ends last none pass =
+    rw (end, runs, none) refl
+passes_front p (blank ∷ blanks) (octet ∷ run) after all nonblank ends last none =
     let other : is_blank octet ≡ false = not_blank_from octet (and_left _ _ nonblank) in
     let runs = runs_blank (blank ∷ blanks) ((octet ∷ run) ++ after) (λ empty. absurd (cc empty)) all other in
     let more = runs_nonblank (octet ∷ run) after (λ empty. absurd (cc empty)) nonblank ends in
-    rw (runs, more, pass) refl
+    rw (runs, more) refl
 
+pub passes_both : (p : List ℕ → Bool) (text blanks run after : List ℕ) → IsFront text blanks run after → p [] ≡ true
+    → list_all p (runs_of text) ≡ (p blanks && (p run && list_all p (runs_of after)))
+passes_both p text blanks run after front none =
+    ap (λ t. list_all p (runs_of t)) front.whole ∙ passes_front p blanks run after front.blank front.nonblank front.ends front.last none
+
+-- where blanks pass
 pub passes_step : (p : List ℕ → Bool) (text blanks run after : List ℕ) → IsFront text blanks run after → p [] ≡ true → p blanks ≡ true
     → list_all p (runs_of text) ≡ (p run && list_all p (runs_of after))
 passes_step p text blanks run after front none pass =
-    ap (λ t. list_all p (runs_of t)) front.whole ∙ passes_front p blanks run after front.blank front.nonblank front.ends front.last none pass
+    passes_both p text blanks run after front none ∙ ap (λ t. t && (p run && list_all p (runs_of after))) pass
 
 -- one front more was read
 pub read_front : (value text with_blanks with_run rest blanks tail run after kept shown : List ℕ) (after_word before now : Bool) (word : Option (List ℕ))

@@ -1,11 +1,11 @@
 -- What is written in a header field says the text again.
-use Rattle.std.specs.Prelude.{◌≡◌, ℕ, List, codes, cond, ◌&&◌}
+use Rattle.std.specs.Prelude.{◌≡◌, ℕ, List, codes, cond}
 use Rattle.base64.specs.GeneralPurpose.{engine_symbols, engine_padding}
 use Rattle.base64.specs.declared.engine.general_purpose.GeneralPurpose.{GeneralPurpose}
 use Rattle.mailhead.specs.Heads.{unfold_of}
 use Rattle.encwords.specs.Values.{text_of}
 use Rattle.encwords.specs.Headers.{IsHeaderText}
-use Rattle.encwords.specs.Written.{is_line, has_written_words, IsWrittenText}
+use Rattle.encwords.specs.Written.{has_written_words, IsWrittenText}
 
 -- the alphabet of RFC 4648, section 4, and its padding `=`
 pub record HasStandardAlphabet (engine : GeneralPurpose) : Type 0 where
@@ -18,7 +18,7 @@ IsReadBack text value = IsHeaderText text value → text_of (unfold_of value) �
 
 -- what a text is to say where it is written with the words that its writer encoded: what it decodes to where they stand, else itself
 abbrev pub said_by : List ℕ → List ℕ
-said_by text = cond (is_line text && has_written_words text) (text_of text) text
+said_by text = cond (has_written_words text) (text_of text) text
 
 -- the value of a header field that was written so, unfolded and decoded, is that
 abbrev pub IsSaid : List ℕ → List ℕ → Type 0

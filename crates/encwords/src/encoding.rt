@@ -3,7 +3,6 @@ ghost use Rattle.std.specs.Prelude.{◌≡◌, ◌<◌, ◌++◌, length, IfOk, 
 ghost use Rattle.std.specs.List.{list_all};
 ghost use Rattle.octets.specs.Ascii as ascii;
 ghost use Rattle.encwords.specs.Headers.{CutsPiece, IsHeaderText, IsWorded, between, word_for, has_mark, is_plain};
-ghost use Rattle.encwords.specs.Written.{is_line};
 
 use base64::engine::general_purpose::STANDARD;
 use memchr::memmem;
@@ -34,14 +33,8 @@ fn is_plain(text: &[u8]) -> bool
     text.len() <= MAX_PLAIN_LEN && (are_printable(text) && !has_mark(text))
 }
 
-/// Whether a text may stand on one line: at most 200 octets, all 32 to 126.
-pub(crate) fn is_line(text: &[u8]) -> bool
-    ensures { result ≡ is_line text.now }
-{
-    text.len() <= MAX_PLAIN_LEN && are_printable(text)
-}
-
-fn are_printable(text: &[u8]) -> bool
+/// Whether all octets of a text are 32 to 126.
+pub(crate) fn are_printable(text: &[u8]) -> bool
     ensures { result ≡ list_all ascii.is_printable text.now }
 {
     text.iter().all(|octet| is_printable(*octet))

@@ -4,7 +4,9 @@
 mod charset;
 mod decoding;
 mod encoding;
+mod folding;
 pub mod laws;
+mod phrase;
 mod quoted;
 mod run;
 mod word;
@@ -12,4 +14,5 @@ mod written;
 
 pub use decoding::decoded;
 pub use encoding::header_text;
-pub use written::{has_written_words, written_text};
+pub use phrase::has_phrase_words;
+pub use written::{has_written_words, written_lines, written_text};

@@ -1,10 +1,11 @@
 //! Texts in which their writer encoded words.
-ghost use Rattle.std.specs.Prelude.{◌≡◌, IfOk};
+ghost use Rattle.std.specs.Prelude.{◌≡◌, ◌&&◌, IfOk};
 ghost use Rattle.std.specs.List.{list_all};
 ghost use Rattle.encwords.specs.Runs.{runs_of};
 ghost use Rattle.encwords.specs.Written as written;
 
-use crate::encoding::{has_mark, header_text, is_line};
+use crate::encoding::{are_printable, has_mark, header_text};
+use crate::folding::fold;
 use crate::run::{blank_run, nonblank_run};
 use crate::word::word_text;
 use std::alloc::{AllocError, Global};
@@ -12,27 +13,48 @@ use std::alloc::{AllocError, Global};
 /// How many octets an encoded word has at most (RFC 2047, section 2).
 const MAX_WORD_LEN: usize = 75;
 
-/// A text as it is written in a header field, with the words that its writer encoded: itself, where it has at most 200 octets, all
-/// 32 to 126, and each run with `=?` in it is a recognised word of at most 75 octets; else as [`header_text`].
+/// How many octets a run has at most, so that no line of a text has more than 998 (RFC 5322, section 2.1.1).
+const MAX_RUN_LEN: usize = 200;
+
+/// How many octets a text has at most that stands on one line.
+const MAX_LINE_LEN: usize = 200;
+
+/// A text as it is written in a header field, with the words that its writer encoded: where it [has such
+/// words](has_written_words) as [`written_lines`], else as [`header_text`].
 ///
 /// Time is linear in the text; lack of memory is the only error.
 pub fn written_text(alloc: Global, text: &str) -> Result<Vec<u8>, AllocError>
     ensures { IfOk result (λ value. written.IsWrittenText text.now value.items) }
 {
-    if is_line(text.as_bytes()) && has_written_words(alloc, text.as_bytes())? {
-        Vec::from_slice(alloc, text.as_bytes())
+    if has_written_words(alloc, text.as_bytes())? {
+        written_lines(alloc, text.as_bytes())
     } else {
         header_text(alloc, text)
     }
 }
 
-/// Whether `=?` stands in a text, and each run in which it stands is a recognised word of at most 75 octets.
+/// A text with such words as it stands: on one line where it has at most 200 octets, else with a line end before each run of blanks
+/// that stands between other octets.
+///
+/// Time is linear in the text; lack of memory is the only error.
+pub fn written_lines(alloc: Global, text: &[u8]) -> Result<Vec<u8>, AllocError>
+    ensures { IfOk result (λ value. value.items ≡ written.lines_for text.now) }
+{
+    if text.len() <= MAX_LINE_LEN {
+        Vec::from_slice(alloc, text)
+    } else {
+        fold(alloc, text)
+    }
+}
+
+/// Whether `=?` stands in a text, all its octets are 32 to 126, each run has at most 200 of them, and each run with `=?` in it is a
+/// recognised word of at most 75.
 ///
 /// Time is linear in the text; lack of memory is the only error.
 pub fn has_written_words(alloc: Global, text: &[u8]) -> Result<bool, AllocError>
     ensures { IfOk result (λ has. has ≡ written.has_written_words text.now) }
 {
-    if has_mark(text) {
+    if has_mark(text) && are_printable(text) {
         are_written_runs(alloc, text)
     } else {
         Ok(false)
@@ -44,9 +66,9 @@ fn are_written_runs(alloc: Global, text: &[u8]) -> Result<bool, AllocError>
 {
     let mut rest = text;
     while !rest.is_empty() {
-        let (_, tail) = blank_run(rest);
+        let (blanks, tail) = blank_run(rest);
         let (run, after) = nonblank_run(tail);
-        if !is_written_run(alloc, run)? {
+        if !are_written(alloc, blanks, run)? {
             return Ok(false);
         }
         rest = after;
@@ -54,10 +76,23 @@ fn are_written_runs(alloc: Global, text: &[u8]) -> Result<bool, AllocError>
     Ok(true)
 }
 
-/// Whether a run has no `=?`, or is a recognised word of at most 75 octets.
+fn are_written(alloc: Global, blanks: &[u8], run: &[u8]) -> Result<bool, AllocError>
+    ensures { IfOk result (λ are. are ≡ (written.is_written_run blanks.now && written.is_written_run run.now)) }
+{
+    if is_written_run(alloc, blanks)? {
+        is_written_run(alloc, run)
+    } else {
+        Ok(false)
+    }
+}
+
+/// Whether a run has at most 200 octets, and no `=?` or is a recognised word of at most 75 octets.
 fn is_written_run(alloc: Global, run: &[u8]) -> Result<bool, AllocError>
     ensures { IfOk result (λ is. is ≡ written.is_written_run run.now) }
 {
+    if run.len() > MAX_RUN_LEN {
+        return Ok(false);
+    }
     if !has_mark(run) {
         return Ok(true);
     }

@@ -27,7 +27,8 @@ long = (refl, refl, refl, refl)
 
 -- atoms and words that the script's writer encoded; a mark that stands in no atom, and atoms alone
 phrases : (is_phrase (codes "Anna =?US-ASCII?Q?B?=") ≡ true) × (is_phrase (codes "Dr. =?US-ASCII?Q?B?=") ≡ false) × (is_phrase (codes "=?US-ASCII?Q?a,b?=") ≡ false) × (is_phrase (codes "Anna B") ≡ false)
-phrases = (refl, refl, refl, refl)
+    × (is_phrase (codes "=?US-ASCII?Q?it's?= B") ≡ false) × (is_phrase (codes "O'Brien =?US-ASCII?Q?B?=") ≡ true)
+phrases = (refl, refl, refl, refl, refl, refl)
 
 displays : (is_quotable (codes "Alice \"A\"") ≡ true) × (is_quotable (9 ∷ []) ≡ false) × (is_quotable (195 ∷ (169 ∷ [])) ≡ false)
 displays = (refl, refl, refl)

@@ -17,16 +17,16 @@ one_worded : (text one two : List ℕ) → IsWorded text one → IsWorded text t
 one_worded text one two first second =
     first.spelled ∙ (ap words_for (pieces_only text first.pieces second.pieces first.cut second.cut) ∙ sym second.spelled)
 
-display_at : (quotable phrase : Bool) (display one two : List ℕ) → is_quotable display ≡ quotable → is_phrase display ≡ phrase → IsDisplay display one → IsDisplay display two → one ≡ two
-display_at true true display one two is was first second = first.phrase is was ∙ sym (second.phrase is was)
-display_at true false display one two is was first second = first.string is was ∙ sym (second.string is was)
-display_at false phrase display one two is was first second = one_worded display one two (first.words is) (second.words is)
+display_at : (phrase quotable : Bool) (display one two : List ℕ) → is_phrase display ≡ phrase → is_quotable display ≡ quotable → IsDisplay display one → IsDisplay display two → one ≡ two
+display_at true quotable display one two is was first second = first.phrase is ∙ sym (second.phrase is)
+display_at false true display one two is was first second = first.string is was ∙ sym (second.string is was)
+display_at false false display one two is was first second = one_worded display one two (first.words is was) (second.words is was)
 
 -- an address has one spelling with its display
 one_named : (display address one two : List ℕ) → IsNamed display address one → IsNamed display address two → one ≡ two
 one_named [] address one two first second = first ∙ sym second
 one_named (octet ∷ rest) address one two (here, (is, spelled)) (there, (was, written)) =
-    spelled ∙ (ap (λ t. t ++ (codes " <" ++ (address ++ codes ">"))) (display_at (is_quotable (octet ∷ rest)) (is_phrase (octet ∷ rest)) (octet ∷ rest) here there refl refl is was) ∙ sym written)
+    spelled ∙ (ap (λ t. t ++ (codes " <" ++ (address ++ codes ">"))) (display_at (is_phrase (octet ∷ rest)) (is_quotable (octet ∷ rest)) (octet ∷ rest) here there refl refl is was) ∙ sym written)
 
 one_from : (from : Option ReplyFrom) (own : Addr) (one two : List ℕ) → IsFrom from own one → IsFrom from own two → one ≡ two
 one_from None own one two first second = first ∙ sym second

@@ -6,7 +6,7 @@ use Rattle.octets.specs.Ascii.{is_printable, trimmed}
 use Rattle.mailhead.specs.Fields.{FieldText}
 use Rattle.mailhead.specs.Heads.{fields_of, unfold_of}
 use Rattle.encwords.specs.Headers.{IsHeaderText, IsWorded}
-use Rattle.encwords.specs.Written.{has_written_words, IsWrittenText}
+use Rattle.encwords.specs.Written.{has_written_words, has_phrase_words, lines_for, IsWrittenText}
 use Rattle.addrparts.specs.declared.address.Addr.{Addr}
 use Rattle.addrparts.specs.Spelling.{spelling, quoted}
 use Rattle.sievesyntax.specs.declared.tree.vacation.VacArgs.{VacArgs}
@@ -50,16 +50,16 @@ is_special octet =
 abbrev pub is_phrase_octet : ℕ → Bool
 is_phrase_octet octet = not (is_special octet)
 
--- atoms, and words that the script's writer encoded (RFC 5322, 3.2.5; RFC 2047, 5); of octets 32 to 126
+-- atoms, and words that the script's writer encoded, as a phrase has them (RFC 5322, 3.2.5; RFC 2047, 5)
 abbrev pub is_phrase : List ℕ → Bool
-is_phrase display = list_all is_phrase_octet display && has_written_words display
+is_phrase display = list_all is_phrase_octet display && (has_phrase_words display && has_written_words display)
 
--- a display with such words is written as it stands where it is a phrase, else as a quoted string (RFC 5322, 3.2.4) where it can be,
--- else as encoded words (RFC 2047, 5)
+-- a phrase with such words is written as it stands, any other display as a quoted string (RFC 5322, 3.2.4) where it can be, else as
+-- encoded words (RFC 2047, 5)
 pub record IsDisplay (display value : List ℕ) : Type 0 where
-  pub phrase : is_quotable display ≡ true → is_phrase display ≡ true → value ≡ display
-  pub string : is_quotable display ≡ true → is_phrase display ≡ false → value ≡ quoted display
-  pub words : is_quotable display ≡ false → IsWorded display value
+  pub phrase : is_phrase display ≡ true → value ≡ lines_for display
+  pub string : is_phrase display ≡ false → is_quotable display ≡ true → value ≡ quoted display
+  pub words : is_phrase display ≡ false → is_quotable display ≡ false → IsWorded display value
 
 -- an address with a display before it, or alone where that is empty
 abbrev pub IsNamed : List ℕ → List ℕ → List ℕ → Type 0

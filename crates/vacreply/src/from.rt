@@ -9,7 +9,7 @@ ghost use Rattle.vacreply.specs.Layout as layout;
 use crate::layout::push_parts;
 use crate::text::usable;
 use addrparts::{Addr, quote, spell};
-use encwords::{has_written_words, header_text};
+use encwords::{has_phrase_words, has_written_words, header_text, written_lines};
 use octets::{Octets, is_printable};
 use sievesyntax::ReplyFrom;
 use std::alloc::{AllocError, Global};
@@ -60,20 +60,20 @@ fn named(alloc: Global, from: &ReplyFrom) -> Result<Octets, AllocError>
 fn display_value(alloc: Global, display: &str) -> Result<Octets, AllocError>
     ensures { IfOk result (layout.IsDisplay display.now) }
 {
-    if !is_quotable(display.as_bytes()) {
-        return Ok(Octets::from_vec(header_text(alloc, display)?));
-    }
     if is_phrase(alloc, display.as_bytes())? {
-        return Octets::from_slice(alloc, display.as_bytes());
+        return Ok(Octets::from_vec(written_lines(alloc, display.as_bytes())?));
     }
-    quoted(alloc, display.as_bytes())
+    if is_quotable(display.as_bytes()) {
+        return quoted(alloc, display.as_bytes());
+    }
+    Ok(Octets::from_vec(header_text(alloc, display)?))
 }
 
-/// Whether a display of octets 32 to 126 is a phrase of atoms and of words that the script's writer encoded.
+/// Whether a display is a phrase of atoms and of words that the script's writer encoded.
 fn is_phrase(alloc: Global, display: &[u8]) -> Result<bool, AllocError>
     ensures { IfOk result (λ is. is ≡ layout.is_phrase display.now) }
 {
-    if are_phrase_octets(display) {
+    if are_phrase_octets(display) && has_phrase_words(display) {
         has_written_words(alloc, display)
     } else {
         Ok(false)

@@ -1,12 +1,13 @@
-use Rattle.std.proofs.Common.{◌∙◌}
+use Rattle.std.proofs.Common.{◌∙◌, refl}
+use Rattle.encwords.specs.Written.{is_written_run}
 use Rattle.encwords.proofs.RunLemmas.{filled, shorter}
-use Rattle.encwords.proofs.WrittenLaws.{run_passed, run_failed}
+use Rattle.encwords.proofs.WrittenLaws.{runs_passed, runs_failed}
 use Rattle.encwords.proofs.written.are_written_runs.Goals as goal
 
 pub returns-then-not-branch : goal.returns-then-not-branch
 returns-then-not-branch c =
-    run_failed c.loop-rest.rest.now _ c.blank_run.result.1.now c.nonblank_run.result.0.now _ c.in_ok-is_written_run.field-0 c.blank_run.ensures.front c.blank_run.ensures.back
-    c.nonblank_run.ensures.front c.nonblank_run.ensures.back c.in_ok-is_written_run.ensures c.if-not-branch.true
+    runs_failed is_written_run c.loop-rest.rest.now c.blank_run.result.0.now c.blank_run.result.1.now c.nonblank_run.result.0.now _ c.in_ok-are_written.field-0 refl
+    c.blank_run.ensures.front c.blank_run.ensures.back c.nonblank_run.ensures.front c.nonblank_run.ensures.back c.in_ok-are_written.ensures c.if-not-branch.true
     ∙ c.loop-rest.invariant
 
 pub loop-rest-smaller : goal.loop-rest-smaller
@@ -16,6 +17,6 @@ loop-rest-smaller c =
 
 pub loop-rest-preserved : goal.loop-rest-preserved
 loop-rest-preserved c =
-    run_passed c.loop-rest.rest.now _ c.blank_run.result.1.now c.nonblank_run.result.0.now _ c.in_ok-is_written_run.field-0 c.blank_run.ensures.front c.blank_run.ensures.back
-    c.nonblank_run.ensures.front c.nonblank_run.ensures.back c.in_ok-is_written_run.ensures c.if-not-branch.false
+    runs_passed is_written_run c.loop-rest.rest.now c.blank_run.result.0.now c.blank_run.result.1.now c.nonblank_run.result.0.now _ c.in_ok-are_written.field-0 refl
+    c.blank_run.ensures.front c.blank_run.ensures.back c.nonblank_run.ensures.front c.nonblank_run.ensures.back c.in_ok-are_written.ensures c.if-not-branch.false
     ∙ c.loop-rest.invariant
