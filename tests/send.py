@@ -379,11 +379,11 @@ def renumbered():
 
     assert b"Subject: one" in hand_over(1, [second], "sieved: alice 1: another message has the number now\n")
     assert [line.split()[:2] for line in house.queue("alice")] == [["1", "redirect"]], house.queue("alice")
-    # It goes next; the same message put in again is the row that goes, and a row that is gone is nothing to tell.
+    # It goes next; the same message put in again is the row that goes, and a row that is gone is told.
     assert b"Subject: two" in hand_over(1, [second], "") and not house.queue("alice")
     house.deliver("alice", text=first)
-    assert b"Subject: one" in hand_over(2, [], "") and not house.queue("alice")
-    return "another message stays in the queue, and goes next; the same one leaves"
+    assert b"Subject: one" in hand_over(2, [], "sieved: alice 2: taken out meanwhile, or the account is closed\n") and not house.queue("alice")
+    return "another message stays in the queue, and goes next; the same one leaves; one that is gone is told"
 
 
 def full():

@@ -16,6 +16,10 @@ pub trait Journal {
     /// Tells that another row has the number of the user's row that was sent: it stays.
     fn tell_changed(&mut self, user: &[u8], id: u64);
 
+    /// Tells that the user's row with the number, which was sent, isn't in the queue of an open account any more: another took it out, or
+    /// closed the account, which keeps it then.
+    fn tell_gone(&mut self, user: &[u8], id: u64);
+
     /// The milliseconds of a clock that never goes back.
     fn uptime(&mut self) -> u64;
 

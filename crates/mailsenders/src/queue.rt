@@ -21,7 +21,7 @@ pub struct Row {
 pub enum TakenOut {
     /// It left its queue.
     Removed,
-    /// No row has its number any more: another took it out.
+    /// No row of an open account has its number any more: another took it out, or closed the account.
     Gone,
     /// Another row has its number now, which stays.
     Changed,

@@ -33,7 +33,7 @@ pub enum Stop {
 }
 
 /// Hands a row's letter to the server. Behind the 250 to its text the row is taken out; where the store refuses that it is tried again for
-/// ten minutes. Another row that has its number by then stays, which is told.
+/// ten minutes. Another row that has its number by then stays. That is told, and so is a row that is gone.
 ///
 /// Time is linear in the message's octets.
 pub fn send_row<Q: Queue, S: Server, J: Journal>(
@@ -85,8 +85,10 @@ pub(crate) fn letter_of(row: &Row) -> Letter<'_>
 
 // What is to be told of a row that was sent and was to be taken out.
 fn tell_taken<J: Journal>(journal: &mut J, row: &Row, taken: TakenOut) {
-    if taken == TakenOut::Changed {
-        journal.tell_changed(row.user.as_slice(), row.id);
+    match taken {
+        TakenOut::Removed => {}
+        TakenOut::Gone => journal.tell_gone(row.user.as_slice(), row.id),
+        TakenOut::Changed => journal.tell_changed(row.user.as_slice(), row.id),
     }
 }
 

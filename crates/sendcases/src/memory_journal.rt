@@ -46,9 +46,9 @@ impl MemoryJournal {
         self.told.extend_from_slice(b"; ")
     }
 
-    fn tell_number(&mut self, id: u64) -> Result<(), AllocError> {
+    fn tell_number(&mut self, id: u64, word: &[u8]) -> Result<(), AllocError> {
         write_decimal(&mut self.told, id)?;
-        self.told.extend_from_slice(b" changed; ")
+        self.told.extend_from_slice(word)
     }
 
     fn tell_code(&mut self, word: &[u8], code: u16) -> Result<(), AllocError> {
@@ -68,7 +68,11 @@ impl Journal for MemoryJournal {
     }
 
     fn tell_changed(&mut self, _user: &[u8], id: u64) {
-        let _ = self.tell_number(id);
+        let _ = self.tell_number(id, b" changed; ");
+    }
+
+    fn tell_gone(&mut self, _user: &[u8], id: u64) {
+        let _ = self.tell_number(id, b" gone; ");
     }
 
     fn uptime(&mut self) -> u64 {

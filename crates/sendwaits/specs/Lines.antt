@@ -35,6 +35,10 @@ refusal_line place ending = ((codes "sieved: " ++ place_text place) ++ cause_tex
 abbrev pub changed_line : Place → List ℕ
 changed_line place = ((codes "sieved: " ++ place_text place) ++ codes ": another message has the number now") ++ 10 ∷ []
 
+-- a row that was sent, and is in the queue of no open account any more
+abbrev pub gone_line : Place → List ℕ
+gone_line place = ((codes "sieved: " ++ place_text place) ++ codes ": taken out meanwhile, or the account is closed") ++ 10 ∷ []
+
 -- the end of a run
 abbrev pub tally_line : ℕ → ℕ → List ℕ
 tally_line sent waiting = (((codes "sent " ++ decimal sent) ++ codes ", wait ") ++ decimal waiting) ++ 10 ∷ []

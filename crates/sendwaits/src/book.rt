@@ -2,7 +2,7 @@
 ghost use Rattle.std.specs.Prelude.{◌≡◌};
 
 use crate::clock::Clock;
-use crate::line::{changed_line, is_for_good, place_line, refusal_line, row_line};
+use crate::line::{changed_line, gone_line, is_for_good, place_line, refusal_line, row_line};
 use crate::place::Place;
 use crate::waits::Waits;
 use mailsenders::{Journal, Unwritten};
@@ -109,6 +109,12 @@ impl<W: Write, E: Write, T: Clock> Journal for Book<'_, W, E, T> {
     fn tell_changed(&mut self, user: &[u8], id: u64) {
         if let Ok(place) = Place::new(self.alloc, user, id) {
             let _ = print(self.errors, changed_line(self.alloc, &place));
+        }
+    }
+
+    fn tell_gone(&mut self, user: &[u8], id: u64) {
+        if let Ok(place) = Place::new(self.alloc, user, id) {
+            let _ = print(self.errors, gone_line(self.alloc, &place));
         }
     }
 

@@ -60,6 +60,19 @@ pub fn changed_line(alloc: Global, place: &Place) -> Result<Octets, AllocError>
     Ok(line)
 }
 
+/// The line on a row that was sent, and is in the queue of no open account any more: `sieved: USER ID: taken out meanwhile, or the account
+/// is closed`. Lack of memory is the only error.
+pub fn gone_line(alloc: Global, place: &Place) -> Result<Octets, AllocError>
+    ensures { IfOk result (λ line. line ≡ s.gone_line place.now) }
+{
+    let mut line = Octets::new(alloc);
+    line.extend_from_slice(b"sieved: ")?;
+    put_place(&mut line, place)?;
+    line.extend_from_slice(b": taken out meanwhile, or the account is closed")?;
+    line.push(b'\n')?;
+    Ok(line)
+}
+
 /// The line at the end of a run: `sent N, wait M`. Lack of memory is the only error.
 pub fn tally_line(alloc: Global, sent: u64, waiting: u64) -> Result<Octets, AllocError>
     ensures { IfOk result (λ line. line ≡ s.tally_line sent waiting) }
