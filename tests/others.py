@@ -281,6 +281,24 @@ def breeds():
     return beside(prepare)
 
 
+def seventy():
+    """50 clients that put scripts of 260 kB and 20 that send messages of 33 MB with a header as large as one may be: how much the daemon holds."""
+    text = headed(b"a:\r\n" * (HEADER // 4)) + (b"y" * 70 + b"\r\n") * 440_000
+    script = b"# %s\r\n" % (b"x" * 70) * 3_500 + b"keep;\r\n"
+    daemon = Daemon()
+
+    def puts():
+        client = daemon.log_in("alice")
+        while True:
+            client.put(b"b", script)
+    daemon.activate("alice", b'if header :contains "a" "x" { stop; }\r\n')
+    with Beside(*[puts] * 49, *[sends(daemon, text, b"alice")] * 20):
+        time.sleep(4 if trials.QUICK else 20)
+    most = daemon.stop()
+    assert most < 350_000, most
+    return f"{most / 1000:.0f} MB"
+
+
 # ---- drawn ones
 
 def drawn_text(dice, size):
@@ -341,5 +359,5 @@ def drawn():
 
 if __name__ == "__main__":
     come_first()
-    TRIALS = [keys, pattern, addresses, fields, rules, stars, largest, recipients, large, mailboxes, silent, logins, away, twenty, details, breeds, drawn]
+    TRIALS = [keys, pattern, addresses, fields, rules, stars, largest, recipients, large, mailboxes, silent, logins, away, twenty, details, breeds, seventy, drawn]
     trials.main({trial.__name__: trial for trial in TRIALS}, lambda program: PROGRAM.__setitem__(0, program))
