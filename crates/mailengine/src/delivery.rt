@@ -73,8 +73,8 @@ pub fn deliver<S: Alter>(
     }
     let found = looked?;
     if has_long_header(message) {
-        let plan = plan_unread(alloc, message, &envelope, when)?;
-        return carry_out(store, user, plan);
+        let unread = plan_unread(alloc, message, &envelope, when)?;
+        return carry_out(store, user, unread);
     }
     let mail = Mail::read(alloc, message, envelope, when)?;
     let plan = plan(alloc, &found.view, deciding(&found.text, default), &mail)?;
