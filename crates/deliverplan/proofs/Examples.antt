@@ -65,13 +65,13 @@ looping_without_script = refl
 long_headers : (at above : List ℕ) → body_start at ≡ 1048576 → body_start above ≡ 1048577 → (has_long_header at ≡ false) × (has_long_header above ≡ true)
 long_headers at above is was = (ap (nat_lt max_header) is, ap (nat_lt max_header) was)
 
--- it goes before the count and the script; near miss: the user is told of a loop
+-- it goes before the count and the script; near miss: the message is kept, and nobody told
 long_before_all : (text : Option (List ℕ)) (mail : MailSpec) → has_long_header mail.octets ≡ true → Disposes text mail (Tells long_text)
 long_before_all text mail long = subst (λ is_long. DisposesBehind is_long text mail (Tells long_text)) (sym long) refl
 
-long_told_as_loop : (text : Option (List ℕ)) (mail : MailSpec) → has_long_header mail.octets ≡ true → Disposes text mail (Tells loop_text) → ⊥
-long_told_as_loop text mail long is =
-    let told : Tells loop_text ≡ Tells long_text = subst (λ is_long. DisposesBehind is_long text mail (Tells loop_text)) long is in
+long_kept_untold : (text : Option (List ℕ)) (mail : MailSpec) → has_long_header mail.octets ≡ true → Disposes text mail (Acts kept) → ⊥
+long_kept_untold text mail long is =
+    let told : Acts kept ≡ Tells long_text = subst (λ is_long. DisposesBehind is_long text mail (Acts kept)) long is in
     cc
 
 failures : (disposition_of (Failed TwoVacations) ≡ Tells (codes "vacation executed twice")) × ((disposition_of (Failed TooManyRedirects) ≡ Tells (codes "more than 16 redirects")) × ((disposition_of (Failed TooManyMailboxes) ≡ Tells (codes "more than 100 mailboxes")) × (disposition_of (Failed TooMuchWork) ≡ Tells (codes "script takes too much work"))))

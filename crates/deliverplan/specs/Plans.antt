@@ -49,8 +49,8 @@ pub record IsActingPlan (own : Addr) (moment : ℕ) (mail : MailSpec) (last : Li
   pub reply : plan.reply ≡ reply_of response
 
 -- a plan that files the message into INBOX and leaves a notice
-pub record IsNoticePlan (moment : ℕ) (message text : List ℕ) (plan : Plan) : Type 0 where
-  pub message : plan.message.now ≡ message
+pub record IsNoticePlan (moment : ℕ) (octets text : List ℕ) (plan : Plan) : Type 0 where
+  pub message : plan.message.now ≡ octets
   pub at : plan.moment ≡ moment
   pub filed : plan.filed ≡ unflagged inbox ∷ []
   pub report : plan.report ≡ notice_report text
