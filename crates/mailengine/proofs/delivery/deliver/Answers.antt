@@ -1,4 +1,4 @@
-use Rattle.std.proofs.Common.{◌≡◌, ◌≤◌, None, Ok, Err, OnOk, IfErr, refl, sym, ◌∙◌, subst, rules}
+use Rattle.std.proofs.Common.{◌≡◌, ◌≤◌, false, None, Ok, Err, OnOk, IfErr, refl, sym, ◌∙◌, subst, rules}
 use Rattle.sqlite.specs.Held.{state}
 use Rattle.mailstore.specs.declared.refusal.Refusal.TheVariants.{NoUser}
 use Rattle.mailstore.specs.declared.report.Report.{Report}
@@ -12,6 +12,7 @@ use Rattle.mailstore.specs.Cells.{contents}
 use Rattle.mailengine.specs.AccountEvents.{text_or}
 use Rattle.mailengine.specs.Terms.{terms_of}
 use Rattle.sieveexec.specs.Mails.{MailSpec}
+use Rattle.deliverplan.specs.Delivered.{has_long_header}
 use Rattle.mailengine.proofs.delivery.deliver.Goals as goal
 
 pub returns-in-Some-clause-acts : goal.returns-in-Some-clause-acts
@@ -96,7 +97,10 @@ pub returns-in_err-mail-clause-spaced : goal.returns-in_err-mail-clause-spaced
 returns-in_err-mail-clause-spaced g c = delivery_spaced c.args.user.now c.args.envelope c.args.message.now (terms_of c.args.when c.args.default) (state g.S.Store c.args.store.now) (state g.S.Store c.look_up-looked.new.store) c.from_residual-in_err-mail.result (returns-in_err-mail-clause-acts g c)
 
 pub plan-requires : goal.plan-requires
-plan-requires g c = subst (λ (mail : MailSpec). mail.moment ≤ 253402300799) (sym c.in_ok-mail.ensures) (moment_fits c.args.envelope c.args.message.now c.args.when.moment (sym c.limit_refusal.ensures ∙ c.in_default.is))
+plan-requires g c = record {
+  short = subst (λ (mail : MailSpec). has_long_header mail.octets ≡ false) (sym c.in_ok-mail.ensures) (sym c.has_long_header.ensures ∙ c.if-has_long_header.false);
+  early = subst (λ (mail : MailSpec). mail.moment ≤ 253402300799) (sym c.in_ok-mail.ensures) (moment_fits c.args.envelope c.args.message.now c.args.when.moment (sym c.limit_refusal.ensures ∙ c.in_default.is));
+}
 
 pub returns-in_err-plan-clause-acts : goal.returns-in_err-plan-clause-acts
 returns-in_err-plan-clause-acts g c =
