@@ -78,7 +78,13 @@ pub fn plan_unread<'m>(
     ensures { IfOk result (λ plan. (own : Address) (text : Option (List ℕ)) (a : Account)
         → Delivers own (mail_of message.now envelope.now when) text a plan.report (delivers plan a)) }
 {
-    tell(alloc, message, envelope.from.as_slice(), when.moment, LONG_TEXT)
+    tell(
+        alloc,
+        message,
+        envelope.from.as_slice(),
+        when.moment,
+        LONG_TEXT,
+    )
 }
 
 /// The mail's message joins INBOX, and the user is left a notice.

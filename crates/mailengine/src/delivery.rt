@@ -117,11 +117,7 @@ fn look_up<S: Alter>(
 }
 
 /// Writes the delivery, and tells what it reports.
-fn carry_out<S: Alter>(
-    store: &mut Store<S>,
-    user: &[u8],
-    plan: Plan<'_>,
-) -> Result<Report, Refusal>
+fn carry_out<S: Alter>(store: &mut Store<S>, user: &[u8], plan: Plan<'_>) -> Result<Report, Refusal>
     ensures writes { WritesAccount user.now (delivers plan.entry) (state S.Store store.old) (state S.Store store.new) result }
     ensures told { IfOk result (λ report. report ≡ plan.entry.report) }
     ensures named { IfErr result IsTransient }
