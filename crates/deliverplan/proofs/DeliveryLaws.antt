@@ -14,7 +14,7 @@ use Rattle.vacreply.proofs.ReplyLaws.{one_reply}
 use Rattle.mailstore.specs.Account.{Account, latest}
 use Rattle.mailstore.specs.declared.report.Report.{Report}
 use Rattle.deliverplan.specs.Views.{last_reply}
-use Rattle.deliverplan.specs.Delivered.{Disposition, Acts, Tells, DisposesIf, disposition_of, is_looping, Response, Sent, Follows, Responds, acts, responds, report_of, CarriesOut, DeliversAs, Delivers}
+use Rattle.deliverplan.specs.Delivered.{Disposition, Acts, Tells, DisposesIf, DisposesBehind, disposition_of, has_long_header, is_looping, Response, Sent, Follows, Responds, acts, responds, report_of, CarriesOut, DeliversAs, Delivers}
 
 -- a message comes to one disposition
 one_disposition : (looping : Bool) (text : Option (List ℕ)) (mail : MailSpec) (one two : Disposition)
@@ -26,6 +26,11 @@ one_disposition false (Some text) mail one two (inl (tree, means, is)) (inl (oth
 one_disposition false (Some text) mail one two (inl (tree, means, is)) (inr (none, was)) = absurd (none tree means)
 one_disposition false (Some text) mail one two (inr (none, is)) (inl (tree, means, was)) = absurd (none tree means)
 one_disposition false (Some text) mail one two (inr (none, is)) (inr (nothing, was)) = is ∙ sym was
+
+one_behind : (long : Bool) (text : Option (List ℕ)) (mail : MailSpec) (one two : Disposition)
+    → DisposesBehind long text mail one → DisposesBehind long text mail two → one ≡ two
+one_behind true text mail one two is was = is ∙ sym was
+one_behind false text mail one two is was = one_disposition (is_looping mail) text mail one two is was
 
 -- one response follows from a decision
 one_follows : (own : Addr) (moment : ℕ) (mail : MailSpec) (args : VacArgs) (last : Option ℕ) (decision : Decision) (one two : Response)
@@ -55,5 +60,5 @@ pub one_delivery : (own : Addr) (mail : MailSpec) (text : Option (List ℕ)) (a 
     → Delivers own mail text a one after → Delivers own mail text a two other → (one ≡ two) × (after ≡ other)
 one_delivery own mail text a one two after other is was =
     let P : Disposition → Type 0 = λ d. DeliversAs own mail.moment mail d a one after in
-    let same = one_disposition (is_looping mail) text mail is.disposition was.disposition is.disposes was.disposes in
+    let same = one_behind (has_long_header mail.octets) text mail is.disposition was.disposition is.disposes was.disposes in
     one_delivered own mail.moment mail was.disposition a one two after other (subst P same is.delivers) was.delivers

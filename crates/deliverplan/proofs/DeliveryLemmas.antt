@@ -12,56 +12,74 @@ use Rattle.mailstore.specs.Account.{Account, delivers}
 use Rattle.mailstore.specs.declared.report.Plan.{Plan}
 use Rattle.deliverplan.specs.declared.view.View.{View}
 use Rattle.deliverplan.specs.Views.{IsViewOf, moment_under}
-use Rattle.deliverplan.specs.Delivered.{Disposition, Acts, Tells, Disposes, DisposesIf, DisposesUnder, Delivers, disposition_of, failure_text, invalid_text, is_looping, kept, loop_text}
+use Rattle.deliverplan.specs.Delivered.{Disposition, Acts, Tells, Disposes, DisposesIf, DisposesBehind, DisposesUnder, Delivers, disposition_of, failure_text, has_long_header, invalid_text, is_looping, kept, long_text, loop_text}
 use Rattle.deliverplan.specs.Plans.{IsActingPlan, IsNoticePlan}
 use Rattle.deliverplan.proofs.PlanLemmas.{acting, telling}
 
--- a message that isn't going round in a loop
-at_ease : (text : Option (List ℕ)) (mail : MailSpec) (disposition : Disposition) → is_looping mail ≡ false → DisposesUnder text mail disposition → Disposes text mail disposition
-at_ease text mail disposition calm is =
+-- the mail has no long header, and isn't going round in a loop
+pub record IsPlain (mail : MailSpec) : Type 0 where
+  pub short : has_long_header mail.octets ≡ false
+  pub calm : is_looping mail ≡ false
+
+-- a message without a long header
+behind : (text : Option (List ℕ)) (mail : MailSpec) (disposition : Disposition) → has_long_header mail.octets ≡ false → DisposesIf (is_looping mail) text mail disposition
+    → Disposes text mail disposition
+behind text mail disposition short is =
+    let P : Bool → Type 0 = λ long. DisposesBehind long text mail disposition in
+    subst P (sym short) is
+
+at_ease : (text : Option (List ℕ)) (mail : MailSpec) (disposition : Disposition) → IsPlain mail → DisposesUnder text mail disposition → Disposes text mail disposition
+at_ease text mail disposition plain is =
     let P : Bool → Type 0 = λ looping. DisposesIf looping text mail disposition in
-    subst P (sym calm) is
+    behind text mail disposition plain.short (subst P (sym plain.calm) is)
+
+-- a message with a long header
+pub unread : (own : Addr) (mail : MailSpec) (text : Option (List ℕ)) (plan : Plan) (a : Account)
+    → has_long_header mail.octets ≡ true → IsNoticePlan mail.moment mail.octets long_text plan → Delivers own mail text a plan.report (delivers plan a)
+unread own mail text plan a long is =
+    let P : Bool → Type 0 = λ long. DisposesBehind long text mail (Tells long_text) in
+    record { disposition = Tells long_text; disposes = subst P (sym long) refl; delivers = telling mail.moment mail long_text plan a is }
 
 pub looping : (own : Addr) (mail : MailSpec) (text : Option (List ℕ)) (plan : Plan) (a : Account)
-    → is_looping mail ≡ true → IsNoticePlan mail.moment mail loop_text plan → Delivers own mail text a plan.report (delivers plan a)
-looping own mail text plan a loops is =
+    → has_long_header mail.octets ≡ false → is_looping mail ≡ true → IsNoticePlan mail.moment mail.octets loop_text plan → Delivers own mail text a plan.report (delivers plan a)
+looping own mail text plan a short loops is =
     let P : Bool → Type 0 = λ looping. DisposesIf looping text mail (Tells loop_text) in
-    record { disposition = Tells loop_text; disposes = subst P (sym loops) refl; delivers = telling mail.moment mail loop_text plan a is }
+    record { disposition = Tells loop_text; disposes = behind text mail (Tells loop_text) short (subst P (sym loops) refl); delivers = telling mail.moment mail loop_text plan a is }
 
 pub keeping : (view : View) (mail : MailSpec) (plan : Plan) (a : Account)
-    → is_looping mail ≡ false → IsActingPlan view.address mail.moment mail (moment_under view.replies) kept plan → IsViewOf view mail.from a
+    → IsPlain mail → IsActingPlan view.address mail.moment mail (moment_under view.replies) kept plan → IsViewOf view mail.from a
     → Delivers view.address mail None a plan.report (delivers plan a)
-keeping view mail plan a calm is of =
-    record { disposition = Acts kept; disposes = at_ease None mail (Acts kept) calm refl; delivers = acting view mail.moment mail kept plan a is of }
+keeping view mail plan a plain is of =
+    record { disposition = Acts kept; disposes = at_ease None mail (Acts kept) plain refl; delivers = acting view mail.moment mail kept plan a is of }
 
 pub running : (view : View) (mail : MailSpec) (text : List ℕ) (tree : Commands) (deeds done : Actions) (plan : Plan) (a : Account)
-    → is_looping mail ≡ false → Means text tree → deeds ≡ done → Done done ≡ outcome_at mail tree
+    → IsPlain mail → Means text tree → deeds ≡ done → Done done ≡ outcome_at mail tree
     → IsActingPlan view.address mail.moment mail (moment_under view.replies) deeds plan → IsViewOf view mail.from a
     → Delivers view.address mail (Some text) a plan.report (delivers plan a)
-running view mail text tree deeds done plan a calm means same comes is of =
+running view mail text tree deeds done plan a plain means same comes is of =
     record {
       disposition = Acts deeds;
-      disposes = at_ease (Some text) mail (Acts deeds) calm (inl (tree, means, ap (λ d. Acts d) same ∙ ap disposition_of comes));
+      disposes = at_ease (Some text) mail (Acts deeds) plain (inl (tree, means, ap (λ d. Acts d) same ∙ ap disposition_of comes));
       delivers = acting view mail.moment mail deeds plan a is of;
     }
 
 pub failing : (own : Addr) (mail : MailSpec) (text : List ℕ) (tree : Commands) (failure : Failure) (plan : Plan) (a : Account)
-    → is_looping mail ≡ false → Means text tree → Failed failure ≡ outcome_at mail tree → IsNoticePlan mail.moment mail (failure_text failure) plan
+    → IsPlain mail → Means text tree → Failed failure ≡ outcome_at mail tree → IsNoticePlan mail.moment mail.octets (failure_text failure) plan
     → Delivers own mail (Some text) a plan.report (delivers plan a)
-failing own mail text tree failure plan a calm means comes is =
+failing own mail text tree failure plan a plain means comes is =
     record {
       disposition = Tells (failure_text failure);
-      disposes = at_ease (Some text) mail (Tells (failure_text failure)) calm (inl (tree, means, ap disposition_of comes));
+      disposes = at_ease (Some text) mail (Tells (failure_text failure)) plain (inl (tree, means, ap disposition_of comes));
       delivers = telling mail.moment mail (failure_text failure) plan a is;
     }
 
 pub refusing : (own : Addr) (mail : MailSpec) (text : List ℕ) (plan : Plan) (a : Account)
-    → is_looping mail ≡ false → ((tree : Commands) → Means text tree → ⊥) → IsNoticePlan mail.moment mail invalid_text plan
+    → IsPlain mail → ((tree : Commands) → Means text tree → ⊥) → IsNoticePlan mail.moment mail.octets invalid_text plan
     → Delivers own mail (Some text) a plan.report (delivers plan a)
-refusing own mail text plan a calm none is =
+refusing own mail text plan a plain none is =
     record {
       disposition = Tells invalid_text;
-      disposes = at_ease (Some text) mail (Tells invalid_text) calm (inr (none, refl));
+      disposes = at_ease (Some text) mail (Tells invalid_text) plain (inr (none, refl));
       delivers = telling mail.moment mail invalid_text plan a is;
     }
 

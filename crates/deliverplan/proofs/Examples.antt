@@ -1,7 +1,8 @@
 -- The definitions on small cases: one that is right, and one that nearly is.
-use Rattle.std.proofs.Common.{◌≡◌, ℕ, suc, true, false, List, [], ◌∷◌, ◌++◌, codes, Some, None, refl, ap, pos}
-use Rattle.std.specs.Prelude.{replicate}
+use Rattle.std.proofs.Common.{◌≡◌, ℕ, suc, true, false, List, [], ◌∷◌, ◌++◌, codes, Some, None, refl, ap, sym, subst, pos}
+use Rattle.std.specs.Prelude.{Option, nat_lt, replicate}
 use Rattle.mailhead.specs.Fields.{FieldText}
+use Rattle.mailhead.specs.Heads.{body_start}
 use Rattle.addrparts.specs.declared.address.Addr.{Addr}
 use Rattle.mailflags.specs.declared.placement.Placement.{Placement}
 use Rattle.sievesyntax.specs.RunState.{TwoVacations, TooManyRedirects, TooManyMailboxes, TooMuchWork, inbox}
@@ -13,7 +14,7 @@ use Rattle.mailstore.specs.Account.{Account, latest, files_copies, notes, rememb
 use Rattle.mailtables.specs.declared.queue.Kind.TheVariants.{Redirect, Reply}
 use Rattle.mailstore.specs.declared.report.VacationReport.TheVariants as V
 use Rattle.deliverplan.specs.Views.{moment_under}
-use Rattle.deliverplan.specs.Delivered.{Acts, Tells, Disposes, disposition_of, invalid_text, is_looping, is_received, kept, loop_text, Silent, Quiet, Sent, Responds, responds, redirects, report_of, notice_report, Delivers, unflagged}
+use Rattle.deliverplan.specs.Delivered.{Acts, Tells, Disposes, DisposesBehind, disposition_of, has_long_header, invalid_text, is_looping, is_received, kept, long_text, loop_text, max_header, Silent, Quiet, Sent, Responds, responds, redirects, report_of, notice_report, Delivers, unflagged}
 use Rattle.deliverplan.proofs.DeliveryLaws.{one_delivery}
 
 abbrev alice : Addr
@@ -59,6 +60,19 @@ told_without_script same = cc
 -- the count goes before the script, also where there is none
 looping_without_script : Disposes None (mail_with bob (replicate 101 (field (codes "Received")))) (Tells loop_text)
 looping_without_script = refl
+
+-- a header at the limit is read, and one an octet above it isn't
+long_headers : (at above : List ℕ) → body_start at ≡ 1048576 → body_start above ≡ 1048577 → (has_long_header at ≡ false) × (has_long_header above ≡ true)
+long_headers at above is was = (ap (nat_lt max_header) is, ap (nat_lt max_header) was)
+
+-- it goes before the count and the script; near miss: the message is kept, and nobody told
+long_before_all : (text : Option (List ℕ)) (mail : MailSpec) → has_long_header mail.octets ≡ true → Disposes text mail (Tells long_text)
+long_before_all text mail long = subst (λ is_long. DisposesBehind is_long text mail (Tells long_text)) (sym long) refl
+
+long_kept_untold : (text : Option (List ℕ)) (mail : MailSpec) → has_long_header mail.octets ≡ true → Disposes text mail (Acts kept) → ⊥
+long_kept_untold text mail long is =
+    let told : Acts kept ≡ Tells long_text = subst (λ is_long. DisposesBehind is_long text mail (Acts kept)) long is in
+    cc
 
 failures : (disposition_of (Failed TwoVacations) ≡ Tells (codes "vacation executed twice")) × ((disposition_of (Failed TooManyRedirects) ≡ Tells (codes "more than 16 redirects")) × ((disposition_of (Failed TooManyMailboxes) ≡ Tells (codes "more than 100 mailboxes")) × (disposition_of (Failed TooMuchWork) ≡ Tells (codes "script takes too much work"))))
 failures = (refl, (refl, (refl, refl)))

@@ -49,6 +49,6 @@ acting view moment mail deeds plan a is of =
     }
 
 pub telling : (moment : ℕ) (mail : MailSpec) (text : List ℕ) (plan : Plan) (a : Account)
-    → IsNoticePlan moment mail text plan → LeavesNotice moment mail text a plan.report (delivers plan a)
+    → IsNoticePlan moment mail.octets text plan → LeavesNotice moment mail text a plan.report (delivers plan a)
 telling moment mail text plan a is =
     record { reported = is.report; changed = rw (is.filed, is.report, is.reply, is.message, is.at) refl }

@@ -2,6 +2,7 @@
 use Rattle.std.specs.Prelude.{◌≡◌, ℕ, ◌⊎◌, nat_lt, Bool, true, false, List, [], ◌∷◌, map, codes, count_by, Option, None, Some}
 use Rattle.std.specs.List.{fold}
 use Rattle.mailhead.specs.Fields.{FieldText}
+use Rattle.mailhead.specs.Heads.{body_start}
 use Rattle.addrparts.specs.declared.address.Addr.{Addr}
 use Rattle.addrparts.specs.Spelling.{spelling}
 use Rattle.mailflags.specs.declared.placement.Placement.{Placement}
@@ -44,6 +45,10 @@ failure_text TooMuchWork = codes "script takes too much work"
 abbrev pub loop_text : List ℕ
 loop_text = codes "more than 100 Received fields"
 
+-- the notice on a message with a long header
+abbrev pub long_text : List ℕ
+long_text = codes "header larger than 1 MiB"
+
 -- the notice on an active text that means no tree
 abbrev pub invalid_text : List ℕ
 invalid_text = codes "script is not valid"
@@ -55,6 +60,14 @@ is_received field = same_text (codes "received") field.name
 -- more than 100 of them: the message may go round in a loop (RFC 5321, 6.3)
 abbrev pub is_looping : MailSpec → Bool
 is_looping mail = nat_lt 100 (count_by is_received mail.fields)
+
+-- the most octets of a header whose fields are read, with the empty line that ends it: 1 MiB
+abbrev pub max_header : ℕ
+max_header = 1048576
+
+-- whether a message's header has more; where no line is empty all of the message is its header (RFC 5322, 2.1)
+abbrev pub has_long_header : List ℕ → Bool
+has_long_header message = nat_lt max_header (body_start message)
 
 abbrev pub disposition_of : Outcome → Disposition
 disposition_of (Done deeds) = Acts deeds
@@ -84,8 +97,13 @@ abbrev pub DisposesIf : Bool → Option (List ℕ) → MailSpec → Disposition 
 DisposesIf true text mail disposition = disposition ≡ Tells loop_text
 DisposesIf false text mail disposition = DisposesUnder text mail disposition
 
+-- nor does one with a long header, of which no field is looked at
+abbrev pub DisposesBehind : Bool → Option (List ℕ) → MailSpec → Disposition → Type 0
+DisposesBehind true text mail disposition = disposition ≡ Tells long_text
+DisposesBehind false text mail disposition = DisposesIf (is_looping mail) text mail disposition
+
 abbrev pub Disposes : Option (List ℕ) → MailSpec → Disposition → Type 0
-Disposes text mail disposition = DisposesIf (is_looping mail) text mail disposition
+Disposes text mail disposition = DisposesBehind (has_long_header mail.octets) text mail disposition
 
 -- ---- the response to the sender
 

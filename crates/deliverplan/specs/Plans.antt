@@ -48,9 +48,9 @@ pub record IsActingPlan (own : Addr) (moment : ℕ) (mail : MailSpec) (last : Li
   pub report : plan.report ≡ report_of deeds response
   pub reply : plan.reply ≡ reply_of response
 
--- a plan that files into INBOX and leaves a notice
-pub record IsNoticePlan (moment : ℕ) (mail : MailSpec) (text : List ℕ) (plan : Plan) : Type 0 where
-  pub message : plan.message.now ≡ mail.octets
+-- a plan that files the message into INBOX and leaves a notice
+pub record IsNoticePlan (moment : ℕ) (octets text : List ℕ) (plan : Plan) : Type 0 where
+  pub message : plan.message.now ≡ octets
   pub at : plan.moment ≡ moment
   pub filed : plan.filed ≡ unflagged inbox ∷ []
   pub report : plan.report ≡ notice_report text

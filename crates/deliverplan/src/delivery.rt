@@ -1,14 +1,16 @@
 //! What a delivery is to write and to report.
-ghost use Rattle.std.specs.Prelude.{◌≡◌, ◌≤◌, IfOk, option_copied};
+ghost use Rattle.std.specs.Prelude.{◌≡◌, ◌≤◌, ℕ, true, false, IfOk, List, Option, option_copied};
+ghost use Rattle.addrparts.specs.declared.address.Addr.{Addr as Address};
+ghost use Rattle.sieveexec.specs.Mails.{mail_of};
 ghost use Rattle.sievesyntax.specs.Meaning.{Actions};
 ghost use Rattle.mailstore.specs.Account.{Account, delivers};
 ghost use Rattle.mailstore.specs.Cells.{contents};
-ghost use Rattle.deliverplan.specs.Delivered.{Delivers};
+ghost use Rattle.deliverplan.specs.Delivered.{Delivers, has_long_header};
 ghost use Rattle.deliverplan.specs.Plans.{IsActingPlan, IsNoticePlan};
 ghost use Rattle.deliverplan.specs.Views.{IsViewOf, moment_under};
 
 use crate::looping::is_looping;
-use crate::notice::{INVALID_TEXT, LOOP_TEXT, failure_text};
+use crate::notice::{INVALID_TEXT, LONG_TEXT, LOOP_TEXT, failure_text};
 use crate::outcome::outcome_on;
 use crate::texts::{inbox, mailboxes, spelled};
 use crate::vacation::{VacationPlan, plan_vacation};
@@ -17,7 +19,7 @@ use addrparts::Addr;
 use mailflags::Placement;
 use mailstore::{Plan, Report, VacationReport};
 use octets::{List, Octets, Texts};
-use sieveexec::{Mail, Outcome};
+use sieveexec::{Envelope, Mail, Outcome, When};
 use sievelex::ScriptError;
 use sievesyntax::VacArgs;
 use std::alloc::{AllocError, Global};
@@ -25,7 +27,7 @@ use vacreply::MAX_MOMENT;
 
 /// What a delivery of a mail is to write and to report, under the text of the account's active script, if one is active.
 ///
-/// The mail's moment is at most [`MAX_MOMENT`]. The text is checked, compiled and run once; the
+/// The mail's moment is at most [`MAX_MOMENT`], and its header isn't long (`has_long_header`). The text is checked, compiled and run once; the
 /// fields are looked through once more for Received, and where a `vacation` was executed for the reasons to send no
 /// response. The message and the sender are borrowed: no copy of the message is made. Lack of memory is the only error;
 /// a `:subject` or `:from` of 2^32 octets and more, which no script within the limits has, is answered so too.
@@ -35,7 +37,8 @@ pub fn plan<'m>(
     active: Option<&[u8]>,
     mail: &'m Mail<'_>,
 ) -> Result<Plan<'m>, AllocError>
-    requires { mail.now.moment ≤ MAX_MOMENT }
+    requires short { has_long_header mail.now.octets ≡ false }
+    requires early { mail.now.moment ≤ MAX_MOMENT }
     ensures { IfOk result (λ plan. (a : Account) → IsViewOf view.now mail.now.from a
         → Delivers view.now.address mail.now (contents active.entry) a plan.report (delivers plan a)) }
 {
@@ -61,17 +64,53 @@ pub fn plan<'m>(
     }
 }
 
-/// The message joins INBOX, and the user is left a notice.
+/// What a delivery of a message with a long header is to write and to report, whatever account and script there are: no field of
+/// it is read.
+///
+/// Takes no memory but that of the notice and of INBOX's name. Lack of memory is the only error.
+pub fn plan_unread<'m>(
+    alloc: Global,
+    message: &'m [u8],
+    envelope: &'m Envelope,
+    when: When,
+) -> Result<Plan<'m>, AllocError>
+    requires { has_long_header message.now ≡ true }
+    ensures { IfOk result (λ plan. (own : Address) (text : Option (List ℕ)) (a : Account)
+        → Delivers own (mail_of message.now envelope.now when) text a plan.report (delivers plan a)) }
+{
+    tell(
+        alloc,
+        message,
+        envelope.from.as_slice(),
+        when.moment,
+        LONG_TEXT,
+    )
+}
+
+/// The mail's message joins INBOX, and the user is left a notice.
 fn leave_notice<'m>(alloc: Global, mail: &'m Mail<'_>, text: &[u8]) -> Result<Plan<'m>, AllocError>
-    ensures { IfOk result (IsNoticePlan mail.now.moment mail.now text.now) }
+    ensures { IfOk result (IsNoticePlan mail.now.moment mail.now.octets text.now) }
+{
+    tell(alloc, mail.message(), mail.from(), mail.moment(), text)
+}
+
+/// The message joins INBOX, and the user is left a notice.
+fn tell<'m>(
+    alloc: Global,
+    message: &'m [u8],
+    sender: &'m [u8],
+    moment: u64,
+    text: &[u8],
+) -> Result<Plan<'m>, AllocError>
+    ensures { IfOk result (IsNoticePlan moment message.now text.now) }
 {
     let filed = inbox(alloc)?;
     let names = mailboxes(alloc, filed.as_slice())?;
     let notice = Octets::from_slice(alloc, text)?;
     Ok(Plan {
-        message: mail.message(),
-        sender: mail.from(),
-        moment: mail.moment(),
+        message,
+        sender,
+        moment,
         filed,
         report: Report {
             filed: names,

@@ -3,6 +3,7 @@
 
 mod delivery;
 pub mod laws;
+mod long_header;
 mod looping;
 mod notice;
 mod outcome;
@@ -10,7 +11,8 @@ mod texts;
 mod vacation;
 mod view;
 
-pub use delivery::plan;
+pub use delivery::{plan, plan_unread};
+pub use long_header::has_long_header;
 pub use mailstore::KeptReply;
 pub use notice::failure_text;
 pub use outcome::outcome_on;

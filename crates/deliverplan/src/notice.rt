@@ -8,6 +8,9 @@ use sieveexec::Failure;
 /// The notice on a message that may go round in a loop.
 pub(crate) const LOOP_TEXT: &[u8] = b"more than 100 Received fields";
 
+/// The notice on a message with a long header.
+pub(crate) const LONG_TEXT: &[u8] = b"header larger than 1 MiB";
+
 /// The notice on an active text that is no valid script.
 pub(crate) const INVALID_TEXT: &[u8] = b"script is not valid";
 

@@ -128,8 +128,7 @@ module _ (user : List ℕ) (envelope : Envelope) (message : List ℕ) (terms : T
       delivery_failed (Err e) undone transient =
           acts_read a b (TurnsBy Row May (Refused e)) (MayTurnBy Row) (Err e) (λ clean open_before. tt) (glanced a b r look.reads.keeps) (λ clean accounts shown. transient_turn e accounts transient)
 
-      module _ (plan : Plan) (planned : (account : Account) → IsViewOf looked.view envelope.from account → Delivers looked.view.address (mail_of message envelope terms.when) (text_or looked.text terms.default) account plan.report (delivers plan account))
-          (c : State) (w : Result (Unit {0}) Refusal) (late : WritesAccount user (delivers plan) b c w) where
+      module _ (plan : Plan) (planned : (account : Account) → IsViewOf looked.view envelope.from account → Delivers looked.view.address (mail_of message envelope terms.when) (text_or looked.text terms.default) account plan.report (delivers plan account)) where
         -- what the plan does is the delivery
         planned_row : (accounts : Accounts) → OfOpen accounts user (IsLookup envelope.from looked) → Row accounts (Delivered plan.report) (with_user accounts user (delivers plan))
         planned_row accounts own =
@@ -155,12 +154,17 @@ module _ (user : List ℕ) (envelope : Envelope) (message : List ℕ) (terms : T
             let own = found clean accounts p in
             (has_there accounts user (subst IsSome (sym own.1) refl), planned_row accounts own)
 
-        pub delivery_made : (y : Unit {0}) → w ≡ Ok y → ActsDelivery user envelope message terms a c (Ok plan.report)
-        delivery_made y is =
+        delivery_made : (c : State) (w : Result Report Refusal) → WritesAccount user (delivers plan) b c w → (y : Report) → w ≡ Ok y → ActsDelivery user envelope message terms a c (Ok plan.report)
+        delivery_made c w late y is =
             acts_made a b c r looked was look.reads.keeps (HasUser user) (λ all. with_user all user (delivers plan)) w late.made late.settled late.same late.crash (TurnsBy Row May (Delivered plan.report)) (MayTurnBy Row) y plan.report is
             (λ clean accounts p. let f = fits clean accounts p in (f.0, inl f.1, (Delivered plan.report, f.1)))
 
-        pub delivery_undone : (e : Refusal) (q : Result Report Refusal) → w ≡ Err e → q ≡ Err e → IsTransient e → ActsDelivery user envelope message terms a c q
-        delivery_undone e q is same transient = subst (λ o. ActsDelivery user envelope message terms a c o) (sym same)
+        delivery_undone : (c : State) (w : Result Report Refusal) → WritesAccount user (delivers plan) b c w → (e : Refusal) → w ≡ Err e → IsTransient e → ActsDelivery user envelope message terms a c (Err e)
+        delivery_undone c w late e is transient =
             (acts_undone a b c r looked was look.reads.keeps (HasUser user) (λ all. with_user all user (delivers plan)) w late.made late.settled late.same late.crash (TurnsBy Row May (Refused e)) (MayTurnBy Row) e (Err e) is
             (λ told. told transient) (λ accounts. transient_turn e accounts transient) (λ clean accounts p. let f = fits clean accounts p in (f.0, (Delivered plan.report, f.1))))
+
+        -- and so it is told
+        pub delivery_written : (c : State) (w : Result Report Refusal) → WritesAccount user (delivers plan) b c w → IfOk w (λ report. report ≡ plan.report) → IfErr w IsTransient → ActsDelivery user envelope message terms a c w
+        delivery_written c (Ok report) late told transient = subst (λ r. ActsDelivery user envelope message terms a c (Ok r)) (sym told) (delivery_made c (Ok report) late report refl)
+        delivery_written c (Err e) late told transient = delivery_undone c (Err e) late e refl transient

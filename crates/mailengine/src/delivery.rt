@@ -18,7 +18,7 @@ ghost use Rattle.mailengine.specs.Terms.{terms_of};
 use crate::account::{ActiveScript, active_script};
 use crate::limits::limit_refusal;
 use addrparts::bare_address;
-use deliverplan::{View, plan};
+use deliverplan::{View, has_long_header, plan, plan_unread};
 use mailstore::{Plan, Refusal, Report, Store};
 use octets::Octets;
 use sieveexec::{Envelope, Mail, When};
@@ -39,7 +39,8 @@ pub(crate) struct Lookup {
 /// one, and an account with an active script never sees it. The message is borrowed and read once; no copy of it is made beside
 /// what the store writes. What the script says is carried out: the message joins folders and the queue, and the sender is
 /// answered, at most once in a period. Without any script it joins INBOX; where the text is no script, where its run fails, or
-/// where the message has more than 100 Received fields, it joins INBOX too, and the user is left a notice.
+/// where the message has more than 100 Received fields, it joins INBOX too, and the user is left a notice. So it does where its
+/// header, with the empty line that ends it, has more than 1,048,576 octets; of that no field is read.
 ///
 /// # Errors
 ///
@@ -71,10 +72,13 @@ pub fn deliver<S: Alter>(
         return Err(absence(store, user)?);
     }
     let found = looked?;
+    if has_long_header(message) {
+        let unread = plan_unread(alloc, message, &envelope, when)?;
+        return carry_out(store, user, unread);
+    }
     let mail = Mail::read(alloc, message, envelope, when)?;
     let plan = plan(alloc, &found.view, deciding(&found.text, default), &mail)?;
-    commit(store, user, &plan)?;
-    Ok(report_of(plan))
+    carry_out(store, user, plan)
 }
 
 /// Why nothing is delivered to a user without an open account: it is closed, or there is none.
@@ -110,6 +114,16 @@ fn look_up<S: Alter>(
         view: View { address, replies },
         text,
     })
+}
+
+/// Writes the delivery, and tells what it reports.
+fn carry_out<S: Alter>(store: &mut Store<S>, user: &[u8], plan: Plan<'_>) -> Result<Report, Refusal>
+    ensures writes { WritesAccount user.now (delivers plan.entry) (state S.Store store.old) (state S.Store store.new) result }
+    ensures told { IfOk result (λ report. report ≡ plan.entry.report) }
+    ensures named { IfErr result IsTransient }
+{
+    commit(store, user, &plan)?;
+    Ok(report_of(plan))
 }
 
 /// Writes the delivery. An account that was read a moment ago is there: a store that finds none is refused as `Store`.

@@ -1,4 +1,4 @@
-use Rattle.std.proofs.Common.{◌≡◌, ◌≤◌, None, Ok, Err, OnOk, IfErr, refl, sym, ◌∙◌, subst, rules}
+use Rattle.std.proofs.Common.{◌≡◌, ◌≤◌, false, None, Ok, Err, OnOk, IfErr, refl, sym, ◌∙◌, subst, rules}
 use Rattle.sqlite.specs.Held.{state}
 use Rattle.mailstore.specs.declared.refusal.Refusal.TheVariants.{NoUser}
 use Rattle.mailstore.specs.declared.report.Report.{Report}
@@ -6,12 +6,13 @@ use Rattle.mailstore.specs.Refusals.{IsTransient}
 use Rattle.mailengine.specs.Hosts.{ActsDelivery}
 use Rattle.mailengine.specs.Limits.{limit_refusal}
 use Rattle.mailengine.specs.Lookups.{LooksUp, IsLookup}
-use Rattle.mailengine.proofs.DeliveryLemmas.{moment_fits, transient_refuses, absent_refuses, planned_at, delivery_limited, delivery_unread, delivery_absent, delivery_unasked, delivery_failed, delivery_made, delivery_undone}
+use Rattle.mailengine.proofs.DeliveryLemmas.{moment_fits, transient_refuses, absent_refuses, planned_at, delivery_limited, delivery_unread, delivery_absent, delivery_unasked, delivery_failed, delivery_written}
 use Rattle.mailengine.proofs.RunLemmas.{delivery_spaced}
 use Rattle.mailstore.specs.Cells.{contents}
 use Rattle.mailengine.specs.AccountEvents.{text_or}
 use Rattle.mailengine.specs.Terms.{terms_of}
 use Rattle.sieveexec.specs.Mails.{MailSpec}
+use Rattle.deliverplan.specs.Delivered.{has_long_header}
 use Rattle.mailengine.proofs.delivery.deliver.Goals as goal
 
 pub returns-in-Some-clause-acts : goal.returns-in-Some-clause-acts
@@ -58,6 +59,32 @@ returns-in_err-found-clause-acts g c =
 pub returns-in_err-found-clause-spaced : goal.returns-in_err-found-clause-spaced
 returns-in_err-found-clause-spaced g c = delivery_spaced c.args.user.now c.args.envelope c.args.message.now (terms_of c.args.when c.args.default) (state g.S.Store c.args.store.now) (state g.S.Store c.look_up-looked.new.store) c.from_residual-in_err-found.result (returns-in_err-found-clause-acts g c)
 
+pub returns-in_err-unread-clause-acts : goal.returns-in_err-unread-clause-acts
+returns-in_err-unread-clause-acts g c =
+    let undone : OnOk c.from_residual-in_err-unread.result ⊥ = search rules in
+    let transient : IfErr c.from_residual-in_err-unread.result IsTransient = search rules in
+    let none : limit_refusal c.args.envelope c.args.message.now c.args.when.moment ≡ None = sym c.limit_refusal.ensures ∙ c.in_default.is in
+    delivery_failed c.args.user.now c.args.envelope c.args.message.now (terms_of c.args.when c.args.default) none (state g.S.Store c.args.store.now) (state g.S.Store c.look_up-looked.new.store) c.look_up-looked.result c.in_ok-found.found c.in_ok-found.was
+    (subst (λ sender. LooksUp c.args.user.now (IsLookup sender) (state g.S.Store c.args.store.now) (state g.S.Store c.look_up-looked.new.store) c.look_up-looked.result) c.as_slice.ensures c.look_up-looked.ensures) c.from_residual-in_err-unread.result undone transient
+
+pub returns-in_err-unread-clause-spaced : goal.returns-in_err-unread-clause-spaced
+returns-in_err-unread-clause-spaced g c = delivery_spaced c.args.user.now c.args.envelope c.args.message.now (terms_of c.args.when c.args.default) (state g.S.Store c.args.store.now) (state g.S.Store c.look_up-looked.new.store) c.from_residual-in_err-unread.result (returns-in_err-unread-clause-acts g c)
+
+pub returns-then-has_long_header-clause-acts : goal.returns-then-has_long_header-clause-acts
+returns-then-has_long_header-clause-acts g c =
+    let none : limit_refusal c.args.envelope c.args.message.now c.args.when.moment ≡ None = sym c.limit_refusal.ensures ∙ c.in_default.is in
+    delivery_written c.args.user.now c.args.envelope c.args.message.now (terms_of c.args.when c.args.default) none (state g.S.Store c.args.store.now) (state g.S.Store c.look_up-looked.new.store) c.look_up-looked.result c.in_ok-found.found c.in_ok-found.was
+    (subst (λ sender. LooksUp c.args.user.now (IsLookup sender) (state g.S.Store c.args.store.now) (state g.S.Store c.look_up-looked.new.store) c.look_up-looked.result) c.as_slice.ensures c.look_up-looked.ensures) c.in_ok-unread.unread
+    (λ account view. c.in_ok-unread.ensures c.in_ok-found.found.view.address (text_or c.in_ok-found.found.text (contents c.args.default)) account)
+    (state g.S.Store c.carry_out.new.store) c.carry_out.result c.carry_out.ensures.writes c.carry_out.ensures.told c.carry_out.ensures.named
+
+pub returns-then-has_long_header-clause-spaced : goal.returns-then-has_long_header-clause-spaced
+returns-then-has_long_header-clause-spaced g c = delivery_spaced c.args.user.now c.args.envelope c.args.message.now (terms_of c.args.when c.args.default) (state g.S.Store c.args.store.now) (state g.S.Store c.carry_out.new.store) c.carry_out.result (returns-then-has_long_header-clause-acts g c)
+
+pub returns-then-has_long_header-clause-named : goal.returns-then-has_long_header-clause-named
+returns-then-has_long_header-clause-named g c =
+    transient_refuses c.args.envelope c.args.message.now c.args.when.moment c.carry_out.result (sym c.limit_refusal.ensures ∙ c.in_default.is) c.carry_out.ensures.named
+
 pub returns-in_err-mail-clause-acts : goal.returns-in_err-mail-clause-acts
 returns-in_err-mail-clause-acts g c =
     let undone : OnOk c.from_residual-in_err-mail.result ⊥ = search rules in
@@ -70,7 +97,10 @@ pub returns-in_err-mail-clause-spaced : goal.returns-in_err-mail-clause-spaced
 returns-in_err-mail-clause-spaced g c = delivery_spaced c.args.user.now c.args.envelope c.args.message.now (terms_of c.args.when c.args.default) (state g.S.Store c.args.store.now) (state g.S.Store c.look_up-looked.new.store) c.from_residual-in_err-mail.result (returns-in_err-mail-clause-acts g c)
 
 pub plan-requires : goal.plan-requires
-plan-requires g c = subst (λ (mail : MailSpec). mail.moment ≤ 253402300799) (sym c.in_ok-mail.ensures) (moment_fits c.args.envelope c.args.message.now c.args.when.moment (sym c.limit_refusal.ensures ∙ c.in_default.is))
+plan-requires g c = record {
+  short = subst (λ (mail : MailSpec). has_long_header mail.octets ≡ false) (sym c.in_ok-mail.ensures) (sym c.has_long_header.ensures ∙ c.if-has_long_header.false);
+  early = subst (λ (mail : MailSpec). mail.moment ≤ 253402300799) (sym c.in_ok-mail.ensures) (moment_fits c.args.envelope c.args.message.now c.args.when.moment (sym c.limit_refusal.ensures ∙ c.in_default.is));
+}
 
 pub returns-in_err-plan-clause-acts : goal.returns-in_err-plan-clause-acts
 returns-in_err-plan-clause-acts g c =
@@ -83,32 +113,17 @@ returns-in_err-plan-clause-acts g c =
 pub returns-in_err-plan-clause-spaced : goal.returns-in_err-plan-clause-spaced
 returns-in_err-plan-clause-spaced g c = delivery_spaced c.args.user.now c.args.envelope c.args.message.now (terms_of c.args.when c.args.default) (state g.S.Store c.args.store.now) (state g.S.Store c.look_up-looked.new.store) c.from_residual-in_err-plan.result (returns-in_err-plan-clause-acts g c)
 
-pub returns-in_err-commit-clause-acts : goal.returns-in_err-commit-clause-acts
-returns-in_err-commit-clause-acts g c =
-    let is : c.from_residual-in_err-commit.result ≡ Err c.in_err-commit.field-0.0 = search (rules, c.from_residual-in_err-commit.ensures) in
-    let none : limit_refusal c.args.envelope c.args.message.now c.args.when.moment ≡ None = sym c.limit_refusal.ensures ∙ c.in_default.is in
-    delivery_undone c.args.user.now c.args.envelope c.args.message.now (terms_of c.args.when c.args.default) none (state g.S.Store c.args.store.now) (state g.S.Store c.look_up-looked.new.store) c.look_up-looked.result c.in_ok-found.found c.in_ok-found.was
-    (subst (λ sender. LooksUp c.args.user.now (IsLookup sender) (state g.S.Store c.args.store.now) (state g.S.Store c.look_up-looked.new.store) c.look_up-looked.result) c.as_slice.ensures c.look_up-looked.ensures) c.in_ok-plan.plan
-    (planned_at c.in_ok-found.found.view (text_or c.in_ok-found.found.text (contents c.args.default)) _ c.in_ok-mail.mail c.args.envelope c.args.message.now (terms_of c.args.when c.args.default) c.in_ok-plan.plan c.in_ok-mail.ensures c.deciding.ensures c.in_ok-plan.ensures)
-    (state g.S.Store c.commit.new.store) c.commit.result c.commit.ensures.writes c.in_err-commit.field-0.0 c.from_residual-in_err-commit.result c.in_err-commit.was is c.in_err-commit.ensures.named
-
-pub returns-in_err-commit-clause-spaced : goal.returns-in_err-commit-clause-spaced
-returns-in_err-commit-clause-spaced g c = delivery_spaced c.args.user.now c.args.envelope c.args.message.now (terms_of c.args.when c.args.default) (state g.S.Store c.args.store.now) (state g.S.Store c.commit.new.store) c.from_residual-in_err-commit.result (returns-in_err-commit-clause-acts g c)
-
-pub returns-in_err-commit-clause-named : goal.returns-in_err-commit-clause-named
-returns-in_err-commit-clause-named g c =
-    let is : c.from_residual-in_err-commit.result ≡ Err c.in_err-commit.field-0.0 = search (rules, c.from_residual-in_err-commit.ensures) in
-    let transient : IfErr c.from_residual-in_err-commit.result IsTransient = subst (λ q. IfErr q IsTransient) (sym is) c.in_err-commit.ensures.named in
-    transient_refuses c.args.envelope c.args.message.now c.args.when.moment c.from_residual-in_err-commit.result (sym c.limit_refusal.ensures ∙ c.in_default.is) transient
-
 pub returns-clause-acts : goal.returns-clause-acts
 returns-clause-acts g c =
     let none : limit_refusal c.args.envelope c.args.message.now c.args.when.moment ≡ None = sym c.limit_refusal.ensures ∙ c.in_default.is in
-    subst (λ r. ActsDelivery c.args.user.now c.args.envelope c.args.message.now (terms_of c.args.when c.args.default) (state g.S.Store c.args.store.now) (state g.S.Store c.commit.new.store) (Ok r)) (sym c.report_of.ensures)
-    (delivery_made c.args.user.now c.args.envelope c.args.message.now (terms_of c.args.when c.args.default) none (state g.S.Store c.args.store.now) (state g.S.Store c.look_up-looked.new.store) c.look_up-looked.result c.in_ok-found.found c.in_ok-found.was
+    delivery_written c.args.user.now c.args.envelope c.args.message.now (terms_of c.args.when c.args.default) none (state g.S.Store c.args.store.now) (state g.S.Store c.look_up-looked.new.store) c.look_up-looked.result c.in_ok-found.found c.in_ok-found.was
     (subst (λ sender. LooksUp c.args.user.now (IsLookup sender) (state g.S.Store c.args.store.now) (state g.S.Store c.look_up-looked.new.store) c.look_up-looked.result) c.as_slice.ensures c.look_up-looked.ensures) c.in_ok-plan.plan
     (planned_at c.in_ok-found.found.view (text_or c.in_ok-found.found.text (contents c.args.default)) _ c.in_ok-mail.mail c.args.envelope c.args.message.now (terms_of c.args.when c.args.default) c.in_ok-plan.plan c.in_ok-mail.ensures c.deciding.ensures c.in_ok-plan.ensures)
-    (state g.S.Store c.commit.new.store) c.commit.result c.commit.ensures.writes c.in_ok-commit.field-0 c.in_ok-commit.was)
+    (state g.S.Store c.carry_out-2.new.store) c.carry_out-2.result c.carry_out-2.ensures.writes c.carry_out-2.ensures.told c.carry_out-2.ensures.named
 
 pub returns-clause-spaced : goal.returns-clause-spaced
-returns-clause-spaced g c = delivery_spaced c.args.user.now c.args.envelope c.args.message.now (terms_of c.args.when c.args.default) (state g.S.Store c.args.store.now) (state g.S.Store c.commit.new.store) (Ok c.report_of.result) (returns-clause-acts g c)
+returns-clause-spaced g c = delivery_spaced c.args.user.now c.args.envelope c.args.message.now (terms_of c.args.when c.args.default) (state g.S.Store c.args.store.now) (state g.S.Store c.carry_out-2.new.store) c.carry_out-2.result (returns-clause-acts g c)
+
+pub returns-clause-named : goal.returns-clause-named
+returns-clause-named g c =
+    transient_refuses c.args.envelope c.args.message.now c.args.when.moment c.carry_out-2.result (sym c.limit_refusal.ensures ∙ c.in_default.is) c.carry_out-2.ensures.named

@@ -1,0 +1,20 @@
+//! Messages with a long header.
+ghost use Rattle.std.specs.Prelude.{◌≡◌};
+ghost use Rattle.deliverplan.specs.Delivered as delivered;
+
+use mailfronts::header_len;
+
+/// The most octets of a header whose fields are read, with the empty line that ends it: 1 MiB.
+///
+/// All fields are read before a script runs, and one of three octets takes some 70 octets of memory.
+const MAX_HEADER: usize = 1_048_576;
+
+/// Whether a message's header has more than [`MAX_HEADER`] octets, with the empty line that ends it; where no line is empty all of
+/// the message is its header.
+///
+/// One pass up to that line; takes no memory.
+pub fn has_long_header(message: &[u8]) -> bool
+    ensures { result ≡ delivered.has_long_header message.now }
+{
+    header_len(message) > MAX_HEADER
+}
