@@ -11,12 +11,14 @@ pub mod laws;
 mod masks;
 mod numeric;
 mod order;
+mod places;
 mod spelling;
 mod twoway;
 
 pub use masks::{MAX_PLACES, Masks};
 pub use numeric::{are_equal_numbers, compare_numbers};
 pub use order::compare;
+pub use places::{contains_places, places_of};
 pub use spelling::{Key, Plain, Spot};
 pub use twoway::find;
 

@@ -288,7 +288,7 @@ fn find_cut<C: Comparator, K: Key>(key: &K, cut: Cut, value: &[u8], from: usize)
 }
 
 // The places of a key of at most 63 octets.
-fn masks_of<C: Comparator, K: Key>(key: &K) -> Masks
+pub(crate) fn masks_of<C: Comparator, K: Key>(key: &K) -> Masks
     requires { K.size key.now ≤ 63 }
     ensures { AreMasks (fits_key C.image_of (K.octet_at key.now)) (K.size key.now) result }
 {
