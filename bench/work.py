@@ -74,7 +74,7 @@ def octets_of(draw, length):
 
 
 def key_of(draw, match, value, at):
-    """A key that is nearly in the value, and differs from the others."""
+    """A key that is nearly in the value, mostly not in it, and that differs from the others."""
     length = min(len(value) + 1, spread(draw, 1, 300 if draw.random() < 0.1 else 64))
     start = draw.randrange(max(1, len(value) - length + 1))
     key = bytearray(value[start:start + length])
@@ -83,6 +83,7 @@ def key_of(draw, match, value, at):
             key[draw.randrange(len(key))] = draw.choice(b"abz")
     if draw.random() < 0.5:
         key += b"%d" % at
+    key.insert(len(key) if draw.random() < 0.7 else draw.randrange(len(key) + 1), ord("Q"))
     if match == "matches":
         for _ in range(draw.choice([0, 1, 2, 2, 3, 8, 30])):
             key.insert(draw.randrange(len(key) + 1), draw.choice(b"***?"))
@@ -137,14 +138,14 @@ def test_of(draw, kind, match, names, values):
         octets, count = 48, 1
     keys = []
     while len(keys) < 60_000:
-        key = b"1" * spread(draw, 1, 40) if match in ("numeric", "count") else key_of(draw, match, values[len(keys) % len(values)], len(keys))
+        key = b"1" * spread(draw, 1, 40) if match == "numeric" else b"0" if match == "count" else key_of(draw, match, values[len(keys) % len(values)], len(keys))
         more = key_work(len(names), match, octets, count, key)
         if work + more > LIMIT or room < len(quoted(key)) + 1:
             break
         work += more
         room -= len(quoted(key)) + 1
         keys.append(key)
-    tags = {"value": b':value "gt"', "numeric": b':value "gt" :comparator "i;ascii-numeric"', "count": b':count "gt"'}.get(match, b":" + match.encode())
+    tags = {"value": b':value "eq"', "numeric": b':value "lt" :comparator "i;ascii-numeric"', "count": b':count "eq"'}.get(match, b":" + match.encode())
     if match in ("is", "contains", "matches") and draw.random() < 0.3:
         tags += b' :comparator "i;octet"'
     if kind == "address":
