@@ -45,12 +45,12 @@ def size(text):
 
 def key_work(names, match, octets, count, key):
     if match == "contains":
-        return octets + names * (size(key) + 64) if len(key) < 64 else 8 * (octets + count * size(key))
+        return octets + names * (size(key) + 256) if len(key) < 64 else 8 * (octets + count * size(key))
     if match != "matches":
         return octets + count * size(key)
     if len(key) > 63 and b"?" in key:
         return 8 * octets * size(key)
-    work = octets + count * size(key) + 64 * count * max(0, key.count(b"*") - 1)
+    work = octets + count * size(key) + 256 * count * max(0, key.count(b"*") - 1)
     return work if len(key) < 64 else 8 * work
 
 

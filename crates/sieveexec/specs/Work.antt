@@ -54,11 +54,11 @@ paired sizes each = sizes.octets + sizes.count * each
 
 -- the work of a key that is made ready once for each name of fields, and then looked for in all values
 abbrev pub ready_work : ℕ → Sizes → List ℕ → ℕ
-ready_work names sizes key = sizes.octets + names * (text_size key + 64)
+ready_work names sizes key = sizes.octets + names * (text_size key + 256)
 
 -- the same of a pattern: what stands between two stars is made ready for each value anew
 abbrev pub starred : Sizes → List ℕ → ℕ
-starred sizes key = paired sizes (text_size key) + 64 * (sizes.count * (count_by is_star key - 1))
+starred sizes key = paired sizes (text_size key) + 256 * (sizes.count * (count_by is_star key - 1))
 
 -- the work of a key that may be tried at each octet of values: a pair of octets counts eight times
 abbrev pub tried_work : ℕ → List ℕ → ℕ

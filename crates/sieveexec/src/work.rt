@@ -11,10 +11,10 @@ use collation::MAX_PLACES;
 use octets::Octets;
 use sievesyntax::{EnvelopeParts, Matching};
 
-/// How much work the tests of a run may take together. A unit is about an octet that is looked at or compared, and takes from 0.1 to
-/// 2 ns of a processor, mostly below 1: so the tests of a run take some 200 ms at most as scripts are written. The worst that is known,
-/// patterns of many stars over many short values, takes some 20 ns a unit. 1,000 keys, or 800 rules, are compared with all of a header of
-/// 100 kB within it.
+/// How much work the tests of a run may take together. A unit is about an octet that is looked at or compared, and takes 0.3 ns of a
+/// processor in the mean of runs that were drawn, and 1.3 ns in the worst that was found (patterns with a `?` over one long value): so
+/// the tests of a run take 260 ms at most, as far as is known. 1,000 keys, or 800 rules, are compared with all of a header of 100 kB
+/// within it.
 pub(crate) const MAX_WORK: u64 = 200_000_000;
 
 /// One text of 40 octets: no number of values and no part of a date is longer.
@@ -125,7 +125,7 @@ fn spend_contains(left: u64, names: u64, sizes: Sizes, key: &[u8]) -> Option<u64
     let left = spend(left, sizes.octets)?;
     spend(
         left,
-        names.checked_mul(size_of(key.len())?.checked_add(64)?)?,
+        names.checked_mul(size_of(key.len())?.checked_add(256)?)?,
     )
 }
 
@@ -161,7 +161,7 @@ fn starred(sizes: Sizes, key: &[u8]) -> Option<u64>
     ensures { SomeIff result (starred_of sizes key.now < 2 ^ 64) (starred_of sizes key.now) }
 {
     let between = sizes.count.checked_mul(count_stars(key).saturating_sub(1))?;
-    paired(sizes, size_of(key.len())?)?.checked_add(between.checked_mul(64)?)
+    paired(sizes, size_of(key.len())?)?.checked_add(between.checked_mul(256)?)
 }
 
 /// What trying a key at each of so many octets leaves.
