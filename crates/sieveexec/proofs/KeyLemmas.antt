@@ -11,7 +11,7 @@ use Rattle.collation.specs.Search.{fits_key}
 use Rattle.collation.specs.declared.masks.Masks.{Masks}
 use Rattle.sievesyntax.specs.declared.tree.checks.Collation.TheVariants.{Octet, AsciiCasemap, AsciiNumeric}
 use Rattle.sievesyntax.specs.declared.tree.checks.Matching.TheVariants.{Is, Contains, Matches, Value, Count}
-use Rattle.sieveexec.specs.Matches.{matches_key, matches_some}
+use Rattle.sieveexec.specs.Matches.{matches_key}
 use Rattle.sieveexec.specs.Ready.{IsReady, some_passes}
 use Rattle.sieveexec.proofs.MatchLemmas.{image_decides}
 use Rattle.sieveexec.specs.Truth.{part_matches}

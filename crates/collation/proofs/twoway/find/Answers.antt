@@ -1,7 +1,7 @@
 use Rattle.std.proofs.Common.{◌≡◌, ℕ, ◌+◌, ◌<◌, ◌≤◌, length, List, Option, Some, None, sym, ap, subst, ◌∙◌, arith}
 use Rattle.memchr.specs.Find.{Nowhere, IsFirst}
 use Rattle.memchr.proofs.lemmas.FindLemmas.{Nowhere-then}
-use Rattle.collation.specs.Search.{image_at, image_in, HasImage, StandsAt}
+use Rattle.collation.specs.Search.{image_in, HasImage, StandsAt}
 use Rattle.collation.proofs.twoway.find.Goals as goal
 
 -- the first place from one on is the first from an earlier one on, where there is none between the two

@@ -1,6 +1,6 @@
-use Rattle.std.proofs.Common.{◌≡◌, ◌==◌, ℕ, ◌+◌, refl, subst, sym, arith}
+use Rattle.std.proofs.Common.{◌≡◌, ◌==◌, ℕ, refl, subst, sym, arith}
 use Rattle.collation.specs.Places.{AreMasks}
-use Rattle.collation.specs.Search.{fits_key, image_at}
+use Rattle.collation.specs.Search.{fits_key}
 use Rattle.collation.proofs.twoway.masks_of.Goals as goal
 
 pub loop-spot-init : goal.loop-spot-init

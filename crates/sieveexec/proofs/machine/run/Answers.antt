@@ -1,9 +1,9 @@
-use Rattle.std.proofs.Common.{◌≡◌, ◌+◌, ◌<◌, Bool, true, false, Some, length, sym, ap, subst, ◌∙◌, arith}
+use Rattle.std.proofs.Common.{◌<◌, false, Some, length, sym, ap, subst, ◌∙◌, arith}
 use Rattle.sievesyntax.specs.RunState.{at_first}
 use Rattle.sievesyntax.specs.Work.{max_work}
-use Rattle.sievecode.specs.Jumps.{jumps_from, outcome_of}
+use Rattle.sievecode.specs.Jumps.{jumps_from}
 use Rattle.sieveexec.specs.Truth.{truth_at}
-use Rattle.sieveexec.specs.Work.{IsPaid, work_at}
+use Rattle.sieveexec.specs.Work.{work_at}
 use Rattle.sieveexec.specs.Runs.{run_state_of}
 use Rattle.sieveexec.proofs.MachineLemmas.{Gives, gives_first, machine_turn, machine_fails, at_end, after_all, over_is, over_so}
 use Rattle.sieveexec.proofs.machine.run.Goals as goal

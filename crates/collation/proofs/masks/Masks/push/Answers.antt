@@ -1,4 +1,4 @@
-use Rattle.std.proofs.Common.{◌≡◌, ℕ, ◌+◌, ap, ◌∙◌, arith}
+use Rattle.std.proofs.Common.{ℕ, ap, ◌∙◌, arith}
 use Rattle.collation.proofs.MaskLemmas.{IsCleared, unasked_after, each_after}
 use Rattle.collation.proofs.masks.Masks.push.Goals as goal
 

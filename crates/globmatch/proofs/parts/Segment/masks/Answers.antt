@@ -1,4 +1,4 @@
-use Rattle.std.proofs.Common.{◌≡◌, ◌==◌, ℕ, ◌+◌, ◌∷◌, List, drop, get_or, refl, sym, ap, subst, ◌∙◌, arith}
+use Rattle.std.proofs.Common.{◌≡◌, ℕ, ◌+◌, ◌∷◌, List, drop, refl, sym, ap, subst, ◌∙◌, arith}
 use Rattle.collation.specs.Places.{AreMasks}
 use Rattle.globmatch.specs.Glob.{items}
 use Rattle.globmatch.specs.Segments.{takes, places_of}
