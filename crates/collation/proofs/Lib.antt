@@ -1,5 +1,6 @@
 pub mod Cuts
 pub mod Examples
+pub mod MaskLemmas
 pub mod NumberLemmas
 pub mod Orders
 pub mod SortingLemmas

@@ -2,10 +2,12 @@
 use Rattle.std.proofs.Common.{refl, ◌≡◌, ℕ, ◌+◌, ◌-◌, ◌<◌, ◌≤◌, List, ◌++◌, map, length, take, drop, get_or, slice_index, sym, ap, subst, ◌∙◌, ⊎_elim, arith, Option, Some, None, is_some, ◌↔◌, IsTrue}
 use Rattle.std.proofs.lemmas.List.{length-map, map-append, append_assoc, take-append-drop, length-append, length-take-le, length-drop, get_or-take, get_or-drop, ext_get_or, get_or_append_left, get_or-append-add}
 use Rattle.std.proofs.Math.ListN.{get_or-map}
-use Rattle.std.proofs.lemmas.Bool.{cases_lt, false≢true}
+use Rattle.std.proofs.lemmas.Bool.{cases_lt, false≢true, eqb-true, eq-eqb}
 use Rattle.memchr.specs.Find.{IsFirst}
 use Rattle.collation.specs.Comparators.{EqualBy, ContainsBy, SameFrom}
-use Rattle.collation.specs.Search.{StandsAt}
+use Rattle.memchr.proofs.lemmas.FindLemmas.{IsFirst-agree}
+use Rattle.collation.specs.Places.{FitsAt}
+use Rattle.collation.specs.Search.{fits_key, image_at, StandsAt}
 
 module _ (f : ℕ → ℕ) (xs ys : List ℕ) where
   pub EqualBy-at : EqualBy f xs ys → (k : ℕ) → f (get_or xs k 0) ≡ f (get_or ys k 0)
@@ -71,3 +73,18 @@ module _ (f : ℕ → ℕ) (key value : List ℕ) where
     λ (a, (b, e)). let stands = StandsAt-of a b e in absurd (h (length a) (omega arith) (omega (arith, stands.fits)) stands),
   )
   ContainsBy-found (Some k) h = (λ _. ContainsBy-of k h.1, λ _. refl)
+
+-- a search by places is one for the key
+pub stands_by_places : (f octets : ℕ → ℕ) (m : ℕ) (v : List ℕ) (from : ℕ) (r : Option ℕ) → IsFirst (FitsAt (fits_key f octets) m v) from (length v + 1) r
+    → IsFirst (StandsAt f octets m v) from (length v + 1) r
+stands_by_places f octets m v from r found =
+    IsFirst-agree (FitsAt (fits_key f octets) m v) (StandsAt f octets m v) from (length v + 1)
+    (λ k low h. record {
+      fits = h.within;
+      reads = λ j below. sym (eqb-true (image_at f octets j) (f (slice_index v (k + j))) (h.each j below));
+    })
+    (λ k low h. record {
+      within = h.fits;
+      each = λ j below. eq-eqb (image_at f octets j) (f (slice_index v (k + j))) (sym (h.reads j below));
+    })
+    r found

@@ -1,5 +1,5 @@
 -- What the search for a key by Two-Way keeps of the key, and where the key stands in a value.
-use Rattle.std.specs.Prelude.{◌≡◌, ◌≢◌, ℕ, ◌+◌, ◌<◌, ◌≤◌, List, Option, length, slice_index}
+use Rattle.std.specs.Prelude.{◌≡◌, ◌≢◌, ◌==◌, ℕ, Bool, ◌+◌, ◌<◌, ◌≤◌, List, Option, length, slice_index}
 use Rattle.memchr.specs.Critical.{IsCritical, NoPeriodBelow}
 use Rattle.memchr.specs.Find.{IsFirst}
 use Rattle.memchr.specs.TwoWay.{OccursIn}
@@ -15,9 +15,13 @@ image_at image octet_at k = image (octet_at k)
 abbrev pub image_in : (ℕ → ℕ) → List ℕ → ℕ → ℕ
 image_in image text k = image (slice_index text k)
 
--- none of a number of octets from a place on has an image
-abbrev pub LacksFrom : (ℕ → ℕ) → List ℕ → ℕ → ℕ → ℕ → Type 0
-LacksFrom image text from count wanted = (k : ℕ) → k < count → image_in image text (from + k) ≢ wanted
+-- the octet at a place has an image
+abbrev pub HasImage : (ℕ → ℕ) → ℕ → List ℕ → ℕ → Type 0
+HasImage image wanted text k = image_in image text k ≡ wanted
+
+-- which octets the places of a key take: those with the image of its octet
+abbrev pub fits_key : (ℕ → ℕ) → (ℕ → ℕ) → ℕ → ℕ → Bool
+fits_key image octet_at j octet = image_at image octet_at j == image octet
 
 -- a place from `from` on and no further than `end`, before which, from `from` on, no octet has an image
 pub record GoesPast (image : ℕ → ℕ) (text : List ℕ) (from end wanted place : ℕ) : Type 0 where

@@ -2,19 +2,23 @@
 //! images of their octets or by numbers. Nothing here takes memory.
 #![tactic(auto)]
 
-ghost use Rattle.std.specs.Prelude.{◌≡◌, ◌↔◌, ℕ, ◌+◌, ◌^◌, ◌<◌, ◌≤◌, length, refl, IsTrue};
+ghost use Rattle.std.specs.Prelude.{◌≡◌, ◌↔◌, ◌⊎◌, ℕ, ◌+◌, ◌^◌, ◌<◌, ◌≤◌, length, refl, IsTrue};
 ghost use Rattle.std.specs.Char.{to_ascii_uppercase};
 ghost use Rattle.std.proofs.lemmas.Str.Ascii.{uppercase-uppercase};
 ghost use Rattle.collation.specs.Comparators.{EqualBy, ContainsBy, SameFrom};
 
 pub mod laws;
+mod masks;
 mod numeric;
 mod order;
+mod places;
 mod spelling;
 mod twoway;
 
+pub use masks::{MAX_PLACES, Masks};
 pub use numeric::{are_equal_numbers, compare_numbers};
 pub use order::compare;
+pub use places::{contains_places, places_of};
 pub use spelling::{Key, Plain, Spot};
 pub use twoway::find;
 
@@ -26,6 +30,10 @@ pub trait Comparator {
     /// The octet that stands for `octet` in comparisons.
     fn image(octet: u8) -> u8
         ensures { result ≡ image_of octet };
+
+    /// The other octet with the image of `octet`; the same one where there is no other.
+    fn other(octet: u8) -> u8
+        ensures { (b : ℕ) → b < 2 ^ 8 → (image_of octet ≡ image_of b) ↔ ((b ≡ octet) ⊎ (b ≡ result)) };
 
     // The image of an image is that image.
     ghost settled: { (octet : ℕ) → octet < 2 ^ 8 → image_of (image_of octet) ≡ image_of octet };
@@ -44,6 +52,11 @@ impl Comparator for Octet {
     fn image(octet: u8) -> u8 {
         octet
     }
+
+    #[inline(always)]
+    fn other(octet: u8) -> u8 {
+        octet
+    }
 }
 
 /// `i;ascii-casemap` (RFC 4790, section 9.2): the image of `a` to `z` is `A` to `Z`, and other octets are their own.
@@ -58,6 +71,15 @@ impl Comparator for AsciiCasemap {
     #[inline(always)]
     fn image(octet: u8) -> u8 {
         octet.to_ascii_uppercase()
+    }
+
+    #[inline(always)]
+    fn other(octet: u8) -> u8 {
+        match octet {
+            b'a'..=b'z' => octet - 32,
+            b'A'..=b'Z' => octet + 32,
+            _ => octet,
+        }
     }
 }
 

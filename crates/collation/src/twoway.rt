@@ -6,11 +6,14 @@
 ghost use Rattle.std.specs.Prelude.{◌≡◌, ◌≢◌, ◌↔◌, ℕ, ◌+◌, ◌-◌, ◌<◌, ◌≤◌, length, IsTrue};
 ghost use Rattle.std.specs.Ordering.{MatchOrdering};
 ghost use Rattle.memchr.specs.Critical.{IsSuffixAt, IsCutPlace};
-ghost use Rattle.memchr.specs.Find.{Nowhere};
-ghost use Rattle.collation.specs.Search.{image_at, image_in, LacksFrom, GoesPast, StandsAt, FindsKey, Precedes, IsCut};
+ghost use Rattle.memchr.specs.Find.{Nowhere, IsFirst};
+ghost use Rattle.collation.specs.Places.{AreMasks};
+ghost use Rattle.collation.specs.Search.{image_at, image_in, HasImage, fits_key, GoesPast, StandsAt, FindsKey, Precedes, IsCut};
 
 use crate::Comparator;
+use crate::masks::{MAX_PLACES, Masks};
 use crate::spelling::{Key, Spot};
+use memchr::memchr2;
 use std::cmp::Ordering;
 
 /// An order of octets.
@@ -197,49 +200,28 @@ fn matched_to<C: Comparator, K: Key>(
     spot
 }
 
-// How many octets are tried at a time for the first one after the cut: a run has no early end, so it becomes vector
-// code.
-const RUN: usize = 16;
-
-// Whether none of the `RUN` octets from place `from` on has the image `wanted`.
-#[inline(always)]
-fn run_lacks<C: Comparator>(value: &[u8], from: usize, wanted: u8) -> bool
-    requires { from + RUN ≤ length value.now }
-    ensures { IsTrue result ↔ LacksFrom C.image_of value.now from RUN wanted }
+// The first place of the value, from `from` on, whose octet has the image of this one.
+fn first_of<C: Comparator>(value: &[u8], from: usize, octet: u8) -> Option<usize>
+    requires { from ≤ length value.now }
+    ensures { IsFirst (HasImage C.image_of (C.image_of octet) value.now) from (length value.now) result }
 {
-    let mut lacks = true;
-    for k in 0..RUN {
-        lacks &= C::image(value[from + k]) != wanted;
+    match memchr2(octet, C::other(octet), value.split_at(from).1) {
+        Some(at) => Some(from + at),
+        None => None,
     }
-    lacks
 }
 
-// Goes past each run before `end` that holds no octet with the image `wanted`.
-#[inline(always)]
-fn past_runs<C: Comparator>(value: &[u8], from: usize, end: usize, wanted: u8) -> usize
-    requires ordered { from ≤ end }
-    requires within { end ≤ length value.now }
-    ensures { GoesPast C.image_of value.now from end wanted result }
-{
-    let mut place = from;
-    while RUN <= end - place && run_lacks::<C>(value, place, wanted) {
-        place += RUN;
-    }
-    place
-}
-
-// The first place from `from` on, and before `end`, whose octet has the image `wanted`, or else `end`.
+// The first place from `from` on, and before `end`, whose octet has the image of `wanted`, or else `end`.
 #[inline(always)]
 fn next_place<C: Comparator>(value: &[u8], from: usize, end: usize, wanted: u8) -> usize
     requires ordered { from ≤ end }
     requires within { end ≤ length value.now }
-    ensures { GoesPast C.image_of value.now from end wanted result }
+    ensures { GoesPast C.image_of value.now from end (C.image_of wanted) result }
 {
-    let mut place = past_runs::<C>(value, from, end, wanted);
-    while place < end && C::image(value[place]) != wanted {
-        place += 1;
+    match first_of::<C>(value, from, wanted) {
+        Some(place) => place.min(end),
+        None => end,
     }
-    place
 }
 
 // The next place from `pos` on where a key of `m` octets may stand, as far as it fits: one where the first octet after
@@ -260,8 +242,8 @@ fn next_candidate<C: Comparator, K: Key>(
     ensures kept { 0 < known → result ≡ pos }
     ensures passed { Nowhere (StandsAt C.image_of (K.octet_at key.now) (K.size key.now) value.now) pos result }
 {
-    let wanted = C::image(key.octet(critical));
-    if 0 < known || C::image(value[pos + critical.index]) == wanted {
+    let wanted = key.octet(critical);
+    if 0 < known || C::image(value[pos + critical.index]) == C::image(wanted) {
         return pos;
     }
     let end = value.len() - key.len() + critical.index + 1;
@@ -305,13 +287,35 @@ fn find_cut<C: Comparator, K: Key>(key: &K, cut: Cut, value: &[u8], from: usize)
     None
 }
 
+// The places of a key of at most 63 octets.
+pub(crate) fn masks_of<C: Comparator, K: Key>(key: &K) -> Masks
+    requires { K.size key.now ≤ 63 }
+    ensures { AreMasks (fits_key C.image_of (K.octet_at key.now)) (K.size key.now) result }
+{
+    let mut masks = Masks::new();
+    let mut spot = key.first();
+    while spot.index < key.len() {
+        masks.push::<C>(key.octet(spot));
+        spot = key.next(spot);
+    }
+    masks
+}
+
+// The search with a key of at most 63 octets.
+fn find_short<C: Comparator, K: Key>(key: &K, value: &[u8], from: usize) -> Option<usize>
+    requires short { K.size key.now ≤ 63 }
+    requires start { from ≤ length value.now }
+    ensures { FindsKey C.image_of (K.octet_at key.now) (K.size key.now) value.now from result }
+{
+    masks_of::<C, K>(key).find(value, from)
+}
+
 /// The first place of `value`, from `from` on, where the images of `key` stand.
 ///
-/// It takes no memory, and time linear in the lengths of key and value together, whatever they hold: the key's first octet
-/// is looked for, and where it stands nowhere the key isn't looked at further. After a few passes over the key, Two-Way
-/// compares each octet of the value at most twice, from there to the end of the match, and looks ahead by at most one run
-/// of octets more than it moves on. It is Two-Way of Crochemore and Perrin (Two-way
-/// string-matching, 1991).
+/// It takes no memory, and time linear in the lengths of key and value together, whatever they hold. The key's first octet is looked
+/// for; from there on a key of at most 63 octets is looked for by [`Masks`], which looks at each octet once. For a longer one Two-Way
+/// of Crochemore and Perrin (Two-way string-matching, 1991) takes a few passes over the key, and compares each octet of the value at
+/// most twice.
 pub fn find<C: Comparator, K: Key>(key: &K, value: &[u8], from: usize) -> Option<usize>
     requires { from ≤ length value.now }
     ensures { FindsKey C.image_of (K.octet_at key.now) (K.size key.now) value.now from result }
@@ -320,12 +324,14 @@ pub fn find<C: Comparator, K: Key>(key: &K, value: &[u8], from: usize) -> Option
     if m == 0 {
         return Some(from);
     }
-    if value.len() - from < m {
+    let Some(first) = first_of::<C>(value, from, key.octet(key.first())) else {
         return None;
+    };
+    if m == 1 {
+        return Some(first);
     }
-    let first = next_candidate::<C, K>(key, key.first(), value, from, 0);
-    if value.len() - first < m {
-        return None;
+    if m <= MAX_PLACES {
+        return find_short::<C, K>(key, value, first);
     }
     let cut = find_critical_cut::<C, K>(key);
     find_cut::<C, K>(key, cut, value, first)

@@ -1,10 +1,10 @@
 -- How a match goes on from segment to segment.
-use Rattle.std.proofs.Common.{refl, ◌≡◌, ℕ, zero, suc, ◌+◌, ◌-◌, ◌<◌, ◌≤◌, ◌↔◌, List, [], ◌∷◌, length, drop, get_or, sym, ap, subst, ◌∙◌, ⊎_elim, arith}
+use Rattle.std.proofs.Common.{refl, true, ◌≡◌, ℕ, zero, suc, ◌+◌, ◌-◌, ◌<◌, ◌≤◌, ◌↔◌, List, [], ◌∷◌, length, drop, get_or, sym, ap, subst, ◌∙◌, ⊎_elim, arith}
 use Rattle.std.proofs.lemmas.List.{drop_more, drop_all, drop-drop, length-drop}
-use Rattle.std.proofs.lemmas.Bool.{cases_lt}
+use Rattle.std.proofs.lemmas.Bool.{cases_lt, false≢true, eqb-true, eq-eqb}
 use Rattle.memchr.specs.Find.{Nowhere}
 use Rattle.globmatch.specs.Glob.{Glob}
-use Rattle.globmatch.specs.Segments.{segment_len, Takes, StandAt}
+use Rattle.globmatch.specs.Segments.{segment_len, Takes, takes, StandAt}
 use Rattle.globmatch.specs.declared.pattern.Item.{Item}
 use Rattle.globmatch.specs.declared.pattern.Item.TheVariants.{Star, One, Exact}
 
@@ -48,6 +48,29 @@ Takes-one f item x is = subst (λ i. Takes f i x) (sym is) tt
 pub Star-takes : (f : ℕ → ℕ) (item : Item) (x : ℕ) → item ≡ Star → Takes f item x → ⊥
 unfolding Takes
 Star-takes f item x is takes = subst (λ i. Takes f i x) is takes
+
+-- no item before the first star is one
+pub no_star : (is : List Item) (j : ℕ) → j < segment_len is → get_or is j Star ≡ Star → ⊥
+unfolding segment_len Takes
+no_star [] j low e = absurd (omega (arith, low))
+no_star (Star ∷ rest) j low e = absurd (omega (arith, low))
+no_star (One ∷ rest) zero low e = subst (λ i. Takes (λ x. x) i 0) e tt
+no_star (One ∷ rest) (suc j) low e = no_star rest j (omega (arith, low)) e
+no_star (Exact octet ∷ rest) zero low e = subst (λ i. Takes (λ x. x) i octet) e refl
+no_star (Exact octet ∷ rest) (suc j) low e = no_star rest j (omega (arith, low)) e
+
+-- the two ways to say what an item takes
+pub takes-Takes : (f : ℕ → ℕ) (item : Item) (x : ℕ) → takes f item x ≡ true → Takes f item x
+unfolding Takes
+takes-Takes f Star x is = absurd (false≢true is)
+takes-Takes f One x is = tt
+takes-Takes f (Exact octet) x is = eqb-true (f octet) (f x) is
+
+pub Takes-takes : (f : ℕ → ℕ) (item : Item) (x : ℕ) → Takes f item x → takes f item x ≡ true
+unfolding Takes
+Takes-takes f Star x h = absurd h
+Takes-takes f One x h = refl
+Takes-takes f (Exact octet) x h = eq-eqb (f octet) (f x) h
 
 module _ (f : ℕ → ℕ) (v : List ℕ) where
   module _ (item : Item) (rest : List Item) (m k : ℕ) where

@@ -16,8 +16,8 @@ pub use pattern::Item;
 ///
 /// The items between two stars are taken at the first place where they stand; the items after the last star are
 /// compared once, at the end of the value. So the time is linear in the lengths of pattern and value, but for the
-/// segments between two stars that hold a `?`: each of these takes at most the number of its items for each octet that
-/// it moves over.
+/// segments between two stars that hold a `?` and have more than 63 items: each of these takes at most the number of its
+/// items for each octet that it moves over.
 pub fn matches<C: Comparator>(pattern: &[u8], value: &[u8]) -> bool
     ensures { IsTrue result ↔ Glob C.image_of (items pattern.now) value.now }
 {

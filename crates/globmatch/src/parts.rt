@@ -1,13 +1,14 @@
 //! Segments: the items of a pattern from one star to the next.
 ghost use Rattle.std.specs.Prelude.{◌≡◌, ◌↔◌, ℕ, ◌+◌, ◌<◌, ◌≤◌, length, drop, slice_index_or, IsTrue};
 ghost use Rattle.memchr.specs.Find.{IsFirst};
+ghost use Rattle.collation.specs.Places.{AreMasks};
 ghost use Rattle.collation.specs.declared.spelling.Spot.{Spot};
 ghost use Rattle.globmatch.specs.declared.pattern.Item.TheVariants.{Star};
 ghost use Rattle.globmatch.specs.Glob.{items};
-ghost use Rattle.globmatch.specs.Segments.{octet_of, StandAt};
+ghost use Rattle.globmatch.specs.Segments.{octet_of, places_of, StandAt};
 
 use crate::pattern::{Item, read_item};
-use collation::{Comparator, Key, Spot, find};
+use collation::{Comparator, Key, MAX_PLACES, Masks, Spot, find};
 
 /// The items of a pattern up to a star or the pattern's end.
 #[derive(Clone, Copy)]
@@ -80,6 +81,37 @@ impl<'p> Segment<'p> {
         true
     }
 
+    // What the items take, of at most 63.
+    fn masks<C: Comparator>(&self) -> Masks
+        requires segment { IsSegment self.now }
+        requires short { self.now.count ≤ 63 }
+        ensures { AreMasks (places_of C.image_of (items (drop self.now.from self.now.pattern.now))) self.now.count result }
+    {
+        let mut masks = Masks::new();
+        let mut place = self.from;
+        for j in 0..self.count {
+            let (item, next) = read_item(self.pattern, place);
+            match item {
+                Item::Star => return masks,
+                Item::One => masks.push_any(),
+                Item::Exact(octet) => masks.push::<C>(octet),
+            }
+            place = next;
+        }
+        masks
+    }
+
+    // The first place of the value, from `from` on, where the items stand, of at most 63.
+    fn find_short<C: Comparator>(&self, value: &[u8], from: usize) -> Option<usize>
+        requires segment { IsSegment self.now }
+        requires short { self.now.count ≤ 63 }
+        requires within { from ≤ length value.now }
+        ensures { IsFirst (StandAt C.image_of (items (drop self.now.from self.now.pattern.now)) self.now.count value.now)
+            from (length value.now + 1) result }
+    {
+        self.masks::<C>().find(value, from)
+    }
+
     // The first place of the value, from `from` on, where the items stand.
     pub(crate) fn find<C: Comparator>(&self, value: &[u8], from: usize) -> Option<usize>
         requires segment { IsSegment self.now }
@@ -94,6 +126,9 @@ impl<'p> Segment<'p> {
                 count: self.count,
             };
             return find::<C, Literal>(&key, value, from);
+        }
+        if self.count <= MAX_PLACES {
+            return self.find_short::<C>(value, from);
         }
         for at in from..value.len() + 1 {
             if self.stands_at::<C>(value, at) {

@@ -9,6 +9,7 @@ pub mod FrontLemmas
 pub mod UnflaggedLemmas
 pub mod IndexLemmas
 pub mod JoinedLemmas
+pub mod KeyLemmas
 pub mod NameLemmas
 mod Examples
 mod DateExamples

@@ -10,7 +10,7 @@ use Rattle.sievesyntax.specs.declared.tree.checks.Check.{Check}
 use Rattle.sievesyntax.specs.RunState.{RunState, TooMuchWork, Flow, Going}
 use Rattle.sievesyntax.specs.RunState as F
 use Rattle.sievesyntax.specs.Meaning.{Outcome as OutcomeSpec, Failed, ended}
-use Rattle.sievesyntax.specs.Work.{max_work, within_work}
+use Rattle.sievesyntax.specs.Work.{max_work}
 use Rattle.sievecode.specs.declared.instr.Instr.{Instr}
 use Rattle.sievecode.specs.Instructions.{Instruction, instr_view}
 use Rattle.sievecode.specs.Jumps.{Course, over, behind, IsForward, LeadsForward, Run, after_work, instr_work, turn, at_place, paid_turn, jumps_from, outcome_of}
@@ -18,7 +18,7 @@ use Rattle.sievecode.proofs.Runs.{behind_none, behind_both}
 use Rattle.sievecode.proofs.Endings.{turn_ends, comes_to_an_end}
 use Rattle.sieveexec.specs.Mails.{MailSpec}
 use Rattle.sieveexec.specs.Truth.{truth_at}
-use Rattle.sieveexec.specs.Work.{IsPaid, work_at}
+use Rattle.sieveexec.specs.Work.{work_at}
 use Rattle.sieveexec.specs.declared.outcome.Outcome.{Outcome}
 use Rattle.sieveexec.specs.declared.machine.Turn.{Turn}
 use Rattle.sieveexec.specs.declared.machine.Turn.TheVariants.{Next, Stopped}

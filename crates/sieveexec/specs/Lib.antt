@@ -11,3 +11,4 @@ pub mod Joined
 pub mod Work
 pub mod Outcomes
 pub mod Runs
+pub mod Ready

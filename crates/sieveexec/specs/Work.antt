@@ -1,13 +1,13 @@
 -- The work of a test: about how many octets it looks at and compares. It hangs on the sizes of its names and keys and of the values that it
 -- looks at, and so it is known before they are compared.
-use Rattle.std.specs.Prelude.{◌≡◌, ◌==◌, ℕ, ◌+◌, ◌*◌, ◌<◌, ◌≤◌, Bool, true, false, cond, length, List, [], ◌∷◌, Option, Some, None, sum_by}
+use Rattle.std.specs.Prelude.{◌≡◌, ◌==◌, ℕ, ◌+◌, ◌-◌, ◌*◌, ◌<◌, ◌≤◌, Bool, true, false, cond, nat_lt, length, List, [], ◌∷◌, Option, Some, None, sum_by, count_by}
 use Rattle.std.specs.List.{list_any}
 use Rattle.octets.specs.Ascii.{lowered}
 use Rattle.addrparts.specs.declared.address.Addr.{Addr}
 use Rattle.addrparts.specs.Spelling.{all_of}
 use Rattle.sievesyntax.specs.declared.tree.checks.EnvelopeParts.{EnvelopeParts}
 use Rattle.sievesyntax.specs.declared.tree.checks.Matching.{Matching}
-use Rattle.sievesyntax.specs.declared.tree.checks.Matching.TheVariants.{Matches}
+use Rattle.sievesyntax.specs.declared.tree.checks.Matching.TheVariants.{Contains, Matches}
 use Rattle.sievesyntax.specs.declared.tree.checks.Check.{Check}
 use Rattle.sievesyntax.specs.declared.tree.checks.Check.TheVariants.{Size, Exists, Header, Address, Envelope, MailboxExists, Date, CurrentDate, HasFlag}
 use Rattle.sievesyntax.specs.RunState.{RunState}
@@ -16,9 +16,9 @@ use Rattle.sieveexec.specs.Counts.{is_count}
 use Rattle.sieveexec.specs.Indexes.{raws_keyed}
 use Rattle.sieveexec.specs.Mails.{MailSpec, texts_of, addresses_of}
 
--- the size of a text: its octets, and four for itself, since short texts take their time too
+-- the size of a text: its octets, and eight for itself, since short texts take their time too
 abbrev pub text_size : List ℕ → ℕ
-text_size text = length text + 4
+text_size text = length text + 8
 
 abbrev pub texts_size : List (List ℕ) → ℕ
 texts_size texts = sum_by text_size texts
@@ -40,33 +40,60 @@ sizes_and one other = record { octets = one.octets + other.octets; count = one.c
 abbrev pub is_question : ℕ → Bool
 is_question octet = octet == 63
 
--- a pattern with a `?` may be tried at each octet of a value; any other key, and any other pattern, is compared in one pass over both
-abbrev pub is_tried : Matching → List ℕ → Bool
-is_tried Matches key = list_any is_question key
-is_tried _ key = false
+-- `*`
+abbrev pub is_star : ℕ → Bool
+is_star octet = octet == 42
+
+-- a key of more than 63 octets, each of which may be compared several times
+abbrev pub is_long : List ℕ → Bool
+is_long key = nat_lt 63 (length key)
+
+-- all values, and so much for each of them
+abbrev pub paired : Sizes → ℕ → ℕ
+paired sizes each = sizes.octets + sizes.count * each
+
+-- the work of a key that is made ready once for each name of fields, and then looked for in all values
+abbrev pub ready_work : ℕ → Sizes → List ℕ → ℕ
+ready_work names sizes key = sizes.octets + names * (text_size key + 256)
+
+-- the same of a pattern: what stands between two stars is made ready for each value anew
+abbrev pub starred : Sizes → List ℕ → ℕ
+starred sizes key = paired sizes (text_size key) + 256 * (sizes.count * (count_by is_star key - 1))
 
 -- the work of a key that may be tried at each octet of values: a pair of octets counts eight times
 abbrev pub tried_work : ℕ → List ℕ → ℕ
 tried_work octets key = 8 * (octets * text_size key)
 
--- the work of a key with all values together
-abbrev pub key_work : Matching → Sizes → List ℕ → ℕ
-key_work matching sizes key = cond (is_tried matching key) (tried_work sizes.octets key) (sizes.octets + sizes.count * text_size key)
+-- the work of a key of `:contains`, and of a pattern of `:matches`
+abbrev pub contains_work : ℕ → Sizes → List ℕ → ℕ
+contains_work names sizes key = cond (is_long key) (8 * paired sizes (text_size key)) (ready_work names sizes key)
 
-abbrev pub keys_work : Matching → Sizes → List (List ℕ) → ℕ
-keys_work matching sizes keys = sum_by (key_work matching sizes) keys
+abbrev pub long_pattern_work : Sizes → List ℕ → ℕ
+long_pattern_work sizes key = cond (list_any is_question key) (tried_work sizes.octets key) (8 * starred sizes key)
+
+abbrev pub pattern_work : Sizes → List ℕ → ℕ
+pattern_work sizes key = cond (is_long key) (long_pattern_work sizes key) (starred sizes key)
+
+-- the work of a key with all values together, which are those of so many names of fields
+abbrev pub key_work : ℕ → Matching → Sizes → List ℕ → ℕ
+key_work names Contains sizes key = contains_work names sizes key
+key_work names Matches sizes key = pattern_work sizes key
+key_work names _ sizes key = paired sizes (text_size key)
+
+abbrev pub keys_work : ℕ → Matching → Sizes → List (List ℕ) → ℕ
+keys_work names matching sizes keys = sum_by (key_work names matching sizes) keys
 
 -- one text of 40 octets: no number of values and no part of a date is longer
 abbrev pub short_sizes : Sizes
-short_sizes = record { octets = 44; count = 1 }
+short_sizes = record { octets = 48; count = 1 }
 
 -- what is compared: with `:count` a number
 abbrev pub compared : Matching → Sizes → Sizes
 compared matching sizes = cond (is_count matching) short_sizes sizes
 
--- the work of values and keys: each value is looked at, and then compared with each key
-abbrev pub values_work : Matching → Sizes → List (List ℕ) → ℕ
-values_work matching sizes keys = sizes.octets + keys_work matching (compared matching sizes) keys
+-- the work of values and keys: each value is looked at, and then all are compared with each key
+abbrev pub values_work : ℕ → Matching → Sizes → List (List ℕ) → ℕ
+values_work names matching sizes keys = sizes.octets + keys_work names matching (compared matching sizes) keys
 
 -- ---- values
 
@@ -98,17 +125,29 @@ first_size (raw ∷ more) = text_size raw
 
 -- ---- tests
 
+-- the work of names of fields, each of which is looked up
+abbrev pub names_work : List (List ℕ) → ℕ
+names_work names = 16 * texts_size names
+
+-- the work of a test whose values are in fields
+abbrev pub fields_work : List (List ℕ) → Matching → Sizes → List (List ℕ) → ℕ
+fields_work names matching sizes keys = names_work names + values_work (length names) matching sizes keys
+
+-- the work of `date` before its part is compared: the field is looked up, and its first value read
+abbrev pub date_work : MailSpec → List ℕ → ℕ
+date_work mail field = 16 * (text_size field + first_size (raws_keyed mail.fields (lowered field)))
+
 -- the work of a test that looks at the message, its envelope or the flags of the run. A key of `hasflag` may have a word at each octet
 abbrev pub work_by : MailSpec → (flags : List (List ℕ)) → Check → ℕ
 work_by mail flags (Size size) = 1
-work_by mail flags (Exists names) = texts_size names
-work_by mail flags (Header header) = texts_size header.fields + values_work header.matching (header_sizes mail header.fields) header.keys
-work_by mail flags (Address address) = texts_size address.fields + values_work address.matching (address_sizes mail address.fields) address.keys
-work_by mail flags (Envelope test) = values_work test.matching (envelope_sizes mail test.parts) test.keys
+work_by mail flags (Exists names) = names_work names
+work_by mail flags (Header header) = fields_work header.fields header.matching (header_sizes mail header.fields) header.keys
+work_by mail flags (Address address) = fields_work address.fields address.matching (address_sizes mail address.fields) address.keys
+work_by mail flags (Envelope test) = values_work 2 test.matching (envelope_sizes mail test.parts) test.keys
 work_by mail flags (MailboxExists names) = texts_size names
-work_by mail flags (Date test) = text_size test.field + first_size (raws_keyed mail.fields (lowered test.field)) + keys_work test.matching short_sizes test.keys
-work_by mail flags (CurrentDate test) = keys_work test.matching short_sizes test.keys
-work_by mail flags (HasFlag test) = texts_size flags + sum_by (tried_work (texts_size flags)) test.keys
+work_by mail flags (Date test) = date_work mail test.field + keys_work 1 test.matching short_sizes test.keys
+work_by mail flags (CurrentDate test) = keys_work 1 test.matching short_sizes test.keys
+work_by mail flags (HasFlag test) = texts_size flags + texts_size test.keys + sum_by (tried_work (texts_size flags)) test.keys
 
 -- the same, of a run that has done this so far
 abbrev pub work_at : MailSpec → RunState → Check → ℕ

@@ -5,13 +5,15 @@ ghost use Rattle.mailhead.specs.Heads.{unfold_of};
 ghost use Rattle.addrparts.specs.Reading.{addrs};
 ghost use Rattle.sieveexec.specs.Counts.{has_part};
 ghost use Rattle.sieveexec.specs.Indexes.{is_address_key};
+ghost use Rattle.sieveexec.specs.Parts.{part_of};
+ghost use Rattle.sieveexec.specs.Ready.{key_of, matches_of, some_passes};
 ghost use Rattle.sieveexec.specs.Truth.{address_matches};
 ghost use Rattle.sieveexec.specs.Work.{IsWithin, sizes_of_addresses};
 
 use crate::field_cache::{FieldTest, FieldValues};
 use crate::joined_address::{JoinedAddress, push_joined};
 use crate::mail::Mail;
-use crate::matching::matches_some;
+use crate::ready_key::ReadyKey;
 use crate::sizes::Sizes;
 use addrparts::addresses;
 use mailhead::unfolded;
@@ -147,25 +149,35 @@ fn count_part(part: AddressPart, one: &JoinedAddress) -> usize
 fn address_matches(address: &Address, found: &[JoinedAddress]) -> bool
     ensures { result ≡ list_any (address_matches address.now) found.now }
 {
-    for one in found {
-        if one_matches(address, one) {
+    !found.is_empty() && key_matches(address, found)
+}
+
+/// Whether some key matches the part of some address. A key is made ready once for all addresses.
+fn key_matches(address: &Address, found: &[JoinedAddress]) -> bool
+    ensures { result ≡ list_any (λ key. list_any (λ one. some_passes (matches_of (key_of address.now.comparator address.now.matching key)) (part_of address.now.part one)) found.now) address.now.keys }
+{
+    for key in address.keys.as_slice() {
+        let ready = ReadyKey::new(address.comparator, address.matching, key.as_slice());
+        if ready_matches(&ready, address.part, found) {
             return true;
         }
     }
     false
 }
 
-/// Whether the part of an address is there and matches some key.
-fn one_matches(address: &Address, one: &JoinedAddress) -> bool
-    ensures { result ≡ address_matches address.now one.now }
+/// Whether the part of some address matches a key.
+fn ready_matches(ready: &ReadyKey<'_>, part: AddressPart, found: &[JoinedAddress]) -> bool
+    ensures { result ≡ list_any (λ one. some_passes (matches_of ready.now) (part_of part one)) found.now }
 {
-    match one.part(address.part) {
-        Some(part) => matches_some(
-            address.comparator,
-            address.matching,
-            address.keys.as_slice(),
-            part,
-        ),
+    found.iter().any(|one| one_matches(ready, part, one))
+}
+
+/// Whether the part of an address is there and matches a key.
+fn one_matches(ready: &ReadyKey<'_>, part: AddressPart, one: &JoinedAddress) -> bool
+    ensures { result ≡ some_passes (matches_of ready.now) (part_of part one.now) }
+{
+    match one.part(part) {
+        Some(text) => ready.matches(text),
         None => false,
     }
 }

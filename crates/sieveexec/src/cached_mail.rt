@@ -1,9 +1,9 @@
 //! What the tests of a run look at.
-ghost use Rattle.std.specs.Prelude.{◌≡◌, ◌↔◌, ◌≤◌, ◌+◌, ◌&&◌, All, IsTrue, IfOk, cond};
+ghost use Rattle.std.specs.Prelude.{◌≡◌, ◌↔◌, ◌≤◌, ◌+◌, ◌*◌, ◌&&◌, All, IsTrue, IfOk, cond};
 ghost use Rattle.octets.specs.Ascii.{lowered};
 ghost use Rattle.sievesyntax.specs.Valid.{IsMailbox};
 ghost use Rattle.sieveexec.specs.Indexes.{raws_keyed};
-ghost use Rattle.sieveexec.specs.Work.{IsLeft, text_size, texts_size, header_sizes, address_sizes, envelope_sizes as envelope_sizes_of, first_size, short_sizes, keys_work, values_work, work_by};
+ghost use Rattle.sieveexec.specs.Work.{IsLeft, text_size, header_sizes, address_sizes, envelope_sizes as envelope_sizes_of, first_size, short_sizes, fields_work, date_work, keys_work, values_work, work_by};
 ghost use Rattle.sieveexec.specs.Counts.{is_counted, envelope_counted};
 ghost use Rattle.sieveexec.specs.Truth.{truth_by, is_beyond, header_holds, address_holds, envelope_holds, some_named_matches, envelope_matches};
 
@@ -15,7 +15,8 @@ use crate::joined_address::JoinedAddress;
 use crate::mail::Mail;
 use crate::matching::{count_matches, is_count, matches_some};
 use crate::work::{
-    SHORT, envelope_sizes, spend, spend_flags, spend_keys, spend_text, spend_texts, spend_values,
+    SHORT, envelope_sizes, spend, spend_flags, spend_keys, spend_names, spend_text, spend_texts,
+    spend_values,
 };
 use mailflags::Flags;
 use octets::{List, Octets, Texts, lowered};
@@ -105,7 +106,7 @@ impl<'m, 'a> CachedMail<'m, 'a> {
     {
         match check {
             Check::Size(_) => Ok(spend(left, 1)),
-            Check::Exists(names) => Ok(spend_texts(left, names.as_slice())),
+            Check::Exists(names) => Ok(spend_names(left, names.as_slice())),
             Check::Header(header) => self.spend_header(alloc, header, left),
             Check::Address(address) => self.spend_address(alloc, address, left),
             Check::Envelope(test) => Ok(spend_envelope(self.mail, test, left)),
@@ -113,6 +114,7 @@ impl<'m, 'a> CachedMail<'m, 'a> {
             Check::Date(test) => spend_date(alloc, self.mail, test, left),
             Check::CurrentDate(test) => Ok(spend_keys(
                 left,
+                1,
                 test.matching,
                 SHORT,
                 test.keys.as_slice(),
@@ -128,17 +130,23 @@ impl<'m, 'a> CachedMail<'m, 'a> {
         header: &Header,
         left: u64,
     ) -> Result<Option<u64>, AllocError>
-        ensures left { IfOk result (IsLeft left (texts_size header.now.fields + values_work header.now.matching (header_sizes self.old header.now.fields) header.now.keys)) }
+        ensures left { IfOk result (IsLeft left (fields_work header.now.fields header.now.matching (header_sizes self.old header.now.fields) header.now.keys)) }
         ensures kept { self.new ≡ self.old }
     {
         let names = header.fields.as_slice();
-        let Some(left) = spend_texts(left, names) else {
+        let Some(left) = spend_names(left, names) else {
             return Ok(None);
         };
         let Some(sizes) = self.texts.sizes(alloc, names, left)? else {
             return Ok(None);
         };
-        Ok(spend_values(left, header.matching, sizes, header.keys.as_slice()))
+        Ok(spend_values(
+            left,
+            names.len() as u64,
+            header.matching,
+            sizes,
+            header.keys.as_slice(),
+        ))
     }
 
     /// What `address` leaves.
@@ -148,17 +156,23 @@ impl<'m, 'a> CachedMail<'m, 'a> {
         address: &Address,
         left: u64,
     ) -> Result<Option<u64>, AllocError>
-        ensures left { IfOk result (IsLeft left (texts_size address.now.fields + values_work address.now.matching (address_sizes self.old address.now.fields) address.now.keys)) }
+        ensures left { IfOk result (IsLeft left (fields_work address.now.fields address.now.matching (address_sizes self.old address.now.fields) address.now.keys)) }
         ensures kept { self.new ≡ self.old }
     {
         let names = address.fields.as_slice();
-        let Some(left) = spend_texts(left, names) else {
+        let Some(left) = spend_names(left, names) else {
             return Ok(None);
         };
         let Some(sizes) = self.addresses.sizes(alloc, names, left)? else {
             return Ok(None);
         };
-        Ok(spend_values(left, address.matching, sizes, address.keys.as_slice()))
+        Ok(spend_values(
+            left,
+            names.len() as u64,
+            address.matching,
+            sizes,
+            address.keys.as_slice(),
+        ))
     }
 
     /// The mail's size, which is counted where it is asked for first.
@@ -213,10 +227,10 @@ impl<'m, 'a> CachedMail<'m, 'a> {
 
 /// What `envelope` leaves.
 fn spend_envelope(mail: &Mail<'_>, test: &EnvelopeTest, left: u64) -> Option<u64>
-    ensures { IsLeft left (values_work test.now.matching (envelope_sizes_of mail.now test.now.parts) test.now.keys) result }
+    ensures { IsLeft left (values_work 2 test.now.matching (envelope_sizes_of mail.now test.now.parts) test.now.keys) result }
 {
     let sizes = envelope_sizes(mail, test.parts, left)?;
-    spend_values(left, test.matching, sizes, test.keys.as_slice())
+    spend_values(left, 2, test.matching, sizes, test.keys.as_slice())
 }
 
 /// What `date` leaves.
@@ -226,7 +240,7 @@ fn spend_date(
     test: &DateTest,
     left: u64,
 ) -> Result<Option<u64>, AllocError>
-    ensures { IfOk result (IsLeft left (text_size test.now.field + first_size (raws_keyed mail.now.fields (lowered test.now.field)) + keys_work test.now.matching short_sizes test.now.keys)) }
+    ensures { IfOk result (IsLeft left (date_work mail.now test.now.field + keys_work 1 test.now.matching short_sizes test.now.keys)) }
 {
     let key = lowered(alloc, test.field.as_slice())?;
     Ok(spend_first(mail, test, &key, left))
@@ -234,14 +248,22 @@ fn spend_date(
 
 /// The same of the field with this name in lower case.
 fn spend_first(mail: &Mail<'_>, test: &DateTest, key: &Octets, left: u64) -> Option<u64>
-    ensures { IsLeft left (text_size test.now.field + first_size (raws_keyed mail.now.fields key.now) + keys_work test.now.matching short_sizes test.now.keys) result }
+    ensures { IsLeft left (16 * (text_size test.now.field + first_size (raws_keyed mail.now.fields key.now)) + keys_work 1 test.now.matching short_sizes test.now.keys) result }
 {
-    let named = spend_text(left, test.field.as_slice())?;
+    let read = spend_read(left, mail, test.field.as_slice(), key)?;
+    spend_keys(read, 1, test.matching, SHORT, test.keys.as_slice())
+}
+
+/// What looking up a field, whose name in lower case is the key, and reading its first value leaves.
+fn spend_read(left: u64, mail: &Mail<'_>, field: &[u8], key: &Octets) -> Option<u64>
+    ensures { IsLeft left (16 * (text_size field.now + first_size (raws_keyed mail.now.fields key.now))) result }
+{
+    let named = spend_text(left, field)?;
     let read = match mail.first_raw(key) {
         Some(raw) => spend_text(named, raw)?,
         None => named,
     };
-    spend_keys(read, test.matching, SHORT, test.keys.as_slice())
+    spend(left, (left - read).checked_mul(16)?)
 }
 
 /// Whether a size is over or under a limit (RFC 5228, 5.9).

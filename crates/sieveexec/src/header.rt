@@ -3,11 +3,12 @@ ghost use Rattle.std.specs.Prelude.{◌≡◌, IfOk, map};
 ghost use Rattle.std.specs.List.{list_any};
 ghost use Rattle.mailhead.specs.Heads.{unfold_of};
 ghost use Rattle.sieveexec.specs.Mails.{text_shown};
+ghost use Rattle.sieveexec.specs.Ready.{key_of, matches_of};
 ghost use Rattle.sieveexec.specs.Truth.{text_matches};
 
 use crate::field_cache::{FieldTest, FieldValues};
 use crate::mail::Mail;
-use crate::matching::matches_some;
+use crate::ready_key::ReadyKey;
 use crate::sizes::{Sizes, sizes_in};
 use encwords::decoded;
 use mailhead::unfolded;
@@ -83,15 +84,25 @@ fn text_in(alloc: Global, raw: &[u8]) -> Result<Octets, AllocError>
 fn text_matches(header: &Header, texts: &[Octets]) -> bool
     ensures { result ≡ list_any (text_matches header.now) texts.now }
 {
-    for text in texts {
-        if matches_some(
-            header.comparator,
-            header.matching,
-            header.keys.as_slice(),
-            text.as_slice(),
-        ) {
+    !texts.is_empty() && key_matches(header, texts)
+}
+
+/// Whether some key matches some text. A key is made ready once for all texts.
+fn key_matches(header: &Header, texts: &[Octets]) -> bool
+    ensures { result ≡ list_any (λ key. list_any (matches_of (key_of header.now.comparator header.now.matching key)) texts.now) header.now.keys }
+{
+    for key in header.keys.as_slice() {
+        let ready = ReadyKey::new(header.comparator, header.matching, key.as_slice());
+        if ready_matches(&ready, texts) {
             return true;
         }
     }
     false
+}
+
+/// Whether some text matches a key.
+fn ready_matches(ready: &ReadyKey<'_>, texts: &[Octets]) -> bool
+    ensures { result ≡ list_any (matches_of ready.now) texts.now }
+{
+    texts.iter().any(|text| ready.matches(text.as_slice()))
 }

@@ -19,6 +19,7 @@ mod mailboxes;
 mod matching;
 mod outcome;
 mod raw_values;
+mod ready_key;
 mod run_state;
 mod sizes;
 mod when;

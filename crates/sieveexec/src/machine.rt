@@ -2,9 +2,9 @@
 ghost use Rattle.std.specs.Prelude.{◌≡◌, ℕ, ◌<◌, ◌+◌, ◌^◌, Option, Some, length, IfOk, OnOk};
 ghost use Rattle.sieveexec.specs.Truth.{truth_at};
 ghost use Rattle.sieveexec.specs.Work.{IsPaid, work_at};
-ghost use Rattle.sieveexec.specs.Runs.{run_state_of, outcome_view, after_turn, MovesOn};
+ghost use Rattle.sieveexec.specs.Runs.{run_state_of, failure_view, outcome_view, after_turn, MovesOn};
 ghost use Rattle.sievesyntax.specs.RunState.{Going};
-ghost use Rattle.sievesyntax.specs.Meaning.{ended};
+ghost use Rattle.sievesyntax.specs.Meaning.{Failed, ended};
 ghost use Rattle.sievecode.specs.Instructions.{instr_view};
 ghost use Rattle.sievecode.specs.Jumps.{LeadsForward, Run, instr_work, jumps, turn as turn_of};
 
@@ -60,12 +60,12 @@ pub fn run(alloc: Global, code: &Code<'_>, mail: &Mail<'_>) -> Result<Outcome, A
         let instr = &instrs[place];
         let enough = machine.pay(alloc, instr)?;
         if !enough {
-            return Ok(Outcome::Failed(Failure::TooMuchWork));
+            return Ok(machine.fail(Failure::TooMuchWork));
         }
         match machine.turn(alloc, instr, place)? {
             Turn::Next(next) => place = next,
             Turn::Stopped => return machine.finish(alloc),
-            Turn::Failed(failure) => return Ok(Outcome::Failed(failure)),
+            Turn::Failed(failure) => return Ok(machine.fail(failure)),
         }
     }
     machine.finish(alloc)
@@ -77,6 +77,13 @@ impl<'m, 'a> Machine<'m, 'a> {
         ensures { IfOk result (λ done. outcome_view done ≡ ended (Going (run_state_of self.entry.state))) }
     {
         self.state.finish(alloc)
+    }
+
+    /// The outcome of a run that failed: nothing of what it did so far is carried out (RFC 5228, 2.10.6).
+    fn fail(self, failure: Failure) -> Outcome
+        ensures { outcome_view result ≡ Failed (failure_view failure) }
+    {
+        Outcome::Failed(failure)
     }
 
     /// Takes the work of an instruction from what is left, and says whether there was enough.

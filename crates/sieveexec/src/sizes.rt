@@ -8,7 +8,7 @@ use octets::Octets;
 /// How large values are.
 #[derive(Clone, Copy)]
 pub struct Sizes {
-    /// Their octets, and four more for each.
+    /// Their octets, and eight more for each.
     pub octets: u64,
     /// How many there are.
     pub count: u64,
@@ -41,18 +41,18 @@ impl Sizes {
     pub(crate) fn and_text(self, len: usize, most: u64) -> Option<Sizes>
         requires here { self.count ≤ self.octets }
         requires room { self.octets ≤ most }
-        ensures { IsWithin most (sizes_and self (record { octets = len + 4; count = 1 })) result }
+        ensures { IsWithin most (sizes_and self (record { octets = len + 8; count = 1 })) result }
     {
         let octets = text_size(len)?;
         self.and(Sizes { octets, count: 1 }, most)
     }
 }
 
-/// The size of a text of so many octets: four more, since short texts take their time too. None where no number is so large.
+/// The size of a text of so many octets: eight more, since short texts take their time too. None where no number is so large.
 pub(crate) fn text_size(len: usize) -> Option<u64>
-    ensures { SomeIff result (len + 4 < 2 ^ 64) (len + 4) }
+    ensures { SomeIff result (len + 8 < 2 ^ 64) (len + 8) }
 {
-    (len as u64).checked_add(4)
+    (len as u64).checked_add(8)
 }
 
 /// The sizes of texts, or None where they have more octets than may be. One pass over the list; takes no memory.

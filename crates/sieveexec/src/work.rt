@@ -1,25 +1,30 @@
 //! How much work a test takes, and what that leaves of the work that a run may take.
-ghost use Rattle.std.specs.Prelude.{◌≡◌, ◌+◌, sum_by};
+ghost use Rattle.std.specs.Prelude.{◌≡◌, ◌<◌, ◌+◌, ◌*◌, ◌^◌, sum_by, count_by};
 ghost use Rattle.std.specs.List.{list_any};
-ghost use Rattle.sieveexec.specs.Work.{IsLeft, IsWithin, is_question, is_tried as is_tried_by, tried_work, key_work, keys_work, compared as compared_by, values_work, text_size, texts_size, envelope_sizes as envelope_sizes_of, one_sizes as one_sizes_of};
+ghost use Rattle.std.specs.Option.{SomeIff};
+ghost use Rattle.sieveexec.specs.Work.{IsLeft, IsWithin, is_question, is_star, tried_work, paired as paired_of, starred as starred_of, contains_work, pattern_work, key_work, keys_work, names_work, compared as compared_by, values_work, text_size, texts_size, envelope_sizes as envelope_sizes_of, one_sizes as one_sizes_of};
 
 use crate::mail::Mail;
 use crate::matching::is_count;
 use crate::sizes::{Sizes, text_size as size_of};
+use collation::MAX_PLACES;
 use octets::Octets;
 use sievesyntax::{EnvelopeParts, Matching};
 
-/// How much work the tests of a run may take together. A unit is about an octet that is looked at or compared, and takes from 0.1 to
-/// 2 ns of a processor, mostly below 1: so the tests of a run take some 200 ms at most as scripts are written. The worst that is known,
-/// patterns of many stars over many short values, takes some 20 ns a unit. 1,000 keys, or 800 rules, are compared with all of a header of
-/// 100 kB within it.
+/// How much work the tests of a run may take together. A unit is about an octet that is looked at or compared, and takes 0.3 ns of a
+/// processor in the mean of runs that were drawn, and 1.3 ns in the worst that was found (patterns with a `?` over one long value): so
+/// the tests of a run take 260 ms at most, as far as is known. 1,000 keys, or 800 rules, are compared with all of a header of 100 kB
+/// within it.
 pub(crate) const MAX_WORK: u64 = 200_000_000;
 
 /// One text of 40 octets: no number of values and no part of a date is longer.
 pub(crate) const SHORT: Sizes = Sizes {
-    octets: 44,
+    octets: 48,
     count: 1,
 };
+
+/// How many octets a key has at most of which each octet of a value is compared once.
+const MAX_READY: usize = MAX_PLACES;
 
 /// What some work leaves, if it may be taken.
 pub(crate) fn spend(left: u64, work: u64) -> Option<u64>
@@ -49,17 +54,26 @@ pub(crate) fn spend_texts(left: u64, texts: &[Octets]) -> Option<u64>
     Some(left)
 }
 
-/// What looking at values and comparing them with keys leaves.
+/// What looking up names of fields leaves.
+pub(crate) fn spend_names(left: u64, names: &[Octets]) -> Option<u64>
+    ensures { IsLeft left (names_work names.now) result }
+{
+    let rest = spend_texts(left, names)?;
+    spend(left, (left - rest).checked_mul(16)?)
+}
+
+/// What looking at values in fields of so many names, and comparing them with keys, leaves.
 pub(crate) fn spend_values(
     left: u64,
+    names: u64,
     matching: Matching,
     sizes: Sizes,
     keys: &[Octets],
 ) -> Option<u64>
-    ensures { IsLeft left (values_work matching sizes keys.now) result }
+    ensures { IsLeft left (values_work names matching sizes keys.now) result }
 {
     let left = spend(left, sizes.octets)?;
-    spend_keys(left, matching, compared(matching, sizes), keys)
+    spend_keys(left, names, matching, compared(matching, sizes), keys)
 }
 
 /// What is compared: with `:count` a number.
@@ -72,31 +86,82 @@ fn compared(matching: Matching, sizes: Sizes) -> Sizes
     sizes
 }
 
-/// What comparing values of these sizes with keys leaves.
+/// What comparing values of these sizes, in fields of so many names, with keys leaves.
 pub(crate) fn spend_keys(
     left: u64,
+    names: u64,
     matching: Matching,
     sizes: Sizes,
     keys: &[Octets],
 ) -> Option<u64>
-    ensures { IsLeft left (keys_work matching sizes keys.now) result }
+    ensures { IsLeft left (keys_work names matching sizes keys.now) result }
 {
     let mut left = left;
     for key in keys {
-        left = spend_key(left, matching, sizes, key.as_slice())?;
+        left = spend_key(left, names, matching, sizes, key.as_slice())?;
     }
     Some(left)
 }
 
 /// What comparing values of these sizes with a key leaves.
-fn spend_key(left: u64, matching: Matching, sizes: Sizes, key: &[u8]) -> Option<u64>
-    ensures { IsLeft left (key_work matching sizes key.now) result }
+fn spend_key(left: u64, names: u64, matching: Matching, sizes: Sizes, key: &[u8]) -> Option<u64>
+    ensures { IsLeft left (key_work names matching sizes key.now) result }
 {
-    if is_tried(matching, key) {
-        return spend_tried(left, sizes.octets, key);
+    match matching {
+        Matching::Contains => spend_contains(left, names, sizes, key),
+        Matching::Matches => spend_pattern(left, sizes, key),
+        _ => spend_paired(left, sizes, size_of(key.len())?),
+    }
+}
+
+/// What looking for a key leaves.
+fn spend_contains(left: u64, names: u64, sizes: Sizes, key: &[u8]) -> Option<u64>
+    ensures { IsLeft left (contains_work names sizes key.now) result }
+{
+    if key.len() > MAX_READY {
+        let once = paired(sizes, size_of(key.len())?)?;
+        return spend(left, once.checked_mul(8)?);
     }
     let left = spend(left, sizes.octets)?;
-    spend(left, sizes.count.checked_mul(size_of(key.len())?)?)
+    spend(
+        left,
+        names.checked_mul(size_of(key.len())?.checked_add(256)?)?,
+    )
+}
+
+/// What comparing values with a pattern leaves.
+fn spend_pattern(left: u64, sizes: Sizes, key: &[u8]) -> Option<u64>
+    ensures { IsLeft left (pattern_work sizes key.now) result }
+{
+    if key.len() <= MAX_READY {
+        return spend(left, starred(sizes, key)?);
+    }
+    if has_question(key) {
+        return spend_tried(left, sizes.octets, key);
+    }
+    spend(left, starred(sizes, key)?.checked_mul(8)?)
+}
+
+/// What looking at all values, and so much for each of them, leaves.
+fn spend_paired(left: u64, sizes: Sizes, each: u64) -> Option<u64>
+    ensures { IsLeft left (paired_of sizes each) result }
+{
+    spend(left, paired(sizes, each)?)
+}
+
+/// The work of looking at all values, and of so much for each of them. None where no number is so large.
+fn paired(sizes: Sizes, each: u64) -> Option<u64>
+    ensures { SomeIff result (paired_of sizes each < 2 ^ 64) (paired_of sizes each) }
+{
+    sizes.count.checked_mul(each)?.checked_add(sizes.octets)
+}
+
+/// The same of a pattern. None where no number is so large. Linear in the pattern.
+fn starred(sizes: Sizes, key: &[u8]) -> Option<u64>
+    ensures { SomeIff result (starred_of sizes key.now < 2 ^ 64) (starred_of sizes key.now) }
+{
+    let between = sizes.count.checked_mul(count_stars(key).saturating_sub(1))?;
+    paired(sizes, size_of(key.len())?)?.checked_add(between.checked_mul(256)?)
 }
 
 /// What trying a key at each of so many octets leaves.
@@ -107,14 +172,17 @@ fn spend_tried(left: u64, octets: u64, key: &[u8]) -> Option<u64>
     spend(left, pairs.checked_mul(8)?)
 }
 
-/// Whether a pattern may be tried at each octet of a value. Linear in the key.
-fn is_tried(matching: Matching, key: &[u8]) -> bool
-    ensures { result ≡ is_tried_by matching key.now }
+/// How many stars there are.
+fn count_stars(key: &[u8]) -> u64
+    ensures { result ≡ count_by is_star key.now }
 {
-    match matching {
-        Matching::Matches => has_question(key),
-        _ => false,
+    let mut count = 0;
+    for octet in key {
+        if *octet == b'*' {
+            count += 1;
+        }
     }
+    count
 }
 
 fn has_question(key: &[u8]) -> bool
@@ -123,13 +191,21 @@ fn has_question(key: &[u8]) -> bool
     key.iter().any(|octet| *octet == b'?')
 }
 
-/// What looking at flags and comparing them with the words of keys leaves.
+/// What looking at flags and keys, and comparing flags with the words of keys, leaves.
 pub(crate) fn spend_flags(left: u64, flags: &[Octets], keys: &[Octets]) -> Option<u64>
-    ensures { IsLeft left (texts_size flags.now + sum_by (tried_work (texts_size flags.now)) keys.now) result }
+    ensures { IsLeft left (texts_size flags.now + texts_size keys.now + sum_by (tried_work (texts_size flags.now)) keys.now) result }
 {
     let rest = spend_texts(left, flags)?;
     let octets = left - rest;
-    let mut left = rest;
+    let left = spend_texts(rest, keys)?;
+    spend_words(left, octets, keys)
+}
+
+/// What trying keys at each of so many octets leaves.
+fn spend_words(left: u64, octets: u64, keys: &[Octets]) -> Option<u64>
+    ensures { IsLeft left (sum_by (tried_work octets) keys.now) result }
+{
+    let mut left = left;
     for key in keys {
         left = spend_tried(left, octets, key.as_slice())?;
     }

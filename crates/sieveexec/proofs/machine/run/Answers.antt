@@ -1,9 +1,9 @@
-use Rattle.std.proofs.Common.{◌≡◌, ◌+◌, ◌<◌, Bool, true, false, length, sym, ap, subst, ◌∙◌, arith}
+use Rattle.std.proofs.Common.{◌<◌, false, Some, length, sym, ap, subst, ◌∙◌, arith}
 use Rattle.sievesyntax.specs.RunState.{at_first}
 use Rattle.sievesyntax.specs.Work.{max_work}
-use Rattle.sievecode.specs.Jumps.{jumps_from, outcome_of}
+use Rattle.sievecode.specs.Jumps.{jumps_from}
 use Rattle.sieveexec.specs.Truth.{truth_at}
-use Rattle.sieveexec.specs.Work.{IsPaid, work_at}
+use Rattle.sieveexec.specs.Work.{work_at}
 use Rattle.sieveexec.specs.Runs.{run_state_of}
 use Rattle.sieveexec.proofs.MachineLemmas.{Gives, gives_first, machine_turn, machine_fails, at_end, after_all, over_is, over_so}
 use Rattle.sieveexec.proofs.machine.run.Goals as goal
@@ -45,12 +45,12 @@ pub returns-in-Failed : goal.returns-in-Failed
 returns-in-Failed c =
     let paid = rw c.if-not-enough.false at c.in_ok-enough.ensures.paid in
     let turn = machine_turn _ _ _ _ _ _ _ _ _ _ _ _ _ _ _ _ _ _ _ (c.in_ok-enough.ensures.cached ∙ c.loop-place.invariant.cached) c.loop-place.invariant.cached c.in_ok-enough.ensures.flag (ap run_state_of c.in_ok-enough.ensures.state) c.in_ok-next.ensures.left c.instrs-instrs.ensures.instrs c.instrs-instrs.ensures.forward c.loop-place-test.true c.index-instrs-place.is paid c.in_ok-next.ensures.turn c.in_ok-next.ensures.forward c.in-Failed.is c.loop-place.invariant.gives in
-    sym (over_is _ _ turn.1)
+    ap Some c.fail-in-Failed.ensures ∙ sym (over_is _ _ turn.1)
 
 pub returns-then-not-enough : goal.returns-then-not-enough
 returns-then-not-enough c =
     let more = rw c.if-not-enough.true at c.in_ok-enough.ensures.paid in
-    sym (machine_fails _ _ _ _ _ _ _ _ _ _ c.loop-place.invariant.cached c.instrs-instrs.ensures.instrs c.instrs-instrs.ensures.forward c.loop-place-test.true c.index-instrs-place.is more c.loop-place.invariant.gives)
+    ap Some c.fail.ensures ∙ sym (machine_fails _ _ _ _ _ _ _ _ _ _ c.loop-place.invariant.cached c.instrs-instrs.ensures.instrs c.instrs-instrs.ensures.forward c.loop-place-test.true c.index-instrs-place.is more c.loop-place.invariant.gives)
 
 pub returns : goal.returns
 returns c =

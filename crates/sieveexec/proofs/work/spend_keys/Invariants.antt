@@ -4,4 +4,4 @@ use Rattle.sieveexec.specs.Work.{keys_work}
 use Rattle.sieveexec.proofs.work.spend_keys.Given as goal
 
 abbrev pub invariant-loop-key : goal.invariant-loop-key
-invariant-loop-key l = l.left + keys_work l.matching l.sizes (take l.key-index l.keys) ≡ l.initial.left
+invariant-loop-key l = l.left + keys_work l.names l.matching l.sizes (take l.key-index l.keys) ≡ l.initial.left

@@ -2,7 +2,7 @@
 use Rattle.std.proofs.Common.{◌≡◌, ◌+◌, take}
 use Rattle.std.specs.Prelude.{sum_by}
 use Rattle.sieveexec.specs.Work.{tried_work}
-use Rattle.sieveexec.proofs.work.spend_flags.Given as goal
+use Rattle.sieveexec.proofs.work.spend_words.Given as goal
 
 abbrev pub invariant-loop-key : goal.invariant-loop-key
 invariant-loop-key l = l.left + sum_by (tried_work l.octets) (take l.key-index l.keys) ≡ l.initial.left

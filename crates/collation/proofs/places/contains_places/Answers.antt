@@ -1,0 +1,11 @@
+use Rattle.std.proofs.Common.{sym, subst, slice_index, length, ◌↔◌, IsTrue, Bool}
+use Rattle.collation.specs.Comparators.{ContainsBy}
+use Rattle.collation.specs.Search.{fits_key}
+use Rattle.collation.proofs.Standing.{ContainsBy-found, stands_by_places}
+use Rattle.collation.proofs.places.contains_places.Goals as goal
+
+pub returns : goal.returns
+returns c image key are =
+    subst (λ (b : Bool). IsTrue b ↔ ContainsBy image key c.args.value.now) (sym c.is_some.ensures)
+    (ContainsBy-found image key c.args.value.now c.find.result
+    (stands_by_places image (slice_index key) (length key) c.args.value.now 0 c.find.result (c.find.ensures (fits_key image (slice_index key)) (length key) are)))

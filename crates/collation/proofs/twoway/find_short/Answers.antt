@@ -1,0 +1,11 @@
+use Rattle.std.proofs.Common.{ℕ}
+use Rattle.collation.specs.Search.{fits_key}
+use Rattle.collation.proofs.Standing.{stands_by_places}
+use Rattle.collation.proofs.twoway.find_short.Goals as goal
+
+pub returns : goal.returns
+returns g c =
+    let f : ℕ → ℕ = g.C.Comparator.image_of in
+    let octets : ℕ → ℕ = g.K.Key.octet_at c.args.key.now in
+    let m : ℕ = g.K.Key.size c.args.key.now in
+    stands_by_places f octets m c.args.value.now c.args.from c.find.result (c.find.ensures (fits_key f octets) m c.masks_of.ensures)

@@ -1,0 +1,105 @@
+//! The search for a few places in a row by Shift-Or (Baeza-Yates and Gonnet, 1992): a bit of a number for each place.
+ghost use Rattle.std.specs.Prelude.{◌≡◌, ◌≢◌, ◌==◌, ◌↔◌, ℕ, Bool, true, ◌+◌, ◌<◌, ◌≤◌, length, slice_index, IsTrue};
+ghost use Rattle.std.specs.Int.{bit_at};
+ghost use Rattle.memchr.specs.Find.{IsFirst};
+ghost use Rattle.collation.specs.Unasked.{AreUnasked};
+
+use crate::Comparator;
+
+/// How many places masks have at most.
+pub const MAX_PLACES: usize = 63;
+
+/// Places in a row, each of which takes one octet: one with a given image, or any. They take 2 kB.
+#[derive(Clone, Copy)]
+pub struct Masks {
+    // For each octet a number: its bits of the places that don't take the octet are set.
+    octets: [u64; 256],
+    // The bits of the places that don't take any octet.
+    choosy: u64,
+    len: usize,
+    ghost short: { len ≤ 63 },
+    ghost unasked: { AreUnasked octets choosy len },
+}
+
+// Numbers of which each bit is set.
+fn full() -> [u64; 256]
+    ensures { (b : ℕ) → b < 256 → slice_index result b ≡ 18446744073709551615 }
+{
+    [u64::MAX; 256]
+}
+
+// Clears a bit of an octet's number.
+#[inline(always)]
+fn clear(octets: &mut [u64; 256], octet: u8, bit: usize)
+    requires { bit < 64 }
+    ensures others { (b : ℕ) → b ≢ octet → slice_index octets.new b ≡ slice_index octets.old b }
+    ensures cleared { bit_at (slice_index octets.new octet) bit ≡ 0 }
+    ensures kept { (j : ℕ) → j < 64 → j ≢ bit → bit_at (slice_index octets.new octet) j ≡ bit_at (slice_index octets.old octet) j }
+{
+    octets[octet as usize] &= !(1u64 << bit);
+}
+
+// Whether a bit is clear.
+#[inline(always)]
+fn is_clear(number: u64, bit: usize) -> bool
+    requires { bit < 64 }
+    ensures { IsTrue result ↔ (bit_at number bit ≡ 0) }
+{
+    (number >> bit) & 1 == 0
+}
+
+impl Masks {
+    ghost use Rattle.collation.specs.Places.{AreMasks, FitsAt};
+
+    /// No place.
+    pub fn new() -> Masks
+        ensures { (fits : ℕ → ℕ → Bool) → AreMasks fits 0 result }
+    {
+        Masks {
+            octets: full(),
+            choosy: 0,
+            len: 0,
+        }
+    }
+
+    /// One place more, which takes the octets with the image of this one.
+    #[inline(always)]
+    pub fn push<C: Comparator>(&mut self, octet: u8)
+        requires { self.now.len < 63 }
+        ensures { (fits : ℕ → ℕ → Bool) (n : ℕ) → AreMasks fits n self.old
+            → ((b : ℕ) → b < 256 → fits n b ≡ (C.image_of octet == C.image_of b)) → AreMasks fits (n + 1) self.new }
+    {
+        clear(&mut self.octets, octet, self.len);
+        clear(&mut self.octets, C::other(octet), self.len);
+        self.choosy |= 1u64 << self.len;
+        self.len += 1;
+    }
+
+    /// One place more, which takes any octet.
+    #[inline(always)]
+    pub fn push_any(&mut self)
+        requires { self.now.len < 63 }
+        ensures { (fits : ℕ → ℕ → Bool) (n : ℕ) → AreMasks fits n self.old → ((b : ℕ) → b < 256 → fits n b ≡ true) → AreMasks fits (n + 1) self.new }
+    {
+        self.len += 1;
+    }
+
+    /// The first place of `value`, from `from` on, where octets stand that the places take. Linear in the value, whatever it holds.
+    pub fn find(&self, value: &[u8], from: usize) -> Option<usize>
+        requires { from ≤ length value.now }
+        ensures { (fits : ℕ → ℕ → Bool) (n : ℕ) → AreMasks fits n self.now → IsFirst (FitsAt fits n value.now) from (length value.now + 1) result }
+    {
+        if self.len == 0 {
+            return Some(from);
+        }
+        let mut state = !1u64;
+        for i in from..value.len() {
+            state |= self.octets[value[i] as usize] & self.choosy;
+            state <<= 1;
+            if is_clear(state, self.len) {
+                return Some(i + 1 - self.len);
+            }
+        }
+        None
+    }
+}

@@ -1,0 +1,9 @@
+use Rattle.std.proofs.Common.{sym, ◌∙◌}
+use Rattle.sieveexec.specs.Matches.{matches_key}
+use Rattle.sieveexec.proofs.KeyLemmas.{swapped}
+use Rattle.sieveexec.proofs.header.text_matches.Goals as goal
+
+pub returns-then-not-is_empty : goal.returns-then-not-is_empty
+returns-then-not-is_empty c =
+    let header = c.args.header.now in
+    c.key_matches.ensures ∙ sym (swapped (λ text key. matches_key header.comparator header.matching key text) c.args.texts.now header.keys)
