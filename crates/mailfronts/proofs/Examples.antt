@@ -1,5 +1,5 @@
 -- The definitions at a few texts: what they hold of, and what is near it that they don't.
-use Rattle.std.proofs.Common.{◌≡◌, refl}
+use Rattle.std.proofs.Common.{◌≡◌, nat_lt, true, false, refl}
 use Rattle.std.specs.Prelude.{codes}
 use Rattle.mailhead.specs.Heads.{body_start}
 use Rattle.mailfronts.specs.Fronts.{HasHeaderOf}
@@ -27,3 +27,10 @@ header-ends = refl
 
 header-open : body_start (codes "a: b\r\nc") ≡ 7
 header-open = refl
+
+-- a header of eight octets isn't longer than eight, and is longer than seven, though a CR stands seventh
+header-at_most : nat_lt 8 (body_start (codes "a: b\r\n\r\nc")) ≡ false
+header-at_most = refl
+
+header-longer : nat_lt 7 (body_start (codes "a: b\r\n\r\nc")) ≡ true
+header-longer = refl

@@ -1,5 +1,5 @@
 //! Whether a front of a message has its header.
-ghost use Rattle.std.specs.Prelude.{◌≡◌};
+ghost use Rattle.std.specs.Prelude.{◌≡◌, nat_lt};
 ghost use Rattle.mailhead.specs.Heads.{body_start};
 ghost use Rattle.mailfronts.specs.Fronts as fronts;
 
@@ -21,19 +21,15 @@ pub fn has_empty_line(text: &[u8]) -> bool
     false
 }
 
-/// How many octets the header of a message has, with the empty line that ends it: where the body starts, and all of a message in
-/// which no line is empty.
+/// Whether the header of a message, with the empty line that ends it, has more than so many octets; where no line is empty, all of the
+/// message is its header.
 ///
-/// One pass up to that line; takes no memory.
-pub fn header_len(message: &[u8]) -> usize
-    ensures { result ≡ body_start message.now }
+/// One pass over so many octets at most, whatever the message has; takes no memory.
+pub fn is_header_longer(message: &[u8], most: usize) -> bool
+    ensures { result ≡ nat_lt most (body_start message.now) }
 {
-    let mut rest = message;
-    while !rest.is_empty() {
-        if let Some(body) = after_empty_line(rest) {
-            return message.len() - body.len();
-        }
-        (_, rest) = first_line(rest);
+    if message.len() <= most {
+        return false;
     }
-    message.len()
+    !has_empty_line(&message[..most])
 }

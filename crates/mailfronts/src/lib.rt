@@ -5,5 +5,5 @@ mod header;
 pub mod laws;
 mod size;
 
-pub use header::{has_empty_line, header_len};
+pub use header::{has_empty_line, is_header_longer};
 pub use size::SizeCount;

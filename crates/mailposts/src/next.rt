@@ -11,7 +11,7 @@ use crate::addressee::{Addressee, Became};
 use crate::demand::{Demand, Parcel, Question};
 use crate::post::Post;
 use lmtp::{Delivery, Next, Reply, Trouble, copy_for, name_forms, was_delivered};
-use mailfronts::header_len;
+use mailfronts::is_header_longer;
 use mailhead::Head;
 use octets::Octets;
 use std::alloc::{AllocError, Global};
@@ -191,11 +191,11 @@ fn is_same(addressee: &Addressee, other: &Addressee) -> bool
     other.user == addressee.user && other.address == addressee.address
 }
 
-// Whether the header of a text is longer than one may be.
+// Whether the header of a text is longer than one may be. No more octets of the text are looked at than one may have.
 fn has_long_header(text: &[u8]) -> bool
     ensures { result ≡ posts.has_long_header text.now }
 {
-    header_len(text) > MAX_HEADER
+    is_header_longer(text, MAX_HEADER)
 }
 
 // Whether the message came to this recipient before.
