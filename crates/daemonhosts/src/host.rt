@@ -44,10 +44,14 @@ use wires::outside::{Clock, Outside, Sockets};
 /// Behind a step of more than so many microseconds another connection has its turn.
 const MAX_STEP: u64 = 5_000;
 
+/// What is answered to a command whose answer stands in no file any more (RFC 5804, 1.3).
+const TRY_LATER: &[u8] = b"NO (TRYLATER) \"Try later.\"\r\n";
+
 /// The system's sockets and clock, and the store at a path, which other processes use too. It tells no acts.
 ///
 /// The store is taken without waiting, and not while somebody waits for it; where it fails it is given back at the next look, and left
-/// alone for a while. Connections that wait for it come to it in the order in which they came.
+/// alone for a while. Where the file at the path is another one behind an act, or none, the act is answered as one that failed, and the
+/// store is given back: the next act takes it anew, by its path. Connections that wait for it come to it in the order in which they came.
 #[derive(Drop)]
 pub struct Host<'a, N: Net + time::Clock, E: Write + Drop, K: Keeper + Drop, T: MailSink + Drop> {
     alloc: Global,
@@ -211,11 +215,11 @@ impl<'a, N: Net + time::Clock, E: Write + Drop, K: Keeper + Drop, T: MailSink + 
         awaited
     }
 
-    /// Whether the store is to be given back: it failed, or somebody waits for it.
+    /// Whether the store is to be given back: it failed, it isn't that of the file at its path any more, or somebody waits for it.
     fn is_wanted(&mut self) -> bool
         ensures { StillShown K.S.Store K.tells K.holds self.old.held self.new.held }
     {
-        self.news.has_failed() || self.is_awaited()
+        self.news.has_failed() || self.is_lost() || self.is_awaited()
     }
 
     /// Brings an event to the store, where that may be asked and is to be had.
@@ -223,15 +227,47 @@ impl<'a, N: Net + time::Clock, E: Write + Drop, K: Keeper + Drop, T: MailSink + 
         requires { ¬ IsGivenUp event.now }
         ensures { Brings K.S.Store K.tells K.holds event.now result self.old.held clients.old.sessions self.new.held clients.new.sessions }
     {
+        let Ok(later) = Octets::from_slice(self.alloc, TRY_LATER) else {
+            return None;
+        };
         if !self.may_ask(id) {
             return None;
         }
         let begun = start(self.system);
         self.reach();
+        let is_guest = user_of(clients, id).is_none();
         let answer = self.held.change(clients, event)?;
         self.news.note_answer(&answer, self.held.code());
         note_time(&mut self.news, self.system, begun);
-        Some(answer)
+        if self.is_kept() {
+            return Some(answer);
+        }
+        Some(put_off(answer, is_guest, later))
+    }
+
+    /// Whether the store is had, and the file at the path is another one, or none. That is told.
+    fn is_lost(&mut self) -> bool
+        ensures same { self.new.held ≡ self.old.held }
+        ensures lost { result ≡ true → ¬ IsTrue K.tells }
+    {
+        if !self.held.is_had() || self.held.is_there(self.path) {
+            return false;
+        }
+        self.news.note_lost();
+        true
+    }
+
+    /// Whether the file at the path is still that of the store, behind an act. Where it isn't the store is given back.
+    fn is_kept(&mut self) -> bool
+        ensures kept { result ≡ true → self.new.held ≡ self.old.held }
+        ensures lost { result ≡ false → ¬ IsClean K.S.Store K.tells self.new.held }
+        ensures sink { self.new.held.sink ≡ self.old.held.sink }
+    {
+        if self.is_lost() {
+            self.give_back();
+            return false;
+        }
+        true
     }
 
     /// Looks for an account, where the store may be asked and is to be had.
@@ -245,7 +281,10 @@ impl<'a, N: Net + time::Clock, E: Write + Drop, K: Keeper + Drop, T: MailSink + 
         self.reach();
         let lookup = self.held.find(user)?;
         self.news.note_lookup(lookup, self.held.code());
-        Some(lookup)
+        if self.is_kept() {
+            return Some(lookup);
+        }
+        Some(Lookup::Fault)
     }
 
     /// Delivers a message at the moment that the clock shows, where the store may be asked and is to be had.
@@ -259,18 +298,15 @@ impl<'a, N: Net + time::Clock, E: Write + Drop, K: Keeper + Drop, T: MailSink + 
         }
         let begun = start(self.system);
         self.reach();
-        match self
-            .held
-            .deliver(self.alloc, parcel, when, slice_of(&self.default))
-        {
-            Some(answer) => {
-                let code = self.held.code();
-                self.news.note_delivery(parcel, &answer, code);
-                note_time(&mut self.news, self.system, begun);
-                Some(told_as(answer, code))
-            }
-            None => None,
+        let default = slice_of(&self.default);
+        let answer = self.held.deliver(self.alloc, parcel, when, default)?;
+        let code = self.held.code();
+        note_time(&mut self.news, self.system, begun);
+        if self.is_kept() {
+            self.news.note_delivery(parcel, &answer, code);
+            return Some(told_as(answer, code));
         }
+        Some(self.news.refuse_delivery(parcel))
     }
 
     /// Has a message move on, where the store may be asked and is to be had.
@@ -286,6 +322,7 @@ impl<'a, N: Net + time::Clock, E: Write + Drop, K: Keeper + Drop, T: MailSink + 
         let moving = self.go_on(now, fresh)?;
         self.news
             .note_moving(&moving, self.held.code(), self.held.sink_cause());
+        self.is_kept();
         Some(moving)
     }
 
@@ -330,6 +367,8 @@ impl<'a, N: Net + time::Clock, E: Write + Drop, K: Keeper + Drop, T: MailSink + 
     /// Gives the store back. After a failure it is left alone for a while.
     fn give_back(&mut self)
         ensures shown { IsClean K.S.Store K.tells self.new.held → StillShown K.S.Store K.tells K.holds self.old.held self.new.held }
+        ensures given { self.new.held.store ≡ None }
+        ensures sink { self.new.held.sink ≡ self.old.held.sink }
     {
         let refusal = self.held.give_back();
         let now = self.sockets.now();
@@ -342,6 +381,16 @@ fn user_of(clients: &Clients, id: u32) -> Option<&[u8]> {
     match clients.session(id) {
         Some(session) => session.user(),
         None => None,
+    }
+}
+
+/// The answer to a command that stands in no file any more: a user is to try later. A login that was answered stands in none.
+fn put_off(answer: Answer, is_guest: bool, later: Octets) -> Answer {
+    match answer {
+        Answer::Out(goes_on, octets) => {
+            Answer::Out(goes_on, if is_guest { octets } else { later })
+        }
+        other => other,
     }
 }
 
