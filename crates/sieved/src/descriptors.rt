@@ -1,5 +1,5 @@
 //! How many descriptors the daemon needs, and may have.
-use sieveddaemon::machine::{MAX_CLIENTS, MAX_SENDERS};
+use sieveddaemon::{MAX_CLIENTS, MAX_SENDERS};
 
 /// So many descriptors are for all else than clients: 3 standard streams, 2 listeners, the one at which events are waited for, 4 for
 /// the store and its directory, 3 for locks, 3 for a Maildir, 1 for a client who finds no place, and 15 for what isn't counted here.
