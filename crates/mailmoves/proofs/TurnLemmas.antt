@@ -1,8 +1,11 @@
 -- Whose turn it is, by what the store was asked.
-use Rattle.std.proofs.Common.{◌≡◌, ◌⊎◌, ℕ, Bool, true, false, List, Option, Some, None, option_map, refl, sym, ap, ◌∙◌, subst, inl, inr, true≢false, if◌then◌else◌}
+use Rattle.std.proofs.Common.{◌≡◌, ◌⊎◌, ℕ, Bool, true, false, List, Option, Some, None, option_map, Result, Ok, OnOk, IsTrue, refl, sym, ap, ◌∙◌, subst, inl, inr, true≢false, if◌then◌else◌}
 use Rattle.std.specs.Cmp.Lexicographic.{bytes_decides}
-use Rattle.mailtables.specs.Rows.{Tables}
+use Rattle.sqlite.specs.State.{State, HasCleanDisk}
+use Rattle.mailtables.specs.Rows.{Tables, HoldsTables}
+use Rattle.mailtables.specs.Schema.{mail_schema}
 use Rattle.mailstore.specs.Next.{IsNextFiled}
+use Rattle.mailstore.specs.Promises.{Keeps}
 use Rattle.mailstore.specs.declared.next.Filed.{Filed}
 use Rattle.mailmoves.specs.Order.{FollowsFolder, IsNextFolder, is_user, mark_of, start_in, start_of}
 use Rattle.mailmoves.specs.Rests.{rests_at}
@@ -100,3 +103,9 @@ round_ends now tables rests before (moving.Stays stay) after none end = absurd e
 pub no_mark : (user : List ℕ) (mark : Option (List ℕ)) → option_map (start_in user) mark ≡ None → mark ≡ None
 no_mark user None none = refl
 no_mark user (Some mark) none = absurd (let no : ⊥ = cc in no)
+
+-- what the store had before a read it has behind it
+pub held_behind : {X E : Type 0} (a b : State) (r : Result X E) (x : X) → r ≡ Ok x → Keeps a b r → HasCleanDisk b → (tables : Tables) → HoldsTables mail_schema a.now tables → HoldsTables mail_schema b.now tables
+held_behind a b r x was k clean tables held =
+    let live : IsTrue b.is_open = subst (λ q. OnOk q (IsTrue b.is_open)) was (k.live clean) in
+    subst (λ db. HoldsTables mail_schema db tables) (sym ((k.same clean (tables, held)).now_is live)) held

@@ -1,8 +1,8 @@
-use Rattle.std.proofs.Common.{◌≡◌, List, Option, Some, None, option_map, refl, absurd}
+use Rattle.std.proofs.Common.{rules}
 use Rattle.sqlite.specs.Held.{state}
 use Rattle.mailstore.specs.declared.refusal.Refusal.TheVariants.{Memory}
 use Rattle.mailmoves.specs.declared.moving.Moving.TheVariants as moving
-use Rattle.mailmoves.specs.Order.{mark_of, start_in}
+use Rattle.mailmoves.specs.Order.{mark_of}
 use Rattle.mailmoves.proofs.MoveLemmas.{still_on}
 use Rattle.mailmoves.proofs.TurnLemmas.{first_next, no_mark, turn_of}
 use Rattle.mailmoves.proofs.route.move_of.Goals as goal
