@@ -1,5 +1,5 @@
 //! The outside of the daemon, over the system.
-ghost use Rattle.std.specs.Prelude.{◌≡◌, ℕ, [], ◌∷◌, ◌++◌, false, IsTrue, IfSome};
+ghost use Rattle.std.specs.Prelude.{◌≡◌, ℕ, [], ◌∷◌, ◌++◌, true, false, None, IsTrue, IfSome};
 ghost use Rattle.mailposts.specs.Posts.{IsFound};
 ghost use Rattle.mailengine.specs.Hosts.{IsGivenUp, Kept};
 ghost use Rattle.mailengine.specs.Terms.{terms};
@@ -227,22 +227,20 @@ impl<'a, N: Net + time::Clock, E: Write + Drop, K: Keeper + Drop, T: MailSink + 
         requires { ¬ IsGivenUp event.now }
         ensures { Brings K.S.Store K.tells K.holds event.now result self.old.held clients.old.sessions self.new.held clients.new.sessions }
     {
-        let Ok(later) = Octets::from_slice(self.alloc, TRY_LATER) else {
-            return None;
-        };
         if !self.may_ask(id) {
             return None;
         }
+        let Ok(later) = Octets::from_slice(self.alloc, TRY_LATER) else {
+            return None;
+        };
         let begun = start(self.system);
         self.reach();
         let is_guest = user_of(clients, id).is_none();
         let answer = self.held.change(clients, event)?;
         self.news.note_answer(&answer, self.held.code());
         note_time(&mut self.news, self.system, begun);
-        if self.is_kept() {
-            return Some(answer);
-        }
-        Some(put_off(answer, is_guest, later))
+        let kept = self.is_kept();
+        Some(answered(answer, kept, is_guest, later))
     }
 
     /// Whether the store is had, and the file at the path is another one, or none. That is told.
@@ -259,8 +257,7 @@ impl<'a, N: Net + time::Clock, E: Write + Drop, K: Keeper + Drop, T: MailSink + 
 
     /// Whether the file at the path is still that of the store, behind an act. Where it isn't the store is given back.
     fn is_kept(&mut self) -> bool
-        ensures kept { result ≡ true → self.new.held ≡ self.old.held }
-        ensures lost { result ≡ false → ¬ IsClean K.S.Store K.tells self.new.held }
+        ensures kept { IsClean K.S.Store K.tells self.new.held → (result ≡ true) × (self.new.held ≡ self.old.held) }
         ensures sink { self.new.held.sink ≡ self.old.held.sink }
     {
         if self.is_lost() {
@@ -281,10 +278,8 @@ impl<'a, N: Net + time::Clock, E: Write + Drop, K: Keeper + Drop, T: MailSink + 
         self.reach();
         let lookup = self.held.find(user)?;
         self.news.note_lookup(lookup, self.held.code());
-        if self.is_kept() {
-            return Some(lookup);
-        }
-        Some(Lookup::Fault)
+        let kept = self.is_kept();
+        Some(found(lookup, kept))
     }
 
     /// Delivers a message at the moment that the clock shows, where the store may be asked and is to be had.
@@ -298,15 +293,36 @@ impl<'a, N: Net + time::Clock, E: Write + Drop, K: Keeper + Drop, T: MailSink + 
         }
         let begun = start(self.system);
         self.reach();
-        let default = slice_of(&self.default);
-        let answer = self.held.deliver(self.alloc, parcel, when, default)?;
-        let code = self.held.code();
-        note_time(&mut self.news, self.system, begun);
-        if self.is_kept() {
-            self.news.note_delivery(parcel, &answer, code);
-            return Some(told_as(answer, code));
+        match self
+            .held
+            .deliver(self.alloc, parcel, when, slice_of(&self.default))
+        {
+            Some(answer) => {
+                let code = self.held.code();
+                note_time(&mut self.news, self.system, begun);
+                let kept = self.is_kept();
+                Some(self.tell_delivery(parcel, answer, code, kept))
+            }
+            None => None,
         }
-        Some(self.news.refuse_delivery(parcel))
+    }
+
+    /// Tells of a delivery, which is refused where it stands in no file any more.
+    fn tell_delivery(
+        &mut self,
+        parcel: &Parcel,
+        answer: Answer,
+        code: Option<ErrorCode>,
+        kept: bool,
+    ) -> Answer
+        ensures same { self.new.held ≡ self.old.held }
+        ensures told { kept ≡ true → IsToldAs answer code result }
+    {
+        if !kept {
+            return self.news.refuse_delivery(parcel);
+        }
+        self.news.note_delivery(parcel, &answer, code);
+        told_as(answer, code)
     }
 
     /// Has a message move on, where the store may be asked and is to be had.
@@ -322,7 +338,7 @@ impl<'a, N: Net + time::Clock, E: Write + Drop, K: Keeper + Drop, T: MailSink + 
         let moving = self.go_on(now, fresh)?;
         self.news
             .note_moving(&moving, self.held.code(), self.held.sink_cause());
-        self.is_kept();
+        let _ = self.is_kept();
         Some(moving)
     }
 
@@ -384,14 +400,26 @@ fn user_of(clients: &Clients, id: u32) -> Option<&[u8]> {
     }
 }
 
-/// The answer to a command that stands in no file any more: a user is to try later. A login that was answered stands in none.
-fn put_off(answer: Answer, is_guest: bool, later: Octets) -> Answer {
+/// The answer to a command, as it is told. Where it stands in no file any more a user is to try later; what a guest was told of a login
+/// stands in none.
+fn answered(answer: Answer, kept: bool, is_guest: bool, later: Octets) -> Answer
+    ensures { kept ≡ true → result ≡ answer }
+{
+    if kept || is_guest {
+        return answer;
+    }
     match answer {
-        Answer::Out(goes_on, octets) => {
-            Answer::Out(goes_on, if is_guest { octets } else { later })
-        }
+        Answer::Out(goes_on, _) => Answer::Out(goes_on, later),
         other => other,
     }
+}
+
+/// What was found of an account, as it is told: a fault, where that stands in no file any more.
+fn found(lookup: Lookup, kept: bool) -> Lookup
+    ensures same { kept ≡ true → result ≡ lookup }
+    ensures found { IsFound lookup → IsFound result }
+{
+    if kept { lookup } else { Lookup::Fault }
 }
 
 /// The answer to a delivery, as it is told: of a store whose disk is full as of one that lacks memory.

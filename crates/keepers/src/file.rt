@@ -331,11 +331,10 @@ fn look_at_log(
     let (Some(lock), Some(log)) = (lock, Log::beside(rt, path).map_err(file_failure)?) else {
         return Ok(());
     };
-    let noted = Note::read(lock).map_err(lock_failure)?;
-    let Some(noted) = noted else {
+    let Some(noted) = Note::read(lock).map_err(lock_failure)? else {
         return Ok(());
     };
-    if log.is_full && noted.has_log_alone(rt.alloc(), file, log.identity)? {
+    if log.is_full && note_of(rt, file, log, lock)?.has_log_of(&noted) {
         return Err(refused_for(LOG_OF_ANOTHER));
     }
     Ok(())
@@ -354,7 +353,15 @@ fn settle_file(
     let (Some(lock), Some(log)) = (lock, Log::beside(rt, path).map_err(file_failure)?) else {
         return Ok(());
     };
-    note_file(lock, Note::of(rt.alloc(), file, log.identity)?)
+    let note = note_of(rt, file, log, lock)?;
+    note_file(lock, note)
+}
+
+/// What is to be noted of a file and its log.
+fn note_of(rt: &HostRuntime, file: Identity, log: Log, lock: &File) -> Result<Note, Failure> {
+    let found = lock.metadata().map_err(lock_failure)?;
+    let note = Note::of(rt.alloc(), file, log.identity, Identity::of(&found))?;
+    Ok(note)
 }
 
 /// Writes the note, where it isn't there. Where none was there, and there is no room for one, the store is opened without.

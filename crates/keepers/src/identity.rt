@@ -23,7 +23,8 @@ impl Identity {
         }
     }
 
-    fn of(found: &fs::Metadata) -> Identity {
+    /// Of a file whose metadata these are.
+    pub(crate) fn of(found: &fs::Metadata) -> Identity {
         Identity {
             device: found.dev(),
             inode: found.ino(),

@@ -9,27 +9,35 @@ use std::{format, io};
 /// A line has two numbers of 20 digits, with a blank between, and a line end.
 const LINE: usize = 42;
 
-/// A file and its log, a line each.
+/// A file, its log, and the file of the lock in which that stands, a line each. In a copy of that it says nothing.
 #[derive(Clone, Copy, PartialEq, Eq)]
 pub(crate) struct Note {
     file: [u8; LINE],
     log: [u8; LINE],
+    lock: [u8; LINE],
 }
 
 impl Note {
-    /// Of a file and its log.
-    pub(crate) fn of(alloc: Global, file: Identity, log: Identity) -> Result<Note, AllocError> {
+    /// Of a file and its log, under a lock.
+    pub(crate) fn of(
+        alloc: Global,
+        file: Identity,
+        log: Identity,
+        lock: Identity,
+    ) -> Result<Note, AllocError> {
         Ok(Note {
             file: line_of(alloc, file)?,
             log: line_of(alloc, log)?,
+            lock: line_of(alloc, lock)?,
         })
     }
 
-    /// The one that stands in a file; none where that is empty, or shorter.
+    /// The one that stands in the file of a lock; none where that is empty, or shorter.
     pub(crate) fn read(lock: &File) -> io::Result<Option<Note>> {
         let mut note = Note {
             file: [0; LINE],
             log: [0; LINE],
+            lock: [0; LINE],
         };
         match read_lines(lock, &mut note) {
             Ok(()) => Ok(Some(note)),
@@ -42,24 +50,20 @@ impl Note {
     pub(crate) fn write(&self, lock: &File) -> io::Result<()> {
         lock.write_all_at(&self.file, 0)?;
         lock.write_all_at(&self.log, LINE as u64)?;
+        lock.write_all_at(&self.lock, 2 * LINE as u64)?;
         lock.sync_data()
     }
 
-    /// Whether the log is the one of this note, and the file isn't.
-    pub(crate) fn has_log_alone(
-        &self,
-        alloc: Global,
-        file: Identity,
-        log: Identity,
-    ) -> Result<bool, AllocError> {
-        let other = Note::of(alloc, file, log)?;
-        Ok(self.log == other.log && self.file != other.file)
+    /// Whether the other one has the log of this one, and another file, under the same lock.
+    pub(crate) fn has_log_of(&self, other: &Note) -> bool {
+        self.lock == other.lock && self.log == other.log && self.file != other.file
     }
 }
 
 fn read_lines(lock: &File, note: &mut Note) -> io::Result<()> {
     lock.read_exact_at(&mut note.file, 0)?;
-    lock.read_exact_at(&mut note.log, LINE as u64)
+    lock.read_exact_at(&mut note.log, LINE as u64)?;
+    lock.read_exact_at(&mut note.lock, 2 * LINE as u64)
 }
 
 /// The line of a file.
