@@ -74,6 +74,11 @@ def says():
     assert told_of(store, "--db", old, "--managesieve", str(taken)) == (75, "", "sieved: input or output failed\nsieved: port is taken\n")
     assert os.stat(f"{store.file}.daemon").st_mode & 0o777 == 0o600
     end(server)
+    # A descriptor for each of 70 places, and 32.
+    few = lambda count: subprocess.run(["sh", "-c", f'ulimit -n {count}; exec "$@"', "sh", *store.words("daemon", *port, "--check")], capture_output=True, timeout=20)
+    refused = few(101)
+    assert (refused.returncode, refused.stderr) == (64, b"sieved: bad argument\nsieved: too few open files are allowed: raise the limit (LimitNOFILE, ulimit -n)\n"), refused
+    assert few(102).returncode == 0
     server, _ = store.daemon()
     end(server)
     return "statuses 0, 64, 65 and 75, each with its line; a second daemon and a taken port; after a kill the next one begins"

@@ -7,7 +7,7 @@ and killed.
 Prints a line for each trial, a last one that counts them, and ends with 1 where one failed. `tests/run` runs it, with --quick, which
 does a tenth of what is done many times. It needs python3 alone.
 """
-import fcntl, os, re, socket, stat, subprocess, sys, threading, time
+import contextlib, fcntl, os, random, re, socket, sqlite3, stat, subprocess, sys, threading, time
 import trials
 from hostile import memory
 from managesieve import HERE, SIEVED, Store, connect, end
@@ -433,8 +433,108 @@ def killed():
     return done.stdout.strip()
 
 
+class Loads:
+    """Clients that send numbered messages to alice without end, and note when each was sent and answered, and all that RCPT said."""
+
+    def __init__(self, port, many):
+        self.answered, self.said, self.over = [], [], False
+        self.threads = [threading.Thread(target=self.send, args=(port, number)) for number in range(many)]
+        for thread in self.threads:
+            thread.start()
+
+    def send(self, port, number):
+        peer, count = Peer(port), 0
+        greet(peer)
+        while not self.over:
+            count += 1
+            name = b"%d-%d" % (number, count)
+            began = time.time()
+            said = peer.open(b"alice@x")[0]
+            self.said.append(said)
+            if not said.startswith(b"250"):
+                continue
+            peer.say(b"DATA\r\n")
+            if peer.say(b"Subject: %s\r\n\r\nHi\r\n.\r\n" % name)[0].startswith(b"250"):
+                self.answered.append((name, began, time.time()))
+        peer.close()
+
+    def end(self):
+        self.over = True
+        for thread in self.threads:
+            thread.join()
+
+
+def messages_in(path):
+    """The subjects of the messages of a store's file, whose log is in it."""
+    with contextlib.closing(sqlite3.connect(f"file:{path}?immutable=1", uri=True)) as db:
+        return {row[0].split(b"Subject: ")[1].split(b"\r\n")[0] for row in db.execute("SELECT bytes FROM message")}
+
+
+def replaced():
+    """The store is removed, renamed and replaced under load: what was answered 250 stands in the file that was there, and no recipient is unknown."""
+    store = new_store("alice")
+    db = f"{store.folder.name}/mail.db"
+    empty = open(db, "rb").read()
+    server, port = daemon(store, "--lmtp", "0")
+    told = []
+    threading.Thread(target=lambda: told.extend(server.stderr), daemon=True).start()
+    # Which file was there from when on; those that went are kept by their descriptors.
+    there, files = [], []
+
+    def note(file):
+        there.append((time.time(), file))
+
+    def put():
+        with open(f"{db}.new", "wb") as new:
+            new.write(empty)
+        files.append(os.open(f"{db}.new", os.O_RDONLY))
+        os.rename(f"{db}.new", db)
+
+    files.append(os.open(db, os.O_RDONLY))
+    note(0)
+    loads = Loads(port, 4)
+    for turn in range(trials.some(20) + 2):
+        time.sleep(random.uniform(0.5, 1.5))
+        now = len(files) - 1
+        if turn % 3 == 0:
+            put()
+            note(now + 1)
+            continue
+        if turn % 3 == 1:
+            os.remove(db)
+        else:
+            os.rename(db, f"{db}.away")
+        note(None)
+        time.sleep(random.uniform(0.1, 0.5))
+        if turn % 3 == 1:
+            put()
+        else:
+            os.rename(f"{db}.away", db)
+        note(len(files) - 1)
+    time.sleep(3)
+    loads.end()
+    end(server)
+    assert count_of(store, "alice") > 0
+    has = []
+    for number, file in enumerate(files):
+        path = f"{store.folder.name}/{number}.db"
+        with open(path, "wb") as copy, open(file, "rb") as kept:
+            copy.write(kept.read())
+        has.append(messages_in(path))
+    until = [moment for moment, _ in there[1:]] + [time.time()]
+    for name, began, ended in loads.answered:
+        stood = [file for (since, file), to in zip(there, until) if file is not None and since <= ended and began <= to]
+        assert any(name in has[file] for file in stood), (name, began, ended, there)
+    unknown = [said for said in loads.said if said.startswith(b"5")]
+    assert not unknown, unknown[:3]
+    lost = told.count(b"sieved: file was removed or replaced\n")
+    assert 0 < lost <= len(there), lost
+    put_off = sum(said.startswith(b"451") for said in loads.said)
+    return f"{len(there) - 1} changes, {lost} seen; {len(loads.answered)} answered, each in its file; {put_off} of {len(loads.said)} recipients put off"
+
+
 TRIALS = {"dialogues": dialogues, "names": names, "scripts": scripts, "default": default, "circles": circles, "thousand": thousand, "room": room, "little_room": little_room, "broken_off": broken_off, "away": away,
-          "sockets": sockets, "killed": killed}
+          "sockets": sockets, "replaced": replaced, "killed": killed}
 
 
 def program(path):

@@ -208,6 +208,66 @@ def links():
     return "a folder, new, tmp and cur: nothing is written behind a link, and it is told once"
 
 
+def crowded(store, messages):
+    """Mail for alice in the store, each message in a hundred mailboxes."""
+    script = b'require ["fileinto", "copy"]; ' + b"".join(b'fileinto :copy "m%d"; ' % number for number in range(99))
+    server, sieve, port = daemon(store, "--managesieve", "0", "--lmtp", "0")
+    client = connect(sieve)
+    client.log_in("alice")
+    client.put(b"s", script)
+    assert client.ask(b'SETACTIVE "s"')[-1].startswith(b"OK")
+    for _ in range(messages):
+        deliver(port, b"alice@x")
+    end(server)
+
+
+def turns():
+    """One user's messages are in a hundred mailboxes each: another user's mail is in the Maildir within five seconds, and all folders go on."""
+    store, mail = new_store("alice", "bob"), tempfile.TemporaryDirectory()
+    messages = trials.some(200)
+    crowded(store, messages)
+    server, port = daemon(store, "--lmtp", "0", "--mail", mail.name)
+    home = f"{mail.name}/alice"
+    took = []
+    for number in range(10):
+        began = time.time()
+        deliver(port, b"bob@x", subject=b"%d" % number)
+        until(lambda: len(lies_in(f"{mail.name}/bob")) == number + 1)
+        took.append(time.time() - began)
+    assert max(took) < 5, took
+    counts = lambda: [len(lies_in(place)) for place in (home, *(f"{home}/.m{number}" for number in range(99)))]
+    # Folders take turns: none is ahead of another by more than one.
+    until(lambda: sum(counts()) >= 200, 60)
+    now = counts()
+    assert max(now) - min(now) <= 2, now
+    assert sum(now) < 100 * messages, "all moved before it was looked"
+    end(server)
+    return f"{max(took) * 1000:.0f} ms at most beside {messages} messages in 100 mailboxes; folders with {min(now)} to {max(now)} moved meanwhile"
+
+
+def rests():
+    """A Maildir of which nothing can be made: its hundred folders rest, a few lines tell it, nothing spins, and a folder that is mended goes on."""
+    store, mail = new_store("alice", "bob"), tempfile.TemporaryDirectory()
+    crowded(store, 2)
+    open(f"{mail.name}/alice", "w").close()
+    server, port = daemon(store, "--lmtp", "0", "--mail", mail.name)
+    deliver(port, b"bob@x")
+    until(lambda: len(lies_in(f"{mail.name}/bob")) == 1, 5)
+    time.sleep(4)
+    spent = lambda: sum(map(int, open(f"/proc/{server.pid}/stat").read().rsplit(")", 1)[1].split()[11:13]))
+    before = spent()
+    time.sleep(3)
+    ticks = spent() - before
+    assert ticks < 20, ticks
+    began = time.time()
+    deliver(port, b"bob@x")
+    until(lambda: len(lies_in(f"{mail.name}/bob")) == 2, 5)
+    took = time.time() - began
+    stays = [line for line in told_by(server) if line.startswith("sieved: stays")]
+    assert len(stays) == len(set(stays)) == 17, stays
+    return f"17 lines, {ticks} of 300 ticks, another one's mail in {took * 1000:.0f} ms"
+
+
 def full():
     """A disk that runs full under the Maildirs: what has no room stays in the store, and is no file."""
     store = new_store("alice")
@@ -283,7 +343,7 @@ def killed():
     return f"{kills} kills: {len(answered)} answered, {len(found)} there, {more} of them twice"
 
 
-TRIALS = {"words": words, "moves": moves, "folders": folders, "fails": fails, "links": links, "full": full, "beside": beside, "killed": killed}
+TRIALS = {"words": words, "moves": moves, "folders": folders, "fails": fails, "links": links, "turns": turns, "rests": rests, "full": full, "beside": beside, "killed": killed}
 
 
 def program(path):

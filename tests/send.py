@@ -526,8 +526,14 @@ def ahead():
         with open(path, "w") as file:
             file.write(noted.replace(moment, str(int(moment) + later)).replace(" 1 alice", f" {number} alice"))
         assert house.send(server.place)[1] == [f"sent alice {number}", "sent 1, wait 0"], later
+    # Of a row that is gone nothing stays that lies further ahead; what is due within two days does.
+    for later, kept in (0, True), (3_650 * 86_400, False), (2 ** 64 - 1 - int(moment), False):
+        with open(path, "w") as file:
+            file.write(noted.replace(moment, str(int(moment) + later)).replace(" 1 alice", " 900 alice"))
+        assert house.send(server.place)[1] == ["sent 0, wait 0"], later
+        assert (" 900 alice" in open(path).read()) == kept, (later, open(path).read())
     server.stop()
-    return "a day ahead, and a minute: kept; two minutes more, ten years, the largest number: tried at once"
+    return "a day ahead, and a minute: kept; two minutes more, ten years, the largest number: tried at once, and forgotten where the row is gone"
 
 
 def most():

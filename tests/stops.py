@@ -101,6 +101,9 @@ class Log:
             self.name(path, next(self.fresh))
         assert "O_TRUNC" not in words[2] and "O_APPEND" not in words[2], words
         self.files[number] = [self.now[path], 0]
+        # The file of a lock is no store's: it says which file was opened last.
+        if path.endswith(".lock"):
+            self.dropped.add(number)
 
     def close(self, words, _):
         self.files.pop(int(words[0]), None)

@@ -3,7 +3,7 @@
 
   tests/store_files.py [--sieved SIEVED] [TRIAL ..]       SIEVED: the program, crates/sieved/out/sieved where none is named
 
-The trials: made, kept, traced, sessions, failing, large, full; without a word, all. Prints a line for each; the last one counts them, and the
+The trials: made, kept, traced, sessions, failing, large, log, full; without a word, all. Prints a line for each; the last one counts them, and the
 status is 1 where one failed. `tests/run` runs it. It needs python3 on Linux; `traced` and `failing` need strace, `full` the right to mount a tmpfs.
 """
 import os, re, resource, shutil, signal, socket, sqlite3, stat, subprocess, sys, tempfile
@@ -254,6 +254,57 @@ def large(new):
     return "a message of 3 MB isn't drained where files may have 2 MB, is told so and stays; it is drained without the limit"
 
 
+def log(new):
+    """A log that lies beside a file that took the place of its own isn't read into it; one that came with its file is."""
+    place = new().make()
+    copy = f"{place.folder}/copy.db"
+    shutil.copy(place.db, copy)
+    logged(place)
+    assert place.run("folders", "alice") == (0, b"INBOX 1\n", b""), "its own log"
+    logged(place)
+    # The file and its log are put elsewhere, and a copy of before takes the place of the file alone.
+    for ending in "", "-wal":
+        shutil.copy(place.db + ending, f"{place.folder}/both.db{ending}")
+    before = open(f"{place.db}-wal", "rb").read()
+    shutil.copy(copy, f"{copy}.new")
+    os.rename(f"{copy}.new", place.db)
+    for word in ("folders", "alice"), ("users",), ("deliver", "--to", "alice@example.org", "alice"):
+        refused = place.run(*word, given=MAIL)
+        assert refused == (75, b"", FAILED + b"sieved: log is that of a file that was replaced: move FILE-wal away\n"), refused
+    assert open(f"{place.db}-wal", "rb").read() == before, "the log changed"
+    os.rename(f"{place.db}-wal", f"{place.folder}/log")
+    assert place.done("folders", "alice") == b""
+    assert place.deliver()[0] == 0 and place.count() == 1
+    # Both together are one store, here as elsewhere.
+    for ending in "", "-wal":
+        os.rename(f"{place.folder}/both.db{ending}", place.db + ending)
+    assert place.count() == 2
+    # The log of a store that was closed has nothing, whatever file it lies beside.
+    shutil.copy(copy, f"{copy}.new")
+    os.rename(f"{copy}.new", place.db)
+    assert place.count() == 0 and place.deliver()[0] == 0 and place.count() == 1
+    # One that is copied over, in place, with the log of a store that was closed.
+    shutil.copy(copy, place.db)
+    assert place.count() == 0
+    return "refused with what is to be done, until it is moved away; read where it came with its file"
+
+
+def logged(place):
+    """A message comes to a daemon that is killed: it is in the log alone."""
+    server = subprocess.Popen([PROGRAM, "daemon", "--db", place.db, "--lmtp", "0"], stdout=subprocess.PIPE, stderr=subprocess.DEVNULL)
+    port = int(re.search(rb"(\d+)\D*$", server.stdout.readline())[1])
+    with socket.create_connection(("127.0.0.1", port)) as peer:
+        lines = peer.makefile("rb")
+        lines.readline()
+        for said in b"LHLO c\r\n", b"MAIL FROM:<s@x>\r\n", b"RCPT TO:<alice@x>\r\n", b"DATA\r\n", MAIL + b".\r\n":
+            peer.sendall(said)
+            while lines.readline()[3:4] == b"-":
+                pass
+    server.kill()
+    server.wait()
+    assert os.path.getsize(f"{place.db}-wal") > 1000
+
+
 def full(new):
     place = new()
     if os.geteuid() != 0 or subprocess.run(["mount", "-t", "tmpfs", "-o", "size=2m", "tmpfs", place.folder], stderr=subprocess.DEVNULL).returncode:
@@ -295,7 +346,7 @@ def strace():
     return path
 
 
-TRIALS = [made, kept, traced, sessions, failing, large, full]
+TRIALS = [made, kept, traced, sessions, failing, large, log, full]
 
 
 def tried(trial):

@@ -154,6 +154,14 @@ kept_behind tells kept r a b q moving.Passed same then has = tt
 kept_behind tells kept r a b q (moving.Failed refusal) same then has = tt
 kept_behind tells kept r a b q (moving.Stays stay) same then has = tt
 
+-- and before calls that do
+pub kept_then : {K S T : Type 0} (tells : Bool) (kept : T → List KeptMail) (r a q : HeldStore K T S) (m : Moving) → q.sink ≡ a.sink → HasKept (HasMail tells kept) m r a → HasKept (HasMail tells kept) m r q
+kept_then tells kept r a q (moving.Kept mail answer) same has = λ mails had told. ap kept same ∙ has mails had told
+kept_then tells kept r a q moving.Nothing same has = tt
+kept_then tells kept r a q moving.Passed same has = tt
+kept_then tells kept r a q (moving.Failed refusal) same has = tt
+kept_then tells kept r a q (moving.Stays stay) same has = tt
+
 -- a message moved on, and nobody came between
 pub moved_alone : {R : Type 0} (view : View R) (r q : R) (m : Moving) (kept : Kept)
     → ((w : World) → view.shows r w.accounts → (later : Accounts) × Moves m w.accounts later × view.shows q later × MayLeave (view.leaves r) w.accounts (view.leaves q) later (TriedMoving m w)) → IsMoved view [] m r kept q kept

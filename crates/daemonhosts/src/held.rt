@@ -61,6 +61,13 @@ impl<K: Keeper + Drop, T: MailSink + Drop> HeldStore<K, T> {
         self.store.as_ref()?.cause()
     }
 
+    /// Whether the file at the path is still that of the store that is had: only then what it answers stands where others find it.
+    pub fn is_there(&self, path: &str) -> bool
+        ensures { IsTrue K.tells → IsTrue result }
+    {
+        self.keeper.is_there(path)
+    }
+
     /// Whether somebody waits for the store.
     pub fn is_awaited(&mut self, path: &str) -> bool
         ensures shown { StillShown K.S.Store K.tells K.holds self.old self.new }
@@ -92,6 +99,8 @@ impl<K: Keeper + Drop, T: MailSink + Drop> HeldStore<K, T> {
     /// Gives the store back, where it is had. Why it couldn't be closed, if it couldn't: what was committed stays.
     pub fn give_back(&mut self) -> Option<Refusal>
         ensures shown { IsClean K.S.Store K.tells self.new → StillShown K.S.Store K.tells K.holds self.old self.new }
+        ensures given { self.new.store ≡ None }
+        ensures sink { self.new.sink ≡ self.old.sink }
     {
         match self.store.take() {
             Some(store) => {

@@ -1,5 +1,5 @@
 //! The outside of the daemon, over the system.
-ghost use Rattle.std.specs.Prelude.{◌≡◌, ℕ, [], ◌∷◌, ◌++◌, false, IsTrue, IfSome};
+ghost use Rattle.std.specs.Prelude.{◌≡◌, ℕ, [], ◌∷◌, ◌++◌, true, false, None, IsTrue, IfSome};
 ghost use Rattle.mailposts.specs.Posts.{IsFound};
 ghost use Rattle.mailengine.specs.Hosts.{IsGivenUp, Kept};
 ghost use Rattle.mailengine.specs.Terms.{terms};
@@ -44,10 +44,14 @@ use wires::outside::{Clock, Outside, Sockets};
 /// Behind a step of more than so many microseconds another connection has its turn.
 const MAX_STEP: u64 = 5_000;
 
+/// What is answered to a command whose answer stands in no file any more (RFC 5804, 1.3).
+const TRY_LATER: &[u8] = b"NO (TRYLATER) \"Try later.\"\r\n";
+
 /// The system's sockets and clock, and the store at a path, which other processes use too. It tells no acts.
 ///
 /// The store is taken without waiting, and not while somebody waits for it; where it fails it is given back at the next look, and left
-/// alone for a while. Connections that wait for it come to it in the order in which they came.
+/// alone for a while. Where the file at the path is another one behind an act, or none, the act is answered as one that failed, and the
+/// store is given back: the next act takes it anew, by its path. Connections that wait for it come to it in the order in which they came.
 #[derive(Drop)]
 pub struct Host<'a, N: Net + time::Clock, E: Write + Drop, K: Keeper + Drop, T: MailSink + Drop> {
     alloc: Global,
@@ -211,11 +215,11 @@ impl<'a, N: Net + time::Clock, E: Write + Drop, K: Keeper + Drop, T: MailSink + 
         awaited
     }
 
-    /// Whether the store is to be given back: it failed, or somebody waits for it.
+    /// Whether the store is to be given back: it failed, it isn't that of the file at its path any more, or somebody waits for it.
     fn is_wanted(&mut self) -> bool
         ensures { StillShown K.S.Store K.tells K.holds self.old.held self.new.held }
     {
-        self.news.has_failed() || self.is_awaited()
+        self.news.has_failed() || self.is_lost() || self.is_awaited()
     }
 
     /// Brings an event to the store, where that may be asked and is to be had.
@@ -226,12 +230,41 @@ impl<'a, N: Net + time::Clock, E: Write + Drop, K: Keeper + Drop, T: MailSink + 
         if !self.may_ask(id) {
             return None;
         }
+        let Ok(later) = Octets::from_slice(self.alloc, TRY_LATER) else {
+            return None;
+        };
         let begun = start(self.system);
         self.reach();
+        let is_guest = user_of(clients, id).is_none();
         let answer = self.held.change(clients, event)?;
         self.news.note_answer(&answer, self.held.code());
         note_time(&mut self.news, self.system, begun);
-        Some(answer)
+        let kept = self.is_kept();
+        Some(answered(answer, kept, is_guest, later))
+    }
+
+    /// Whether the store is had, and the file at the path is another one, or none. That is told.
+    fn is_lost(&mut self) -> bool
+        ensures same { self.new.held ≡ self.old.held }
+        ensures lost { result ≡ true → ¬ IsTrue K.tells }
+    {
+        if !self.held.is_had() || self.held.is_there(self.path) {
+            return false;
+        }
+        self.news.note_lost();
+        true
+    }
+
+    /// Whether the file at the path is still that of the store, behind an act. Where it isn't the store is given back.
+    fn is_kept(&mut self) -> bool
+        ensures kept { IsClean K.S.Store K.tells self.new.held → (result ≡ true) × (self.new.held ≡ self.old.held) }
+        ensures sink { self.new.held.sink ≡ self.old.held.sink }
+    {
+        if self.is_lost() {
+            self.give_back();
+            return false;
+        }
+        true
     }
 
     /// Looks for an account, where the store may be asked and is to be had.
@@ -245,7 +278,8 @@ impl<'a, N: Net + time::Clock, E: Write + Drop, K: Keeper + Drop, T: MailSink + 
         self.reach();
         let lookup = self.held.find(user)?;
         self.news.note_lookup(lookup, self.held.code());
-        Some(lookup)
+        let kept = self.is_kept();
+        Some(found(lookup, kept))
     }
 
     /// Delivers a message at the moment that the clock shows, where the store may be asked and is to be had.
@@ -265,12 +299,30 @@ impl<'a, N: Net + time::Clock, E: Write + Drop, K: Keeper + Drop, T: MailSink + 
         {
             Some(answer) => {
                 let code = self.held.code();
-                self.news.note_delivery(parcel, &answer, code);
                 note_time(&mut self.news, self.system, begun);
-                Some(told_as(answer, code))
+                let kept = self.is_kept();
+                Some(self.tell_delivery(parcel, answer, code, kept))
             }
             None => None,
         }
+    }
+
+    /// Tells of a delivery, which is refused where it stands in no file any more.
+    fn tell_delivery(
+        &mut self,
+        parcel: &Parcel,
+        answer: Answer,
+        code: Option<ErrorCode>,
+        kept: bool,
+    ) -> Answer
+        ensures same { self.new.held ≡ self.old.held }
+        ensures told { kept ≡ true → IsToldAs answer code result }
+    {
+        if !kept {
+            return self.news.refuse_delivery(parcel);
+        }
+        self.news.note_delivery(parcel, &answer, code);
+        told_as(answer, code)
     }
 
     /// Has a message move on, where the store may be asked and is to be had.
@@ -286,6 +338,7 @@ impl<'a, N: Net + time::Clock, E: Write + Drop, K: Keeper + Drop, T: MailSink + 
         let moving = self.go_on(now, fresh)?;
         self.news
             .note_moving(&moving, self.held.code(), self.held.sink_cause());
+        let _ = self.is_kept();
         Some(moving)
     }
 
@@ -330,6 +383,8 @@ impl<'a, N: Net + time::Clock, E: Write + Drop, K: Keeper + Drop, T: MailSink + 
     /// Gives the store back. After a failure it is left alone for a while.
     fn give_back(&mut self)
         ensures shown { IsClean K.S.Store K.tells self.new.held → StillShown K.S.Store K.tells K.holds self.old.held self.new.held }
+        ensures given { self.new.held.store ≡ None }
+        ensures sink { self.new.held.sink ≡ self.old.held.sink }
     {
         let refusal = self.held.give_back();
         let now = self.sockets.now();
@@ -343,6 +398,28 @@ fn user_of(clients: &Clients, id: u32) -> Option<&[u8]> {
         Some(session) => session.user(),
         None => None,
     }
+}
+
+/// The answer to a command, as it is told. Where it stands in no file any more a user is to try later; what a guest was told of a login
+/// stands in none.
+fn answered(answer: Answer, kept: bool, is_guest: bool, later: Octets) -> Answer
+    ensures { kept ≡ true → result ≡ answer }
+{
+    if kept || is_guest {
+        return answer;
+    }
+    match answer {
+        Answer::Out(goes_on, _) => Answer::Out(goes_on, later),
+        other => other,
+    }
+}
+
+/// What was found of an account, as it is told: a fault, where that stands in no file any more.
+fn found(lookup: Lookup, kept: bool) -> Lookup
+    ensures same { kept ≡ true → result ≡ lookup }
+    ensures found { IsFound lookup → IsFound result }
+{
+    if kept { lookup } else { Lookup::Fault }
 }
 
 /// The answer to a delivery, as it is told: of a store whose disk is full as of one that lacks memory.

@@ -8,7 +8,7 @@ use crate::log::{
     has_failed, is_delivered, is_moved, of_beginning, of_delivery, of_moving, of_slow,
 };
 use crate::pause::Pause;
-use keepers::cause::of_sqlite;
+use keepers::cause::{FILE_IS_GONE, of_sqlite};
 use lmtp::Lookup;
 use loglines::tally::{Tally, status_line};
 use mailengine::{Answer, Refusal};
@@ -157,6 +157,11 @@ impl<E: Write + Drop> News<E> {
         }
     }
 
+    /// The file at the path isn't any more that of the store that is had.
+    pub fn note_lost(&mut self) {
+        tell(&mut self.errors, Refusal::Store, Some(FILE_IS_GONE));
+    }
+
     /// Notes what an answer says of the store. The first failure since it was taken is told; after one that isn't lack of room the
     /// store is given back.
     pub fn note_answer(&mut self, answer: &Answer, code: Option<ErrorCode>)
@@ -181,6 +186,14 @@ impl<E: Write + Drop> News<E> {
             return;
         }
         self.tell_line(of_delivery(self.alloc, parcel, answer));
+    }
+
+    /// A delivery is refused, since the file at the path isn't any more that of the store; that is told of it.
+    pub fn refuse_delivery(&mut self, parcel: &Parcel) -> Answer {
+        let answer = Answer::Refused(Refusal::Store);
+        self.count_delivery(&answer);
+        self.tell_line(of_delivery(self.alloc, parcel, &answer));
+        answer
     }
 
     fn count_delivery(&mut self, answer: &Answer)

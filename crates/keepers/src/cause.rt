@@ -8,6 +8,13 @@ use std::io::ErrorKind;
 /// Of a disk without room for the store, and how room is made.
 const NO_ROOM: &str = "disk is full: remove the reserve file beside the store";
 
+/// Of a file that isn't any more what was opened at its path.
+pub const FILE_IS_GONE: &str = "file was removed or replaced";
+
+/// Of a log that lies beside a file that took the place of its own.
+pub(crate) const LOG_OF_ANOTHER: &str =
+    "log is that of a file that was replaced: move FILE-wal away";
+
 /// Of a file that can't be opened, written or renamed; none where nothing more is known of it.
 pub fn of_file(kind: ErrorKind) -> Option<&'static str>
     ensures { option_copied result ≡ file_text kind }

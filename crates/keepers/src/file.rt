@@ -3,14 +3,17 @@ ghost use Rattle.std.specs.Prelude.{◌≡◌, IfSome};
 ghost use Rattle.mailstore.specs.Refusals.{IsTransient};
 ghost use Rattle.keepers.specs.Closing.{WasAnswered, IsToldOf, IsToldOfClosing, code_at_end};
 
-use crate::cause::{of_file_of_store, of_lock, of_sqlite};
+use crate::cause::{FILE_IS_GONE, LOG_OF_ANOTHER, of_file_of_store, of_lock, of_sqlite};
+use crate::identity::{Identity, Log};
 use crate::keeper::{Keeper, Unavailable, release, store_of};
+use crate::note::Note;
 use mailstore::{Refusal, Store};
 use sqlite::{Connection, Error, ErrorCode, File as Database, FileStore};
+use std::alloc::AllocError;
 use std::fs::{File, OpenOptions, TryLockError};
 use std::io::ErrorKind;
 use std::os::unix::fs::OpenOptionsExt;
-use std::{format, fs, io};
+use std::{format, io};
 
 /// The permissions of a file that is made: its owner reads and writes it, and no one else does. All users' mail is in it.
 const OWNER_ALONE: u32 = 0o600;
@@ -20,12 +23,17 @@ const OWNER_ALONE: u32 = 0o600;
 /// The lock is given back when the store is handed back, or when the process ends. Where it is waited for, the lock on `FILE.wait` is
 /// held meanwhile. A daemon has that on `FILE.daemon` too, until its process ends. The files `FILE.lock`, `FILE.wait` and `FILE.daemon`
 /// stay.
+///
+/// `FILE.lock` says which file was opened last, and which log it had. A log that may have changes, and is that one, isn't read into a
+/// file that isn't.
 #[derive(Drop)]
 pub struct FileKeeper<'a> {
     rt: &'a HostRuntime,
     lock: Option<File>,
     /// The lock that a daemon has for life.
     life: Option<File>,
+    /// The file that was opened last.
+    opened: Option<Identity>,
     waits: bool,
     cause: Option<&'static str>,
     /// Why the file that was closed last couldn't be, until that is asked for.
@@ -46,6 +54,7 @@ impl<'a> FileKeeper<'a> {
             rt,
             lock: None,
             life: None,
+            opened: None,
             waits: false,
             cause: None,
             unclosed: None,
@@ -57,8 +66,11 @@ impl<'a> FileKeeper<'a> {
         ensures kept { self.new.lock ≡ self.old.lock }
         ensures closed { self.new.unclosed ≡ self.old.unclosed }
     {
-        match open_file(self.rt, path, fresh) {
-            Ok(store) => Ok(store),
+        match open_file(self.rt, &self.lock, path, fresh) {
+            Ok((store, file)) => {
+                self.opened = Some(file);
+                Ok(store)
+            }
             Err(failure) => {
                 self.cause = failure.cause;
                 Err(failure.denial)
@@ -159,6 +171,13 @@ impl Keeper for FileKeeper<'_> {
         }
     }
 
+    fn is_there(&self, path: &str) -> bool {
+        match Identity::at(self.rt, path) {
+            Ok(found) => found.is_some() && found == self.opened,
+            Err(_) => false,
+        }
+    }
+
     fn put_back(&mut self, store: &mut Option<Store<FileStore<Database>>>) {
         if let Some(store) = store.take() {
             self.close(store);
@@ -241,12 +260,13 @@ fn lock_beside(rt: &HostRuntime, path: &str, ending: &str) -> Result<File, Failu
     }
 }
 
-/// The empty file beside the store with this ending, which is made where it is absent.
+/// The file beside the store with this ending, which is made where it is absent.
 fn open_beside(rt: &HostRuntime, path: &str, ending: &str) -> Result<File, Failure> {
     let Ok(name) = format!(in rt.alloc(); "{path}.{ending}") else {
         return Err(Failure::from(Refusal::Memory));
     };
     let opened = OpenOptions::new()
+        .read(true)
         .write(true)
         .create(true)
         .mode(OWNER_ALONE)
@@ -262,21 +282,26 @@ fn lock_failure(error: io::Error) -> Failure {
     }
 }
 
-/// The store of a file whose lock is held. Only a new one makes the file where it is absent. SQLite gives its log the
-/// permissions of the database's file.
+/// The store of a file whose lock is held, and which file that is. Only a new one makes the file where it is absent. SQLite gives its
+/// log the permissions of the database's file.
 fn open_file(
     rt: &HostRuntime,
+    lock: &Option<File>,
     path: &str,
     fresh: bool,
-) -> Result<Store<FileStore<Database>>, Failure> {
+) -> Result<(Store<FileStore<Database>>, Identity), Failure> {
     if fresh {
         make_file(rt, path)?;
-    } else if is_absent(rt, path) {
-        return Err(Failure::from(Refusal::NotOurs));
     }
+    let file = find_file(rt, path)?;
+    look_at_log(rt, lock, path, file)?;
     let conn = Connection::open(rt, path).map_err(open_failure)?;
+    if let Err(failure) = settle_file(rt, lock, path, file) {
+        let _ = conn.close();
+        return Err(failure);
+    }
     match store_of(rt.alloc(), conn, fresh) {
-        Ok(store) => Ok(store),
+        Ok(store) => Ok((store, file)),
         Err((refusal, conn, code)) => {
             let _ = conn.close();
             Err(Failure {
@@ -284,6 +309,70 @@ fn open_file(
                 cause: code.and_then(of_sqlite),
             })
         }
+    }
+}
+
+/// Which file a path leads to. One that isn't there is no store.
+fn find_file(rt: &HostRuntime, path: &str) -> Result<Identity, Failure> {
+    match Identity::at(rt, path) {
+        Ok(Some(file)) => Ok(file),
+        Ok(None) => Err(Failure::from(Refusal::NotOurs)),
+        Err(error) => Err(file_failure(error)),
+    }
+}
+
+/// Looks, before a file is opened, whether the log beside it is that of another one.
+fn look_at_log(
+    rt: &HostRuntime,
+    lock: &Option<File>,
+    path: &str,
+    file: Identity,
+) -> Result<(), Failure> {
+    let (Some(lock), Some(log)) = (lock, Log::beside(rt, path).map_err(file_failure)?) else {
+        return Ok(());
+    };
+    let Some(noted) = Note::read(lock).map_err(lock_failure)? else {
+        return Ok(());
+    };
+    if log.is_full && note_of(rt, file, log, lock)?.has_log_of(&noted) {
+        return Err(refused_for(LOG_OF_ANOTHER));
+    }
+    Ok(())
+}
+
+/// Behind the open: the path leads to the file still, and that it was opened, with its log, is noted before anything is written.
+fn settle_file(
+    rt: &HostRuntime,
+    lock: &Option<File>,
+    path: &str,
+    file: Identity,
+) -> Result<(), Failure> {
+    if Identity::at(rt, path).map_err(file_failure)? != Some(file) {
+        return Err(refused_for(FILE_IS_GONE));
+    }
+    let (Some(lock), Some(log)) = (lock, Log::beside(rt, path).map_err(file_failure)?) else {
+        return Ok(());
+    };
+    let note = note_of(rt, file, log, lock)?;
+    note_file(lock, note)
+}
+
+/// What is to be noted of a file and its log.
+fn note_of(rt: &HostRuntime, file: Identity, log: Log, lock: &File) -> Result<Note, Failure> {
+    let found = lock.metadata().map_err(lock_failure)?;
+    let note = Note::of(rt.alloc(), file, log.identity, Identity::of(&found))?;
+    Ok(note)
+}
+
+/// Writes the note, where it isn't there. Where none was there, and there is no room for one, the store is opened without.
+fn note_file(lock: &File, note: Note) -> Result<(), Failure> {
+    let noted = Note::read(lock).map_err(lock_failure)?;
+    if noted == Some(note) {
+        return Ok(());
+    }
+    match note.write(lock) {
+        Err(error) if noted.is_some() => Err(lock_failure(error)),
+        _ => Ok(()),
     }
 }
 
@@ -328,9 +417,24 @@ impl From<Refusal> for Failure {
     }
 }
 
-fn is_absent(rt: &HostRuntime, path: &str) -> bool {
-    match fs::metadata(rt, path) {
-        Ok(_) => false,
-        Err(error) => error.kind() == ErrorKind::NotFound,
+impl From<AllocError> for Failure {
+    fn from(_: AllocError) -> Failure {
+        Failure::from(Refusal::Memory)
+    }
+}
+
+/// A store that isn't opened, for this cause.
+fn refused_for(cause: &'static str) -> Failure {
+    Failure {
+        denial: Unavailable::Refused(Refusal::Store),
+        cause: Some(cause),
+    }
+}
+
+/// What the system says of a file that it can't look at.
+fn file_failure(error: io::Error) -> Failure {
+    Failure {
+        denial: Unavailable::Refused(Refusal::Store),
+        cause: of_file_of_store(error.kind()),
     }
 }

@@ -132,6 +132,11 @@ pub trait Keeper {
         ensures denied { IfErr result (refuses self.old path.now) }
         ensures closed { unclosed self.new ≡ unclosed self.old };
 
+    /// Whether the file at the path is the one that was opened there: it isn't removed, nor is another in its place. What a store said
+    /// that is out stands in the file at its path only where this is so.
+    fn is_there(&self, path: &str) -> bool
+        ensures there { IsTrue tells → IsTrue result };
+
     /// Takes the store back out of the place that it is given in, closes it, and gives the lock back. Where it can't be closed what was
     /// committed stays, and the next one to take the store finds it; `take_close_error` tells of it.
     fn put_back(&mut self, store: &mut Option<Store<Self::S>>)

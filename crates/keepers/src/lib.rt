@@ -3,8 +3,10 @@
 
 pub mod cause;
 mod file;
+mod identity;
 mod keeper;
 mod memory;
+mod note;
 
 pub use file::FileKeeper;
 pub use keeper::{Keeper, Unavailable};

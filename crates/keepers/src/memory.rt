@@ -147,6 +147,10 @@ impl Keeper for MemoryKeeper {
         }
     }
 
+    fn is_there(&self, _path: &str) -> bool {
+        true
+    }
+
     fn put_back(&mut self, store: &mut Option<Store<MemStore>>) {
         if let Some(store) = store.take() {
             self.conn = Some(store.release());

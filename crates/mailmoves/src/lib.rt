@@ -2,12 +2,15 @@
 //! taken out then.
 #![tactic(auto)]
 
+pub mod laws;
 mod moving;
+mod order;
 mod place;
 mod rest;
 mod route;
 
 pub use moving::{Kept, Moving, Stay, Why, move_first};
+pub use order::{Mark, Order};
 pub use place::{home_of, place_in};
 pub use rest::{Rest, Rests};
 pub use route::{Route, move_next, span_behind};

@@ -1,9 +1,10 @@
 //! Folders that rest, since a message of theirs couldn't be moved.
-ghost use Rattle.std.specs.Prelude.{◌≡◌, ◌++◌, ◌∷◌, [], filter, not, OnOk, OnErr};
-ghost use Rattle.std.specs.List.{list_any};
+ghost use Rattle.std.specs.Prelude.{◌≡◌, [], filter, not, nat_eq, IfOk};
+ghost use Rattle.std.specs.Cmp.Lexicographic.{pointwise};
 ghost use Rattle.mailmoves.specs.Rests as rests;
 
-use octets::{List, Octets};
+use crate::order::{is_behind, is_between};
+use octets::Octets;
 use std::alloc::{AllocError, Global};
 
 /// So many milliseconds a folder rests after the first failure.
@@ -12,11 +13,16 @@ const FIRST: u64 = 60000;
 /// So many at most.
 const LONGEST: u64 = 3600000;
 
+/// Of so many folders of a user it is known that they rest. Where one more fails, all of the user's rest: it is the user's Maildir that
+/// fails then, and so a user takes little memory, and little of a round.
+const MAX_FOLDERS: u64 = 16;
+
 /// A folder that rests. Moments and spans are in milliseconds.
 #[derive(Drop)]
 pub struct Rest {
     pub user: Octets,
-    pub folder: Octets,
+    /// None where all folders of the user rest.
+    pub folder: Option<Octets>,
     /// The moment until which it rests.
     pub until: u64,
     /// For how long it rests this time.
@@ -27,7 +33,13 @@ impl Rest {
     fn is_of(&self, user: &[u8], folder: &[u8]) -> bool
         ensures { result ≡ rests.is_of user.now folder.now self.now }
     {
-        self.user.as_slice() == user && self.folder.as_slice() == folder
+        self.is_of_user(user) && is_folder(&self.folder, folder)
+    }
+
+    fn is_of_user(&self, user: &[u8]) -> bool
+        ensures { result ≡ pointwise nat_eq self.now.user user.now }
+    {
+        self.user.as_slice() == user
     }
 
     fn lasts(&self, user: &[u8], folder: &[u8], now: u64) -> bool
@@ -38,7 +50,7 @@ impl Rest {
 }
 
 /// Folders that failed, each with how long it rests: after the first failure a minute, after each further one twice as long, an
-/// hour at most. One that went well is in it no more.
+/// hour at most. One that went well is in it no more, nor are those of a user without mail.
 #[derive(Drop)]
 pub struct Rests {
     pub entries: Vec<Rest>,
@@ -70,7 +82,28 @@ impl Rests {
         self.entries.retain(|rest| !rest.is_of(user, folder));
     }
 
-    /// A folder failed: it rests from now on. Whether it hadn't failed before, since it went well.
+    /// How many rests of a user are known: 17 at most.
+    pub fn count(&self, user: &[u8]) -> u64
+        ensures { result ≡ rests.rests_of user.now self.now.entries.items }
+    {
+        let many = self.entries.iter().filter(|rest| rest.is_of_user(user));
+        many.count() as u64
+    }
+
+    /// Forgets those users between the one who had the last turn and this one, who have no mail.
+    pub fn forget_between(&mut self, last: &Option<Octets>, user: &[u8]) {
+        self.entries
+            .retain(|rest| !is_between(last, user, rest.user.as_slice()));
+    }
+
+    /// Forgets those users behind the one who had the last turn, who have no mail.
+    pub fn forget_behind(&mut self, last: &Option<Octets>) {
+        self.entries
+            .retain(|rest| !is_behind(last, rest.user.as_slice()));
+    }
+
+    /// A folder failed: it rests from now on, and all of the user's where too many rest already. Whether it hadn't failed before,
+    /// since it went well.
     ///
     /// Lack of memory is the only error; then it doesn't rest.
     pub fn begin(
@@ -85,12 +118,28 @@ impl Rests {
         let span = span_after(before);
         let rest = Rest {
             user: Octets::from_slice(alloc, user)?,
-            folder: Octets::from_slice(alloc, folder)?,
+            folder: self.what_rests(alloc, user, folder)?,
             until: now.saturating_add(span),
             span,
         };
         self.entries.push(rest)?;
         Ok(before.is_none())
+    }
+
+    /// What rests from now on: the folder, or all of the user's.
+    fn what_rests(
+        &self,
+        alloc: Global,
+        user: &[u8],
+        folder: &[u8],
+    ) -> Result<Option<Octets>, AllocError>
+        ensures { IfOk result (λ what. what ≡ rests.what_rests (rests.rests_of user.now self.now.entries.items) folder.now) }
+    {
+        if self.count(user) < MAX_FOLDERS {
+            Ok(Some(Octets::from_slice(alloc, folder)?))
+        } else {
+            Ok(None)
+        }
     }
 
     /// For how long a folder rested at last.
@@ -99,6 +148,16 @@ impl Rests {
             Some(rest) => Some(rest.span),
             None => None,
         }
+    }
+}
+
+/// Whether a rest of this folder, or of all, is one of that folder.
+fn is_folder(what: &Option<Octets>, folder: &[u8]) -> bool
+    ensures { result ≡ rests.is_folder folder.now what.now }
+{
+    match what {
+        Some(other) => other.as_slice() == folder,
+        None => true,
     }
 }
 

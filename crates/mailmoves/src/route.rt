@@ -1,9 +1,14 @@
 //! Which message is next, and where it goes.
-ghost use Rattle.std.specs.Prelude.{◌≡◌, IsTrue, OnErr};
+ghost use Rattle.std.specs.Prelude.{◌≡◌, IsTrue, OnOk, Some};
 ghost use Rattle.sqlite.specs.Held.{state};
 ghost use Rattle.mailmoves.specs.Moving.{IsStill, KeepsIt, MovesOn, WasClean, span_behind};
+ghost use Rattle.mailmoves.specs.Order.{start_behind};
+ghost use Rattle.mailmoves.specs.Rests.{rests_at};
+ghost use Rattle.mailmoves.specs.Turns.{GoesByTurns, HasTurn, IsEnd, IsOf, IsStayOf, IsTurnAt, Passes, TurnEnds};
+ghost use Rattle.mailmoves.specs.Turns as turns;
 
 use crate::moving::{Kept, Moving, Stay, Why, move_first};
+use crate::order::Order;
 use crate::place::{home_of, place_in};
 use crate::rest::Rests;
 use maildirs::Separator;
@@ -14,11 +19,7 @@ use octets::Octets;
 use sqlite::Alter;
 use std::alloc::{AllocError, Global};
 
-/// A number behind all those that a message may have.
-const LAST: u64 = 9223372036854775807;
-
-/// Where mail goes, whose turn it is, and which folders rest. Folders have their turns in the order of the octets of their users and
-/// names, one message each, round by round.
+/// Where mail goes, whose turn it is, and which folders rest.
 #[derive(Drop)]
 pub struct Route {
     alloc: Global,
@@ -26,9 +27,8 @@ pub struct Route {
     dir: Octets,
     /// What separates the levels of a folder's name.
     separator: Separator,
-    /// Behind which place the next message is looked for.
-    behind: Filed,
-    /// Something may have come since the round began, or moved in it: another one follows.
+    order: Order,
+    /// Something may have come since the round began, or moved or failed in it: another one follows.
     again: bool,
     rests: Rests,
 }
@@ -40,24 +40,29 @@ impl Route {
             alloc,
             dir,
             separator,
-            behind: beginning(alloc),
+            order: Order::new(alloc),
             again: true,
             rests: Rests::new(alloc),
         }
     }
 
     /// Where `fresh`, mail may have come since: another round follows.
-    fn hear(&mut self, fresh: bool) {
+    fn hear(&mut self, fresh: bool)
+        ensures order { self.new.order ≡ self.old.order }
+        ensures rests { self.new.rests ≡ self.old.rests }
+    {
         if fresh {
             self.again = true;
         }
     }
 
     /// The round is at its end.
-    fn turn(&mut self) -> Moving
-        ensures { IsStill result }
+    fn end_round(&mut self) -> Moving
+        ensures still { IsStill result }
+        ensures ends { IsEnd result self.new.order }
     {
-        self.behind = beginning(self.alloc);
+        self.rests.forget_behind(&self.order.last);
+        self.order.end_round();
         if self.again {
             self.again = false;
             return Moving::Passed;
@@ -65,29 +70,48 @@ impl Route {
         Moving::Nothing
     }
 
-    /// The next folder is looked for behind this one.
-    fn pass(&mut self, filed: &Filed) -> Result<(), AllocError> {
-        let user = filed.user.try_clone(self.alloc)?;
-        let folder = filed.folder.try_clone(self.alloc)?;
-        self.behind = Filed {
-            user,
-            folder,
-            number: LAST,
+    /// A user had the turn, at the folder of this place. Lack of memory is the only error.
+    fn end_turn(&mut self, filed: &Filed) -> Result<(), AllocError>
+        ensures { OnOk result (TurnEnds self.old.order filed.now.user filed.now.folder self.new.order) }
+    {
+        let user = filed.user.as_slice();
+        self.rests.forget_between(&self.order.last, user);
+        self.order.end_turn(user, filed.folder.as_slice())
+    }
+
+    /// A folder rests: the user's next one has the turn, unless all rest.
+    fn pass(&mut self, filed: &Filed) -> Moving
+        ensures still { IsStill result }
+        ensures passed { Passes self.old.rests.entries.items self.old.order filed.now.user filed.now.folder result self.new.order }
+    {
+        let (user, folder) = (filed.user.as_slice(), filed.folder.as_slice());
+        let passed = if self.order.passed < self.rests.count(user) {
+            self.order.pass(user, folder)
+        } else {
+            self.end_turn(filed)
         };
-        Ok(())
+        match passed {
+            Ok(()) => Moving::Passed,
+            Err(AllocError) => Moving::Failed(Refusal::Memory),
+        }
     }
 
     /// Whether a folder rests at a moment.
-    fn has_rest(&self, filed: &Filed, now: u64) -> bool {
+    fn has_rest(&self, filed: &Filed, now: u64) -> bool
+        ensures { result ≡ rests_at now filed.now.user filed.now.folder self.now.rests.entries.items }
+    {
         self.rests
             .last(filed.user.as_slice(), filed.folder.as_slice(), now)
     }
 
-    /// A folder's message stays where it is: the folder rests from now on.
+    /// A folder's message stays where it is: the folder rests from now on. The user's other folders have their turns in another round.
     fn stay(&mut self, filed: Filed, why: Why, now: u64) -> Moving
-        ensures { IsStill result }
+        ensures still { IsStill result }
+        ensures stays { IsStayOf filed result }
+        ensures order { self.new.order ≡ self.old.order }
     {
         let is_first = self.rest(&filed, now);
+        self.again = true;
         Moving::Stays(Stay {
             user: filed.user,
             folder: filed.folder,
@@ -97,7 +121,9 @@ impl Route {
     }
 
     /// A folder rests from now on. Whether it hadn't failed since it went well.
-    fn rest(&mut self, filed: &Filed, now: u64) -> bool {
+    fn rest(&mut self, filed: &Filed, now: u64) -> bool
+        ensures { self.new.order ≡ self.old.order }
+    {
         let (user, folder) = (filed.user.as_slice(), filed.folder.as_slice());
         match self.rests.begin(self.alloc, user, folder, now) {
             Ok(is_first) => is_first,
@@ -106,7 +132,9 @@ impl Route {
     }
 
     /// A folder's message is kept. Where it couldn't be taken out the folder rests.
-    fn note(&mut self, filed: &Filed, answer: &Answer, now: u64) {
+    fn note(&mut self, filed: &Filed, answer: &Answer, now: u64)
+        ensures { self.new.order ≡ self.old.order }
+    {
         match answer {
             Answer::Refused(_) => {
                 let _ = self.rest(filed, now);
@@ -121,7 +149,8 @@ impl Route {
 
     /// What became of a message that is kept.
     fn went(&mut self, filed: Filed, kept: Kept, now: u64) -> Moving
-        ensures { result ≡ Moving.Kept (record { user = filed.user; folder = filed.folder; number = kept.number; message = kept.message; flags = kept.flags }) kept.answer }
+        ensures kept { result ≡ Moving.Kept (record { user = filed.user; folder = filed.folder; number = kept.number; message = kept.message; flags = kept.flags }) kept.answer }
+        ensures order { self.new.order ≡ self.old.order }
     {
         self.note(&filed, &kept.answer, now);
         let mail = KeptMail {
@@ -152,15 +181,6 @@ impl Route {
     }
 }
 
-/// Before all places.
-fn beginning(alloc: Global) -> Filed {
-    Filed {
-        user: Octets::new(alloc),
-        folder: Octets::new(alloc),
-        number: 0,
-    }
-}
-
 /// Opens a place, which is made where it isn't there, with the user's before it.
 fn open_place<T: MailSink>(sink: &mut T, home: &[u8], place: &[u8]) -> Result<(), Why>
     ensures { IsTrue T.tells → T.kept sink.new ≡ T.kept sink.old }
@@ -187,9 +207,10 @@ fn open_or_make<T: MailSink>(sink: &mut T, home: &str, place: &str) -> Result<()
     }
 }
 
-/// Moves the first message of the folder whose turn it is. Where `fresh`, mail may have come since the last call.
+/// Moves the first message of the folder whose turn it is: users have one message each a round, and a user's folders take turns too. Where
+/// `fresh`, mail may have come since the last call.
 ///
-/// Three rows are found by their keys, and one message is read, at most.
+/// Six rows are found by their keys, and one message is read, at most.
 pub fn move_next<S: Alter, T: MailSink>(
     store: &mut Store<S>,
     sink: &mut T,
@@ -200,17 +221,76 @@ pub fn move_next<S: Alter, T: MailSink>(
     ensures moves { MovesOn result (state S.Store store.old) (state S.Store store.new) }
     ensures clean { WasClean (state S.Store store.old) (state S.Store store.new) }
     ensures keeps { KeepsIt T.tells (T.kept sink.old) (T.kept sink.new) result }
+    ensures turns { GoesByTurns now route.old result route.new (state S.Store store.old) (state S.Store store.new) }
 {
     route.hear(fresh);
-    match store.next_filed(&route.behind) {
-        Ok(Some(filed)) => move_of(store, sink, route, filed, now),
-        Ok(None) => route.turn(),
+    let Ok(start) = route.order.start() else {
+        return Moving::Failed(Refusal::Memory);
+    };
+    match store.next_filed(&start) {
+        Ok(Some(first)) => move_of(store, sink, route, first, now),
+        Ok(None) => route.end_round(),
         Err(refusal) => Moving::Failed(refusal),
     }
 }
 
-/// Moves the first message of a folder that has one, unless it rests.
+/// Moves a message of a user, whose first one this is.
 fn move_of<S: Alter, T: MailSink>(
+    store: &mut Store<S>,
+    sink: &mut T,
+    route: &mut Route,
+    first: Filed,
+    now: u64,
+) -> Moving
+    ensures moves { MovesOn result (state S.Store store.old) (state S.Store store.new) }
+    ensures clean { WasClean (state S.Store store.old) (state S.Store store.new) }
+    ensures keeps { KeepsIt T.tells (T.kept sink.old) (T.kept sink.new) result }
+    ensures turns { HasTurn now first route.old result route.new (state S.Store store.old) (state S.Store store.new) }
+{
+    match route.order.start_in(first.user.as_slice()) {
+        Ok(Some(start)) => move_behind(store, sink, route, first, start, now),
+        Ok(None) => move_in(store, sink, route, first, now),
+        Err(AllocError) => Moving::Failed(Refusal::Memory),
+    }
+}
+
+/// Moves the user's first message behind that place, which is behind the folder of the last turn; the first one again, where none is.
+fn move_behind<S: Alter, T: MailSink>(
+    store: &mut Store<S>,
+    sink: &mut T,
+    route: &mut Route,
+    first: Filed,
+    start: Filed,
+    now: u64,
+) -> Moving
+    requires { start_behind first.user route.old.order.marks.items ≡ Some start }
+    ensures moves { MovesOn result (state S.Store store.old) (state S.Store store.new) }
+    ensures clean { WasClean (state S.Store store.old) (state S.Store store.new) }
+    ensures keeps { KeepsIt T.tells (T.kept sink.old) (T.kept sink.new) result }
+    ensures turns { HasTurn now first route.old result route.new (state S.Store store.old) (state S.Store store.new) }
+{
+    match store.next_filed(&start) {
+        Ok(next) => move_in(store, sink, route, chosen(next, first), now),
+        Err(refusal) => Moving::Failed(refusal),
+    }
+}
+
+/// The message that comes next, where it is of the same user as the first one, and else that.
+fn chosen(next: Option<Filed>, first: Filed) -> Filed
+    ensures { result ≡ turns.chosen next first }
+{
+    let Some(next) = next else {
+        return first;
+    };
+    if next.user.as_slice() == first.user.as_slice() {
+        next
+    } else {
+        first
+    }
+}
+
+/// Moves the first message of a folder that has one, unless it rests.
+fn move_in<S: Alter, T: MailSink>(
     store: &mut Store<S>,
     sink: &mut T,
     route: &mut Route,
@@ -220,12 +300,13 @@ fn move_of<S: Alter, T: MailSink>(
     ensures moves { MovesOn result (state S.Store store.old) (state S.Store store.new) }
     ensures clean { WasClean (state S.Store store.old) (state S.Store store.new) }
     ensures keeps { KeepsIt T.tells (T.kept sink.old) (T.kept sink.new) result }
+    ensures turn { IsTurnAt now route.old.rests.entries.items route.old.order filed.user filed.folder result route.new.order }
 {
-    if route.pass(&filed).is_err() {
-        return Moving::Failed(Refusal::Memory);
-    }
     if route.has_rest(&filed, now) {
-        return Moving::Passed;
+        return route.pass(&filed);
+    }
+    if route.end_turn(&filed).is_err() {
+        return Moving::Failed(Refusal::Memory);
     }
     match route.open(sink, &filed) {
         Ok(()) => move_into(store, sink, route, filed, now),
@@ -244,6 +325,8 @@ fn move_into<S: Alter, T: MailSink>(
     ensures moves { MovesOn result (state S.Store store.old) (state S.Store store.new) }
     ensures clean { WasClean (state S.Store store.old) (state S.Store store.new) }
     ensures keeps { KeepsIt T.tells (T.kept sink.old) (T.kept sink.new) result }
+    ensures of { IsOf filed result }
+    ensures order { route.new.order ≡ route.old.order }
 {
     match move_first(store, filed.user.as_slice(), filed.folder.as_slice(), sink) {
         Ok(kept) => route.went(filed, kept, now),

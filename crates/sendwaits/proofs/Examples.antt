@@ -63,6 +63,13 @@ kept_then = refl
 not_after : is_kept 172900 (record { due = 100; tries = 1 }) ≡ false
 not_after = refl
 
+-- nor one that lies farther ahead
+kept_before : is_kept 100 (record { due = 172900; tries = 1 }) ≡ true
+kept_before = refl
+
+not_ahead : is_kept 100 (record { due = 172901; tries = 1 }) ≡ false
+not_ahead = refl
+
 -- what is printed
 sent_line : row_line (place (codes "ann") 7) Sent ≡ codes "sent ann 7" ++ 10 ∷ []
 sent_line = ap (λ digits. (codes "sent " ++ (codes "ann" ++ 32 ∷ digits)) ++ 10 ∷ []) (decimal_digit 7 (omega arith))

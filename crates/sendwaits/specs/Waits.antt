@@ -1,5 +1,5 @@
 -- Rows that wait, and when they are due.
-use Rattle.std.specs.Prelude.{◌≡◌, ◌||◌, nat_le, nat_lt, ℕ, ◌+◌, ◌*◌, ◌^◌, ◌-◌, min, Bool, true, if◌then◌else◌, List, Option, Some, None, option_map}
+use Rattle.std.specs.Prelude.{◌≡◌, ◌&&◌, ◌||◌, nat_le, nat_lt, ℕ, ◌+◌, ◌*◌, ◌^◌, ◌-◌, min, Bool, true, if◌then◌else◌, List, Option, Some, None, option_map}
 use Rattle.std.specs.declared.cmp.Ordering.{Ordering}
 use Rattle.std.specs.BTreeMap.{get}
 use Rattle.std.specs.Cmp.Lexicographic.{slice_cmp}
@@ -70,6 +70,7 @@ pub record Notes (at : Place) (ending : Ending) (moment : ℕ) (old new : Waits)
   pub own : wait_of new at ≡ wait_after (tries_in (wait_of old at)) ending moment
   pub others : (other : Place) → (other ≡ at → ⊥) → wait_of new other ≡ wait_of old other
 
--- a wait is kept until two days after its row was due
+-- a wait is kept within two days of the moment at which its row is due: none longer, since its row may be gone, and none farther ahead, since it
+-- keeps no row back
 abbrev pub is_kept : ℕ → Wait → Bool
-is_kept now wait = nat_lt now (min (wait.due + 172800) largest)
+is_kept now wait = nat_lt now (min (wait.due + 172800) largest) && nat_le wait.due (min (now + 172800) largest)

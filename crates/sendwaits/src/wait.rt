@@ -7,8 +7,9 @@ use smtpclient::Ending;
 /// How many seconds a row waits that is refused for good.
 const DAY: u64 = 86_400;
 
-/// A row that is gone is forgotten so many seconds after it was due.
-const FORGOTTEN: u64 = 172_800;
+/// What is known of a row is kept for so many seconds after it was due, and so many before. None is noted for longer than a day, and a
+/// run is shorter than another.
+const KEPT: u64 = 172_800;
 
 /// What is known of a row that was tried in vain.
 #[derive(Clone, Copy, Debug, PartialEq, Eq)]
@@ -28,11 +29,12 @@ impl Wait {
         self.due <= now || now.saturating_add(DAY) < self.due
     }
 
-    /// Whether it is kept at a moment: until two days after the row was due.
+    /// Whether it is kept at a moment: within two days of the moment at which the row is due. So what a clock noted that was ahead is
+    /// forgotten too, also of a row that is gone.
     pub fn is_kept(&self, now: u64) -> bool
         ensures { result ≡ s.is_kept now self.now }
     {
-        now < self.due.saturating_add(FORGOTTEN)
+        now < self.due.saturating_add(KEPT) && self.due <= now.saturating_add(KEPT)
     }
 }
 

@@ -1,5 +1,6 @@
 //! Many clients at once.
 use crate::default_script::read_default;
+use crate::descriptors::{TOO_FEW, are_enough};
 use crate::listening::{Asked, Listening, Mail, listen, read_asked, trouble_of_socket};
 use daemonhosts::host::Host;
 use keepers::Keeper;
@@ -98,6 +99,7 @@ fn begin<N: Net + Files, D: AsFd, E: Write, K: Keeper>(
     errors: &mut E,
     keeper: &mut K,
 ) -> Result<Option<Listening>, Trouble> {
+    look_at_limit()?;
     look_at_store(words.path, errors, keeper)?;
     look_at_mail(system, asked.mail)?;
     let listening = listen(system, alloc, asked, descriptor)?;
@@ -105,6 +107,18 @@ fn begin<N: Net + Files, D: AsFd, E: Write, K: Keeper>(
         return Ok(None);
     }
     Ok(Some(listening))
+}
+
+/// Looks whether the process may have as many descriptors as the daemon needs: with too few it could neither take clients nor open the
+/// store, and would seem to be well.
+fn look_at_limit() -> Result<(), Trouble> {
+    if are_enough() {
+        return Ok(());
+    }
+    Err(Trouble {
+        fault: Fault::BadArgument,
+        cause: Some(TOO_FEW),
+    })
 }
 
 /// Takes the lock for life, and looks whether the file is a store, once nobody else has it.

@@ -5,6 +5,7 @@
 mod check;
 mod daemon;
 mod default_script;
+mod descriptors;
 mod listener;
 mod listening;
 mod run_file;

@@ -6,8 +6,8 @@ use Rattle.mailmoves.proofs.route.move_into.Goals as goal
 pub returns-in-Ok-clause-moves : goal.returns-in-Ok-clause-moves
 returns-in-Ok-clause-moves g c =
     moved_is c.as_slice.result.now c.as_slice-2.result.now c.in-Ok.kept (record { user = c.args.filed.user; folder = c.args.filed.folder; number = c.in-Ok.kept.number; message = c.in-Ok.kept.message; flags = c.in-Ok.kept.flags }) c.went.result
-    (state g.S.Store c.args.store.now) (state g.S.Store c.move_first.new.store) c.went.ensures (sym c.as_slice.ensures) (sym c.as_slice-2.ensures) refl refl c.in-Ok.ensures.moves
+    (state g.S.Store c.args.store.now) (state g.S.Store c.move_first.new.store) c.went.ensures.kept (sym c.as_slice.ensures) (sym c.as_slice-2.ensures) refl refl c.in-Ok.ensures.moves
 
 pub returns-in-Err-clause-moves : goal.returns-in-Err-clause-moves
 returns-in-Err-clause-moves g c =
-    failed_is c.as_slice.result.now c.as_slice-2.result.now c.in-Err.why c.stay.result (state g.S.Store c.args.store.now) (state g.S.Store c.move_first.new.store) c.stay.ensures c.in-Err.ensures.moves
+    failed_is c.as_slice.result.now c.as_slice-2.result.now c.in-Err.why c.stay.result (state g.S.Store c.args.store.now) (state g.S.Store c.move_first.new.store) c.stay.ensures.still c.in-Err.ensures.moves

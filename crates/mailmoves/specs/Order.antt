@@ -1,0 +1,98 @@
+-- Who may be moved next, given who was moved last: a message of each user a round, and of a user's folders one after the other.
+use Rattle.std.specs.Prelude.{◌≡◌, ◌⊎◌, ◌<◌, ◌&&◌, ℕ, not, Bool, true, false, List, [], ◌∷◌, ◌++◌, find, filter, Option, Some, None, option_map, IsTrue, nat_eq}
+use Rattle.std.specs.Ordering.{is_lt}
+use Rattle.std.specs.Cmp.Lexicographic.{pointwise}
+use Rattle.mailtables.specs.Rows.{Tables}
+use Rattle.mailstore.specs.Account.{bytes_cmp}
+use Rattle.mailstore.specs.Next.{IsFiled}
+use Rattle.mailstore.specs.declared.next.Filed.{Filed}
+use Rattle.mailmoves.specs.declared.order.Mark.{Mark}
+
+-- ---- what there is
+
+-- a message that may move; a folder's are numbered from 1 on
+abbrev pub IsMail : Tables → Filed → Type 0
+IsMail tables f = IsFiled tables f × (0 < f.number)
+
+abbrev pub comes_before : List ℕ → List ℕ → Bool
+comes_before a b = is_lt (bytes_cmp a b)
+
+-- ---- users
+
+-- a user comes behind the one who had the last turn of the round; at its beginning all do
+abbrev pub is_behind : Option (List ℕ) → List ℕ → Bool
+is_behind None user = true
+is_behind (Some last) user = comes_before last user
+
+-- the first of those behind the last one who have mail
+pub record IsNextUser (tables : Tables) (last : Option (List ℕ)) (user : List ℕ) : Type 0 where
+  pub behind : IsTrue (is_behind last user)
+  pub first : (f : Filed) → IsMail tables f → IsTrue (is_behind last f.user) → comes_before f.user user ≡ false
+
+-- nobody behind the last one has mail
+abbrev pub IsRoundOver : Tables → Option (List ℕ) → Type 0
+IsRoundOver tables last = (f : Filed) → IsMail tables f → is_behind last f.user ≡ false
+
+-- ---- folders of a user
+
+-- the first of all that have mail
+abbrev pub IsFirstFolder : Tables → List ℕ → List ℕ → Type 0
+IsFirstFolder tables user folder = (f : Filed) → IsMail tables f → f.user ≡ user → comes_before f.folder folder ≡ false
+
+-- the first of those behind another
+pub record IsFolderBehind (tables : Tables) (user mark folder : List ℕ) : Type 0 where
+  pub behind : IsTrue (comes_before mark folder)
+  pub first : (f : Filed) → IsMail tables f → f.user ≡ user → IsTrue (comes_before mark f.folder) → comes_before f.folder folder ≡ false
+
+-- none behind another has mail
+abbrev pub IsLastFolder : Tables → List ℕ → List ℕ → Type 0
+IsLastFolder tables user mark = (f : Filed) → IsMail tables f → f.user ≡ user → comes_before mark f.folder ≡ false
+
+-- behind the folder of the user's last turn, and the first again where none is
+abbrev pub FollowsFolder : Tables → List ℕ → Option (List ℕ) → List ℕ → Type 0
+FollowsFolder tables user None folder = IsFirstFolder tables user folder
+FollowsFolder tables user (Some mark) folder = IsFolderBehind tables user mark folder ⊎ (IsLastFolder tables user mark × IsFirstFolder tables user folder)
+
+-- there is mail in it, and its turn is next of the user's
+pub record IsNextFolder (tables : Tables) (user : List ℕ) (mark : Option (List ℕ)) (folder : List ℕ) : Type 0 where
+  pub mail : Filed
+  pub there : IsFiled tables mail
+  pub of_user : mail.user ≡ user
+  pub in_folder : mail.folder ≡ folder
+  pub follows : FollowsFolder tables user mark folder
+
+-- ---- what is remembered
+
+abbrev pub is_user : List ℕ → List ℕ → Bool
+is_user user other = pointwise nat_eq other user
+
+-- of a user: the folder of the last turn
+abbrev pub mark_of : List ℕ → List Mark → Option (List ℕ)
+mark_of user marks = option_map (λ m. m.folder) (find (λ m. is_user user m.user) marks)
+
+-- between the last one and a user, so without mail
+abbrev pub is_between : Option (List ℕ) → List ℕ → List ℕ → Bool
+is_between last user other = is_behind last other && comes_before other user
+
+-- behind a turn at a folder: that is the user's mark, and users without mail are forgotten
+abbrev pub marked : Option (List ℕ) → List ℕ → List ℕ → List Mark → List Mark
+marked last user folder marks = filter (λ m. not (is_between last user m.user)) (filter (λ m. not (is_user user m.user)) marks) ++ record { user = user; folder = folder } ∷ []
+
+-- ---- places that a store is asked for
+
+-- behind all of this text, and before all that comes later
+abbrev pub beyond : List ℕ → List ℕ
+beyond text = text ++ 0 ∷ []
+
+-- before the first message of a user behind the last one
+abbrev pub start_of : Option (List ℕ) → Filed
+start_of None = record { user = []; folder = []; number = 0 }
+start_of (Some last) = record { user = beyond last; folder = []; number = 0 }
+
+-- before the first message of a user's folders behind this one
+abbrev pub start_in : List ℕ → List ℕ → Filed
+start_in user mark = record { user = user; folder = beyond mark; number = 0 }
+
+-- the same behind the folder of the last turn
+abbrev pub start_behind : List ℕ → List Mark → Option Filed
+start_behind user marks = option_map (start_in user) (mark_of user marks)
