@@ -2,7 +2,7 @@
 ghost use Rattle.std.specs.Prelude.{◌≡◌};
 ghost use Rattle.deliverplan.specs.Delivered as delivered;
 
-use mailfronts::header_len;
+use mailfronts::is_header_longer;
 
 /// The most octets of a header whose fields are read, with the empty line that ends it: 1 MiB.
 ///
@@ -12,9 +12,9 @@ const MAX_HEADER: usize = 1_048_576;
 /// Whether a message's header has more than [`MAX_HEADER`] octets, with the empty line that ends it; where no line is empty all of
 /// the message is its header.
 ///
-/// One pass up to that line; takes no memory.
+/// One pass up to that line, and over no more than [`MAX_HEADER`] octets; takes no memory.
 pub fn has_long_header(message: &[u8]) -> bool
     ensures { result ≡ delivered.has_long_header message.now }
 {
-    header_len(message) > MAX_HEADER
+    is_header_longer(message, MAX_HEADER)
 }
