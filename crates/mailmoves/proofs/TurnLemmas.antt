@@ -57,7 +57,7 @@ module _ (now : ℕ) (rests : List Rest) (before : Order) (user folder : List �
 
   pub passed : (m : Moving) (after : Order) → rests_at now user folder rests ≡ true → Passes rests before user folder m after → IsTurnAt now rests before user folder m after
   passed moving.Passed after rest it = elim it [ inl over ↦ inl (rest, over) | inr ends ↦ inr ends ]
-  passed (moving.Failed refusal) after rest it = tt
+  passed (moving.Failed refusal) after rest it = inl it
   passed (moving.Kept mail answer) after rest it = absurd it
   passed (moving.Stays stay) after rest it = absurd it
   passed moving.Nothing after rest it = absurd it
@@ -75,7 +75,7 @@ module _ (now : ℕ) (tables : Tables) (first : Filed) (rests : List Rest) (befo
   pub turn_of : (filed : Filed) (m : Moving) (after : Order)
       → (IsUsersFirst tables first → (filed.user ≡ first.user) × IsNextFolder tables first.user (mark_of first.user before.marks.items) filed.folder)
       → IsTurnAt now rests before filed.user filed.folder m after → IsTurnOf now tables first rests before m after
-  turn_of filed (moving.Failed refusal) after next turn = tt
+  turn_of filed (moving.Failed refusal) after next turn = inr (λ mine. (filed.folder, (next mine).1, subst (λ u. IsTurnAt now rests before u filed.folder (moving.Failed refusal) after) (next mine).0 turn))
   turn_of filed (moving.Kept mail answer) after next turn = λ mine. (filed.folder, (next mine).1, subst (λ u. IsTurnAt now rests before u filed.folder (moving.Kept mail answer) after) (next mine).0 turn)
   turn_of filed (moving.Stays stay) after next turn = λ mine. (filed.folder, (next mine).1, subst (λ u. IsTurnAt now rests before u filed.folder (moving.Stays stay) after) (next mine).0 turn)
   turn_of filed moving.Passed after next turn = λ mine. (filed.folder, (next mine).1, subst (λ u. IsTurnAt now rests before u filed.folder moving.Passed after) (next mine).0 turn)
@@ -86,16 +86,19 @@ module _ (now : ℕ) (tables : Tables) (first : Filed) (rests : List Rest) (befo
     mine = (next.0, first_folder tables before.last first next)
 
     pub turn_is : (m : Moving) (after : Order) → IsTurnOf now tables first rests before m after → TurnsTo now tables rests before m after
-    turn_is (moving.Failed refusal) after turn = tt
+    turn_is (moving.Failed refusal) after turn = elim turn [
+      | inl stays ↦ inl stays
+      | inr at ↦ (let it = at mine in inr (record { user = first.user; folder = it.0; next_user = next_user tables before.last first next; next_folder = it.1; turn = it.2 }))
+    ]
     turn_is (moving.Kept mail answer) after turn = let it = turn mine in inl (record { user = first.user; folder = it.0; next_user = next_user tables before.last first next; next_folder = it.1; turn = it.2 })
     turn_is (moving.Stays stay) after turn = let it = turn mine in inl (record { user = first.user; folder = it.0; next_user = next_user tables before.last first next; next_folder = it.1; turn = it.2 })
     turn_is moving.Passed after turn = let it = turn mine in inl (record { user = first.user; folder = it.0; next_user = next_user tables before.last first next; next_folder = it.1; turn = it.2 })
     turn_is moving.Nothing after turn = absurd (turn mine).2
 
-pub round_ends : (now : ℕ) (tables : Tables) (rests : List Rest) (before : Order) (m : Moving) (after : Order) → IsNextFiled (start_of before.last) None tables → IsEnd m after → TurnsTo now tables rests before m after
+pub round_ends : (now : ℕ) (tables : Tables) (rests : List Rest) (before : Order) (m : Moving) (after : Order) → IsNextFiled (start_of before.last) None tables → IsEnd before m after → TurnsTo now tables rests before m after
 round_ends now tables rests before moving.Nothing after none end = inr (round_over tables before.last none, end)
 round_ends now tables rests before moving.Passed after none end = inr (round_over tables before.last none, end)
-round_ends now tables rests before (moving.Failed refusal) after none end = tt
+round_ends now tables rests before (moving.Failed refusal) after none end = absurd end
 round_ends now tables rests before (moving.Kept mail answer) after none end = absurd end
 round_ends now tables rests before (moving.Stays stay) after none end = absurd end
 

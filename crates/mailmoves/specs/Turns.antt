@@ -1,11 +1,11 @@
 -- Whose message a call moves, or tries to move.
-use Rattle.std.specs.Prelude.{◌≡◌, ◌⊎◌, ◌+◌, ◌<◌, ℕ, true, false, List, Option, Some, None, if◌then◌else◌}
+use Rattle.std.specs.Prelude.{◌≡◌, ◌⊎◌, ◌+◌, ◌<◌, ℕ, true, false, not, List, filter, Option, Some, None, if◌then◌else◌}
 use Rattle.sqlite.specs.State.{State, HasCleanDisk}
 use Rattle.mailtables.specs.Rows.{Tables}
 use Rattle.mailstore.specs.Next.{IsFiled}
 use Rattle.mailstore.specs.Promises.{OverTables}
 use Rattle.mailstore.specs.declared.next.Filed.{Filed}
-use Rattle.mailmoves.specs.Order.{IsFirstFolder, IsNextFolder, IsNextUser, IsRoundOver, is_user, mark_of, marked}
+use Rattle.mailmoves.specs.Order.{IsFirstFolder, IsNextFolder, IsNextUser, IsRoundOver, is_behind, is_user, mark_of, marked}
 use Rattle.mailmoves.specs.Rests.{rests_at, rests_of}
 use Rattle.mailmoves.specs.declared.moving.Moving.{Moving}
 use Rattle.mailmoves.specs.declared.moving.Moving.TheVariants as moving
@@ -20,6 +20,11 @@ pub record TurnEnds (before : Order) (user folder : List ℕ) (after : Order) : 
   pub last : after.last ≡ Some user
   pub passed : after.passed ≡ 0
   pub marks : after.marks.items ≡ marked before.last user folder before.marks.items
+
+-- nobody had a turn
+pub record Stays (before after : Order) : Type 0 where
+  pub last : after.last ≡ before.last
+  pub passed : after.passed ≡ before.passed
 
 -- it goes on, behind this folder
 pub record TurnGoesOn (before : Order) (user folder : List ℕ) (after : Order) : Type 0 where
@@ -51,7 +56,7 @@ IsTurnAt now rests before user folder (moving.Kept mail answer) after = (mail.us
 IsTurnAt now rests before user folder (moving.Stays stay) after = (stay.user ≡ user) × (stay.folder ≡ folder) × IsTried now rests before user folder after
 IsTurnAt now rests before user folder moving.Passed after = IsPassed now rests before user folder after
 IsTurnAt now rests before user folder moving.Nothing after = ⊥
-IsTurnAt now rests before user folder (moving.Failed refusal) after = Unit {0}
+IsTurnAt now rests before user folder (moving.Failed refusal) after = Stays before after ⊎ TurnEnds before user folder after
 
 -- ---- a call
 
@@ -63,15 +68,21 @@ pub record IsTurn (now : ℕ) (tables : Tables) (rests : List Rest) (before : Or
   pub next_folder : IsNextFolder tables user (mark_of user before.marks.items) folder
   pub turn : IsTurnAt now rests before user folder result after
 
--- a round ends where nobody is behind the last one, and the next begins
+-- the next round begins, and of users behind the last one, who have no mail, nothing is remembered
+pub record BeginsRound (before after : Order) : Type 0 where
+  pub last : after.last ≡ None
+  pub passed : after.passed ≡ 0
+  pub marks : after.marks.items ≡ filter (λ m. not (is_behind before.last m.user)) before.marks.items
+
+-- a round ends where nobody is behind the last one
 abbrev pub EndsRound : Tables → Order → Moving → Order → Type 0
-EndsRound tables before moving.Nothing after = IsRoundOver tables before.last × (after.last ≡ None)
-EndsRound tables before moving.Passed after = IsRoundOver tables before.last × (after.last ≡ None)
+EndsRound tables before moving.Nothing after = IsRoundOver tables before.last × BeginsRound before after
+EndsRound tables before moving.Passed after = IsRoundOver tables before.last × BeginsRound before after
 EndsRound tables before other after = ⊥
 
--- it was a turn, or the end of a round, or the store failed
+-- it was a turn, or the end of a round; where a call failed nobody had one, or the user whose it was
 abbrev pub TurnsTo : ℕ → Tables → List Rest → Order → Moving → Order → Type 0
-TurnsTo now tables rests before (moving.Failed refusal) after = Unit {0}
+TurnsTo now tables rests before (moving.Failed refusal) after = Stays before after ⊎ IsTurn now tables rests before (moving.Failed refusal) after
 TurnsTo now tables rests before result after = IsTurn now tables rests before result after ⊎ EndsRound tables before result after
 
 -- over a store, whatever tables it had
@@ -94,13 +105,13 @@ IsStayOf filed other = ⊥
 
 abbrev pub Passes : List Rest → Order → List ℕ → List ℕ → Moving → Order → Type 0
 Passes rests before user folder moving.Passed after = MayPass rests before user folder after
-Passes rests before user folder (moving.Failed refusal) after = Unit {0}
+Passes rests before user folder (moving.Failed refusal) after = Stays before after
 Passes rests before user folder other after = ⊥
 
-abbrev pub IsEnd : Moving → Order → Type 0
-IsEnd moving.Nothing after = after.last ≡ None
-IsEnd moving.Passed after = after.last ≡ None
-IsEnd other after = ⊥
+abbrev pub IsEnd : Order → Moving → Order → Type 0
+IsEnd before moving.Nothing after = BeginsRound before after
+IsEnd before moving.Passed after = BeginsRound before after
+IsEnd before other after = ⊥
 
 -- the message that comes next, where it is of the same user as the first one, and else that
 abbrev pub chosen : Option Filed → Filed → Filed
@@ -111,11 +122,15 @@ chosen (Some next) first = if is_user first.user next.user then next else first
 abbrev pub IsUsersFirst : Tables → Filed → Type 0
 IsUsersFirst tables first = IsFiled tables first × IsFirstFolder tables first.user first.folder
 
--- the turn of a user, whose first message this is
-abbrev pub IsTurnOf : ℕ → Tables → Filed → List Rest → Order → Moving → Order → Type 0
-IsTurnOf now tables first rests before (moving.Failed refusal) after = Unit {0}
-IsTurnOf now tables first rests before result after =
+-- the turn of a user, whose first message this is, at a folder
+abbrev pub IsTurnIn : ℕ → Tables → Filed → List Rest → Order → Moving → Order → Type 0
+IsTurnIn now tables first rests before result after =
     IsUsersFirst tables first → (folder : List ℕ) × IsNextFolder tables first.user (mark_of first.user before.marks.items) folder × IsTurnAt now rests before first.user folder result after
+
+-- that, or it failed before there was one
+abbrev pub IsTurnOf : ℕ → Tables → Filed → List Rest → Order → Moving → Order → Type 0
+IsTurnOf now tables first rests before (moving.Failed refusal) after = Stays before after ⊎ IsTurnIn now tables first rests before (moving.Failed refusal) after
+IsTurnOf now tables first rests before result after = IsTurnIn now tables first rests before result after
 
 abbrev pub HasTurn : ℕ → Filed → Route → Moving → Route → State → State → Type 0
 HasTurn now first before result after old new = HasCleanDisk new → OverTables old (λ tables. IsTurnOf now tables first before.rests.entries.items before.order result after.order)

@@ -1,8 +1,8 @@
 //! Whose turn it is: a message of each user a round, and of a user's folders one after the other.
-ghost use Rattle.std.specs.Prelude.{◌≡◌, ◌+◌, ◌<◌, ◌^◌, ◌++◌, ◌∷◌, [], None, IfOk, OnOk, find, filter, not, option_copied};
+ghost use Rattle.std.specs.Prelude.{◌≡◌, ◌+◌, ◌<◌, ◌^◌, ◌++◌, ◌∷◌, [], None, IfOk, OnOk, OnErr, find, filter, not, option_copied};
 ghost use Rattle.mailtables.specs.Cells.{contents};
 ghost use Rattle.mailmoves.specs.Order as order;
-ghost use Rattle.mailmoves.specs.Turns.{TurnEnds, TurnGoesOn};
+ghost use Rattle.mailmoves.specs.Turns.{BeginsRound, Stays, TurnEnds, TurnGoesOn};
 
 use mailstore::Filed;
 use octets::Octets;
@@ -76,7 +76,8 @@ impl Order {
 
     /// A user had the turn, at this folder. Lack of memory is the only error; then the turn goes on.
     pub fn end_turn(&mut self, user: &[u8], folder: &[u8]) -> Result<(), AllocError>
-        ensures { OnOk result (TurnEnds self.old user.now folder.now self.new) }
+        ensures ends { OnOk result (TurnEnds self.old user.now folder.now self.new) }
+        ensures stays { OnErr result (Stays self.old self.new) }
     {
         let last = Octets::from_slice(self.alloc, user)?;
         self.mark(user, folder)?;
@@ -88,7 +89,8 @@ impl Order {
     /// A folder is passed over, and the user's turn goes on. Lack of memory is the only error.
     pub fn pass(&mut self, user: &[u8], folder: &[u8]) -> Result<(), AllocError>
         requires { self.old.passed + 1 < 2 ^ 64 }
-        ensures { OnOk result (TurnGoesOn self.old user.now folder.now self.new) }
+        ensures passes { OnOk result (TurnGoesOn self.old user.now folder.now self.new) }
+        ensures stays { OnErr result (Stays self.old self.new) }
     {
         self.mark(user, folder)?;
         self.passed += 1;
@@ -97,7 +99,7 @@ impl Order {
 
     /// The round is over, and the next one begins. Who has no mail behind the last one is forgotten.
     pub fn end_round(&mut self)
-        ensures { self.new.last ≡ None }
+        ensures { BeginsRound self.old self.new }
     {
         let last = self.last.take();
         self.marks

@@ -1,10 +1,10 @@
 //! Which message is next, and where it goes.
-ghost use Rattle.std.specs.Prelude.{◌≡◌, IsTrue, OnOk, Some};
+ghost use Rattle.std.specs.Prelude.{◌≡◌, IsTrue, OnErr, OnOk, Some};
 ghost use Rattle.sqlite.specs.Held.{state};
 ghost use Rattle.mailmoves.specs.Moving.{IsStill, KeepsIt, MovesOn, WasClean, span_behind};
 ghost use Rattle.mailmoves.specs.Order.{start_behind};
 ghost use Rattle.mailmoves.specs.Rests.{rests_at};
-ghost use Rattle.mailmoves.specs.Turns.{GoesByTurns, HasTurn, IsEnd, IsOf, IsStayOf, IsTurnAt, Passes, TurnEnds};
+ghost use Rattle.mailmoves.specs.Turns.{GoesByTurns, HasTurn, IsEnd, IsOf, IsStayOf, IsTurnAt, Passes, Stays, TurnEnds};
 ghost use Rattle.mailmoves.specs.Turns as turns;
 
 use crate::moving::{Kept, Moving, Stay, Why, move_first};
@@ -59,7 +59,7 @@ impl Route {
     /// The round is at its end.
     fn end_round(&mut self) -> Moving
         ensures still { IsStill result }
-        ensures ends { IsEnd result self.new.order }
+        ensures ends { IsEnd self.old.order result self.new.order }
     {
         self.rests.forget_behind(&self.order.last);
         self.order.end_round();
@@ -72,7 +72,8 @@ impl Route {
 
     /// A user had the turn, at the folder of this place. Lack of memory is the only error.
     fn end_turn(&mut self, filed: &Filed) -> Result<(), AllocError>
-        ensures { OnOk result (TurnEnds self.old.order filed.now.user filed.now.folder self.new.order) }
+        ensures ends { OnOk result (TurnEnds self.old.order filed.now.user filed.now.folder self.new.order) }
+        ensures stays { OnErr result (Stays self.old.order self.new.order) }
     {
         let user = filed.user.as_slice();
         self.rests.forget_between(&self.order.last, user);
