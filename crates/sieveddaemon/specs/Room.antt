@@ -23,9 +23,9 @@ first_span = 50
 abbrev pub sender_span : ℕ
 sender_span = 1000
 
--- so many are many: half of the places
+-- so many are many: three quarters of the places
 abbrev pub many_silent : ℕ
-many_silent = 10
+many_silent = 15
 
 -- one that waits for the answer to a login that failed, since then
 abbrev pub kept_span : ℕ

@@ -1,6 +1,6 @@
 //! Who claims to go where another one of its kind wants its place, and all are taken.
-ghost use Rattle.std.specs.Prelude.{◌≡◌};
-ghost use Rattle.sieveddaemon.specs.DaemonRules as daemon;
+ghost use Rattle.std.specs.Prelude.{◌≡◌, ◌-◌};
+ghost use Rattle.sieveddaemon.specs.DaemonRules as rules;
 ghost use Rattle.sieveddaemon.specs.Places as places;
 ghost use Rattle.sieveddaemon.specs.Places.{client_at};
 ghost use Rattle.sieveddaemon.specs.Room as room;
@@ -21,8 +21,8 @@ const FIRST_SPAN: u64 = 50;
 /// So many milliseconds any other client of LMTP is left alone while no recipient of its is taken.
 const SENDER_SPAN: u64 = 1000;
 
-/// So many clients of LMTP that haven't said LHLO are many: half of the places.
-const MANY_SILENT: usize = 10;
+/// So many clients of LMTP that haven't said LHLO are many: three quarters of the places.
+const MANY_SILENT: usize = 15;
 
 /// An answer to a login that failed is kept back for no more milliseconds where it may not be heard: its client has waited for 500 then, so
 /// who guesses passwords keeps each place that long.
@@ -108,7 +108,7 @@ fn waits_claim(now: u64, place: &Place, session: &Session) -> Option<Claim>
 
 /// What a client of ManageSieve claims; none where somebody is logged in there.
 pub fn claim_of_guest(daemon: &Daemon, now: u64, id: u32) -> Option<Claim>
-    ensures { result ≡ room.guest_claim now (daemon.place_at daemon.now id) (client_at daemon.now.clients.sessions id) }
+    ensures { result ≡ room.guest_claim now (rules.place_at daemon.now id) (client_at daemon.now.clients.sessions id) }
 {
     match daemon.places.get(&id) {
         Some(place) => match daemon.clients.session(id) {
