@@ -6,14 +6,14 @@ store beside it, and killed.
 
 Prints a line for each trial, a last one that counts them, and ends with 1 where one failed. `tests/run` runs it, with --quick, which
 does a tenth of what is done many times. It needs python3 alone.
-The trials: says, examples, octets, rubbish, silent, fifty, crowd, places, busy, share, deaf, guesses, hostile, waits, away, fails, rests, tells, killed,
-growth; without a word, all.
+The trials: says, examples, octets, rubbish, silent, fifty, sixty, crowd, places, knocks, waiters, busy, share, deaf, stalls, guesses, hostile, waits, away, fails,
+rests, tells, killed, growth; without a word, all.
 """
 import fcntl, os, random, re, select, shutil, socket, subprocess, threading, time
 import trials
 from hostile import RULES, SESSION, Ledger, memory, said, until_ok
 from lmtp import Peer, greet
-from managesieve import HERE, SIEVED, Gone, Store, connect, end
+from managesieve import HERE, SIEVED, Client, Gone, Store, connect, end
 
 CASES = f"{HERE}/../crates/cases/data"
 PROGRAM = [SIEVED]
@@ -257,6 +257,48 @@ def places():
     return f"300 silent clients come within {opened:.1f} s, and beside them a new one logs in within {worst * 1000:.0f} ms; who failed a login goes first"
 
 
+def knocks():
+    """300 connections that come at once and say nothing, and one behind them, which logs in within a second."""
+    store = new_store("alice")
+    server, port = store.daemon()
+    times = []
+    for _ in range(3):
+        silent = [socket.create_connection(("127.0.0.1", port)) for _ in range(300)]
+        times.append(timed(lambda: connect(port).log_in("alice")))
+        for sock in silent:
+            sock.close()
+    end(server)
+    assert max(times) < 1, times
+    return f"behind 300 silent connections that came at once another logs in within {max(times) * 1000:.0f} ms"
+
+
+def waiters():
+    """Fifty clients that wait for the answer to a login that failed: one that would hear it last makes room for the next client."""
+    store = new_store("alice")
+    server, port = store.daemon()
+    guests = [connect(port) for _ in range(50)]
+    for guest in guests:
+        guest.send(b'AUTHENTICATE "PLAIN" "AGFsaWNlAHdyb25n"\r\n')
+    time.sleep(0.1)
+    took = timed(lambda: connect(port).log_in("alice"))
+    told = [guest.reply()[-1] for guest in guests]
+    end(server)
+    assert took < 1.9 and told.count(b'BYE "Idle."\r\n') == 1 and told.count(b'NO "Authentication failed."\r\n') == 49, (took, told)
+    return f"the next client logs in within {took * 1000:.0f} ms; of fifty that failed one hears BYE, and the others NO"
+
+
+def sixty():
+    """Sixty clients at once where there are fifty places: each logs in and stores its script, and none is sent away."""
+    store = new_store(*[f"u{number}" for number in range(60)])
+    server, port = store.daemon()
+    began = time.time()
+    results = each(60, lambda number: lives(port, f"u{number}"))
+    took = time.time() - began
+    end(server)
+    assert all(result is True for result in results), [result for result in results if result is not True]
+    return f"60 clients, {trials.some(20)} scripts each: {took:.1f} s, and none is sent away"
+
+
 def busy():
     """One user's clients that have the daemon check large scripts without end: another user's commands come between them."""
     store = new_store("alice", "bob")
@@ -336,6 +378,37 @@ def deaf():
     end(server)
     assert worst < 1 and most < 40_000, (worst, most)
     return f"one that asks {sent} times for 200,000 octets and reads nothing: others within {worst * 1000:.0f} ms, at most {most} kB"
+
+
+def stalls():
+    """A client that reads nothing is first in the line of those who wait for the store: once that is free others have it, and it has all of
+    its answers when it reads."""
+    store = new_store("alice", "bob")
+    server, port = store.daemon()
+    other = logged_in(port, "bob")
+    sock = socket.socket()
+    sock.setsockopt(socket.SOL_SOCKET, socket.SO_RCVBUF, 4096)
+    sock.connect(("127.0.0.1", port))
+    silent = Client(sock.makefile("rb"), sock.makefile("wb", buffering=0), sock)
+    silent.reply()
+    silent.log_in("alice")
+    text = b"# " + b"x" * 900 + b"\r\nkeep;\r\n"
+    assert silent.put(b"a", text).startswith(b"OK")
+    asked = 10_000
+    silent.send(b'GETSCRIPT "a"\r\n' * asked)
+    time.sleep(1)
+    with held(store):
+        time.sleep(0.1)
+        silent.send(b'GETSCRIPT "a"\r\n')
+        time.sleep(0.3)
+    began = time.time()
+    told = other.put(b"b", b"keep;\r\n")
+    took = time.time() - began
+    answers = [silent.reply() for _ in range(asked + 1)]
+    end(server)
+    assert told.startswith(b"OK") and took < 1, (told, took)
+    assert all(answer[0] == text and answer[-1].startswith(b"OK") for answer in answers)
+    return f"behind one that asks {asked + 1} times and reads nothing another stores a script within {took * 1000:.0f} ms"
 
 
 def guesses():
@@ -610,7 +683,7 @@ def growth():
     return f"resident {figures[first][0]} kB after {first} connections, {figures[last][0]} kB after {last}; descriptors {figures[first][1]} and {figures[last][1]}"
 
 
-TRIALS = [says, examples, octets, rubbish, silent, fifty, crowd, places, busy, share, deaf, guesses, hostile, waits, away, fails, rests, tells, killed, growth]
+TRIALS = [says, examples, octets, rubbish, silent, fifty, sixty, crowd, places, knocks, waiters, busy, share, deaf, stalls, guesses, hostile, waits, away, fails, rests, tells, killed, growth]
 
 
 if __name__ == "__main__":

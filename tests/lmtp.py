@@ -270,6 +270,119 @@ def thousand():
     return f"{len(users)} recipients, a reply each; another client's NOOP took {slowest * 1000:.0f} ms at most"
 
 
+def hurried(port, user, text=b"Subject: x\r\n\r\nx\r\n"):
+    """A mail server's session: greeting, LHLO, one message, QUIT. True where it was delivered, else what came, and for how long it waited."""
+    told, began = [], time.time()
+    try:
+        peer = Peer(port, greeted=False)
+        told = [peer.reply()]
+        for line in b"LHLO c\r\n", b"MAIL FROM:<s@x>\r\n", b"RCPT TO:<%s@x>\r\n" % user, b"DATA\r\n", text + b".\r\n", b"QUIT\r\n":
+            told += peer.say(line)
+        peer.close()
+    except OSError as error:
+        return [*told, repr(error), time.time() - began]
+    return [reply[:3] for reply in told] == [b"220", b"250", b"250", b"250", b"354", b"250", b"221"] or told
+
+
+def at_once(count, call):
+    results = [None] * count
+
+    def one(number):
+        results[number] = call(number)
+    threads = [threading.Thread(target=one, args=(number,)) for number in range(count)]
+    for thread in threads:
+        thread.start()
+    for thread in threads:
+        thread.join()
+    return results
+
+
+def knocks():
+    """300 connections that come at once and say nothing, and one behind them, whose message is delivered within a second."""
+    store = new_store("alice")
+    server, port = daemon(store, "--lmtp", "0", "--quiet")
+    times = []
+    for _ in range(3):
+        silent = [socket.create_connection(("127.0.0.1", port)) for _ in range(300)]
+        began = time.time()
+        told = hurried(port, b"alice")
+        times.append(time.time() - began)
+        assert told is True, told
+        for sock in silent:
+            sock.close()
+    end(server)
+    assert max(times) < 1 and count_of(store, "alice") == 3, times
+    return f"behind 300 silent connections that came at once a message is delivered within {max(times) * 1000:.0f} ms"
+
+
+def persistent(port, user, again):
+    """The same, where one that is told 421 is tried again, as a mail server does."""
+    while True:
+        told = hurried(port, user)
+        if told is True or told[1:2] != [b"421 4.4.2 Idle\r\n"]:
+            return told
+        again.append(told)
+
+
+def thirty():
+    """Thirty mail servers at once where there are twenty places: each has each of its messages delivered once. One that doesn't say LHLO
+    within 50 ms, as on a busy machine, may be told 421 and tries again."""
+    store = new_store(*[f"u{number}" for number in range(30)])
+    server, port = daemon(store, "--lmtp", "0", "--quiet")
+    again, each = [], trials.some(50)
+    began = time.time()
+    results = at_once(30, lambda number: [persistent(port, b"u%d" % number, again) for _ in range(each)])
+    took = time.time() - began
+    end(server)
+    wrong = [told for told in sum(results, []) if told is not True]
+    assert not wrong, (len(wrong), wrong[:3])
+    assert all(count_of(store, f"u{number}") == each for number in range(30))
+    assert len(again) * 5 <= 30 * each, len(again)
+    return f"30 mail servers, {each} sessions each: {took:.1f} s, {len(again)} are told to come again, and each message is delivered once"
+
+
+def flood():
+    """A mail server among connections that come again and again and say nothing, or LHLO, or MAIL, or an octet at a time, or NOOP without end:
+    each of its messages is delivered by a session of its own."""
+    store = new_store("alice")
+    server, port = daemon(store, "--lmtp", "0", "--quiet")
+    over = threading.Event()
+    openings = b"", b"", b"LHLO c\r\n", b"LHLO c\r\nMAIL FROM:<s@x>\r\n", b"LHLO c\r\nMAIL FROM:<s@x>\r\nRCPT TO:<nobody@x>\r\n"
+
+    def beset(number):
+        while not over.is_set():
+            try:
+                sock = socket.create_connection(("127.0.0.1", port), timeout=60)
+                sock.sendall(openings[number % len(openings)])
+                sock.settimeout(0.2)
+                while not over.is_set():
+                    try:
+                        if not sock.recv(4096):
+                            break
+                    except socket.timeout:
+                        pass
+                    sock.sendall([b"", b"N", b"NOOP\r\n"][number % 3])
+                sock.close()
+            except OSError:
+                pass
+    threads = [threading.Thread(target=beset, args=(number,), daemon=True) for number in range(60)]
+    for thread in threads:
+        thread.start()
+    time.sleep(2)
+    times, tried = [], max(trials.some(20), 5)
+    for _ in range(tried):
+        began = time.time()
+        told = hurried(port, b"alice")
+        times.append(time.time() - began)
+        assert told is True, told
+    over.set()
+    for thread in threads:
+        thread.join()
+    end(server)
+    assert count_of(store, "alice") == tried and max(times) < 20, times
+    return f"{tried} messages beside 60 connections that are silent or talk by halves: each is delivered, within {max(times):.1f} s"
+
+
 def send_on(peer, part):
     """More of a text, where the connection hasn't ended."""
     try:
@@ -533,8 +646,8 @@ def replaced():
     return f"{len(there) - 1} changes, {lost} seen; {len(loads.answered)} answered, each in its file; {put_off} of {len(loads.said)} recipients put off"
 
 
-TRIALS = {"dialogues": dialogues, "names": names, "scripts": scripts, "default": default, "circles": circles, "thousand": thousand, "room": room, "little_room": little_room, "broken_off": broken_off, "away": away,
-          "sockets": sockets, "replaced": replaced, "killed": killed}
+TRIALS = {"dialogues": dialogues, "names": names, "scripts": scripts, "default": default, "circles": circles, "thousand": thousand, "knocks": knocks, "thirty": thirty, "flood": flood, "room": room, "little_room": little_room,
+          "broken_off": broken_off, "away": away, "sockets": sockets, "replaced": replaced, "killed": killed}
 
 
 def program(path):

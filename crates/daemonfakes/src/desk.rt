@@ -258,6 +258,10 @@ impl<S: Shelf + Drop> Sockets for DeskFake<S> {
         self.stage.listen(kind)
     }
 
+    fn defer(&mut self, kind: u32) {
+        self.stage.defer(kind)
+    }
+
     fn note(&mut self, act: Act<Note>)
         requires { IsOwn act }
         ensures seen { TellsIf is_told told_by self.old act self.new }

@@ -1,7 +1,34 @@
--- Whose turn it is.
-use Rattle.std.specs.Prelude.{ℕ, ◌==◌, Bool, true, List, [], ◌∷◌}
+-- Whose turn it is to have the store.
+use Rattle.std.specs.Prelude.{◌≡◌, ◌⊎◌, ℕ, ◌-◌, ◌==◌, nat_lt, Bool, true, false, if◌then◌else◌, List, [], ◌∷◌, ◌++◌, find, Option, Some, None}
+use Rattle.std.specs.List.{list_any}
+use Rattle.std.specs.Ordering.{nat_cmp}
+use Rattle.std.specs.BTreeMap as tree
 
--- it came first, or nobody waits
-abbrev pub comes_next : ℕ → List ℕ → Bool
-comes_next id [] = true
-comes_next id (first ∷ others) = first == id
+-- one that didn't ask for so many milliseconds holds up nobody
+abbrev pub patience : ℕ
+patience = 100
+
+abbrev pub asked_of_late : ℕ → Option ℕ → Bool
+asked_of_late now None = false
+asked_of_late now (Some moment) = nat_lt (now - moment) patience
+
+-- one of those who wait asked of late, or is the one that asks now
+abbrev pub asks : ℕ → ℕ → tree.BTreeMap ℕ ℕ → ℕ → Bool
+asks id now asked other = if other == id then true else asked_of_late now (tree.get nat_cmp asked other)
+
+abbrev pub is_first : ℕ → Option ℕ → Bool
+is_first id None = true
+is_first id (Some first) = first == id
+
+-- of those it came first, or there is none
+abbrev pub comes_next : ℕ → ℕ → List ℕ → tree.BTreeMap ℕ ℕ → Bool
+comes_next id now ids asked = is_first id (find (asks id now asked) ids)
+
+-- one that waits has its place, or the last one; none where memory was lacking
+abbrev pub Joins : ℕ → List ℕ → List ℕ → Type 0
+Joins id ids later =
+    (later ≡ (if list_any (λ n. n == id) ids then ids else ids ++ id ∷ [])) ⊎ (later ≡ ids)
+
+-- when it asked is known, and all else stays; nothing changes where memory was lacking
+abbrev pub Asks : ℕ → ℕ → tree.BTreeMap ℕ ℕ → tree.BTreeMap ℕ ℕ → Type 0
+Asks id now asked later = tree.Updates nat_cmp asked later id (Some now) ⊎ tree.IsUnchanged asked later

@@ -24,6 +24,7 @@ use mailposts::Parcel;
 use mailsinks::MailSink;
 use octets::Octets;
 use sieveddaemon::desk::Desk;
+use sieveddaemon::LMTP;
 use sieveddaemon::note::Note;
 use sievedrun::trouble::Trouble;
 use sieveexec::When;
@@ -154,7 +155,7 @@ impl<'a, N: Net + time::Clock, E: Write + Drop, K: Keeper + Drop, T: MailSink + 
         }
         self.news.note_slow(what, &account, micros);
         let now = self.sockets.now();
-        self.turns.charge(id, account, now, micros);
+        let _ = self.turns.charge(id, account, now, micros);
     }
 
     /// The same, for a user.
@@ -197,7 +198,17 @@ impl<'a, N: Net + time::Clock, E: Write + Drop, K: Keeper + Drop, T: MailSink + 
         ensures shown { StillShown K.S.Store K.tells K.holds self.old.held self.new.held }
         ensures default { self.new.default ≡ self.old.default }
     {
-        self.queue.comes_next(id) && !self.news.has_failed() && !self.is_awaited()
+        let now = self.sockets.now();
+        self.queue.comes_next(id, now) && !self.news.has_failed() && !self.is_awaited()
+    }
+
+    /// A connection waits for the store.
+    fn await_turn(&mut self, id: u32)
+        ensures same { self.new.held ≡ self.old.held }
+        ensures default { self.new.default ≡ self.old.default }
+    {
+        let now = self.sockets.now();
+        self.queue.join(id, now);
     }
 
     /// Whether somebody waits for the store. A store that is had isn't looked after again within the millisecond in which nobody did.
@@ -392,6 +403,15 @@ impl<'a, N: Net + time::Clock, E: Write + Drop, K: Keeper + Drop, T: MailSink + 
     }
 }
 
+/// For whom the first acts of a connection of that kind are.
+fn account_of(kind: u32) -> Account {
+    if kind == LMTP {
+        Account::Senders
+    } else {
+        Account::Guests
+    }
+}
+
 /// Who is logged in at a client of ManageSieve, if somebody is.
 fn user_of(clients: &Clients, id: u32) -> Option<&[u8]> {
     match clients.session(id) {
@@ -530,7 +550,7 @@ impl<N: Net + time::Clock, E: Write + Drop, K: Keeper + Drop, T: MailSink + Drop
         match self.sockets.wait(within, ready) {
             Ok(()) => {
                 let now = self.sockets.now();
-                self.turns.order(now, ready);
+                let _ = self.turns.order(now, ready);
                 self.begin_act();
                 Ok(())
             }
@@ -542,6 +562,7 @@ impl<N: Net + time::Clock, E: Write + Drop, K: Keeper + Drop, T: MailSink + Drop
     }
 
     fn accept(&mut self, kind: u32, id: u32) -> Accepted {
+        let _ = self.turns.enter(id, account_of(kind));
         self.sockets.accept(kind, id)
     }
 
@@ -577,6 +598,10 @@ impl<N: Net + time::Clock, E: Write + Drop, K: Keeper + Drop, T: MailSink + Drop
 
     fn listen(&mut self, kind: u32) {
         self.sockets.listen(kind)
+    }
+
+    fn defer(&mut self, kind: u32) {
+        self.sockets.defer(kind)
     }
 
     fn note(&mut self, act: Act<Note>)
@@ -619,7 +644,7 @@ impl<N: Net + time::Clock, E: Write + Drop, K: Keeper + Drop, T: MailSink + Drop
                 Some(answer)
             }
             None => {
-                self.queue.join(id);
+                self.await_turn(id);
                 None
             }
         }
@@ -639,7 +664,7 @@ impl<N: Net + time::Clock, E: Write + Drop, K: Keeper + Drop, T: MailSink + Drop
                 Some(lookup)
             }
             None => {
-                self.queue.join(id);
+                self.await_turn(id);
                 None
             }
         }
@@ -653,7 +678,7 @@ impl<N: Net + time::Clock, E: Write + Drop, K: Keeper + Drop, T: MailSink + Drop
                 Some(answer)
             }
             None => {
-                self.queue.join(id);
+                self.await_turn(id);
                 None
             }
         }

@@ -1,36 +1,58 @@
 //! Who waits for the store, in the order in which they came.
-ghost use Rattle.std.specs.Prelude.{◌≡◌, ◌==◌, not, filter};
-ghost use Rattle.daemonhosts.specs.Queue.{comes_next};
+ghost use Rattle.std.specs.Prelude.{◌≡◌, ◌==◌, [], not, filter, find, option_copied};
+ghost use Rattle.std.specs.Ordering.{nat_cmp};
+ghost use Rattle.std.specs.BTreeMap as tree;
+ghost use Rattle.daemonhosts.specs.Queue as q;
 
 use std::alloc::Global;
+use std::collections::BTreeMap;
 
-/// The numbers of connections, in the order in which they came, each once. Where memory is lacking for one it isn't in it, and may be
-/// served out of its order.
+/// Who waits asks for the store each 5 ms. One that didn't ask for so many milliseconds holds up nobody: its client reads nothing, say,
+/// and it has no turn until that takes some of its answers.
+const PATIENCE: u64 = 100;
+
+/// The numbers of connections, in the order in which they came, each once, and the moment at which each asked last. Where memory is
+/// lacking for one it isn't in it, and may be served out of its order.
 #[derive(Drop)]
 pub struct Queue {
     ids: Vec<u32>,
+    asked: BTreeMap<u32, u64>,
 }
 
 impl Queue {
     /// Nobody. Takes no memory.
-    pub fn new(alloc: Global) -> Queue {
+    pub fn new(alloc: Global) -> Queue
+        ensures { result.ids.items ≡ [] }
+    {
         Queue {
             ids: Vec::new(alloc),
+            asked: BTreeMap::new(alloc),
         }
     }
 
-    /// Whether it is this one's turn: it came first, or nobody waits.
-    pub fn comes_next(&self, id: u32) -> bool
-        ensures { result ≡ comes_next id self.now.ids.items }
+    /// Whether it is the turn of this one, which asks now, at a moment in milliseconds: of those who asked of late it came first, or no
+    /// other did. Time is linear in those who wait.
+    pub fn comes_next(&self, id: u32, now: u64) -> bool
+        ensures { result ≡ q.comes_next id now self.now.ids.items self.now.asked }
     {
-        match self.ids.first() {
-            Some(first) => *first == id,
-            None => true,
-        }
+        is_first(id, self.first_of_late(id, now))
     }
 
-    /// One waits.
-    pub fn join(&mut self, id: u32) {
+    /// The first of those who asked of late, among whom this one is.
+    fn first_of_late(&self, id: u32, now: u64) -> Option<&u32>
+        ensures { option_copied result ≡ find (q.asks id now self.now.asked) self.now.ids.items }
+    {
+        self.ids
+            .iter()
+            .find(|other| asks(id, now, &self.asked, **other))
+    }
+
+    /// One waits, and asks at that moment. It keeps its place where it has one.
+    pub fn join(&mut self, id: u32, now: u64)
+        ensures ids { q.Joins id self.old.ids.items self.new.ids.items }
+        ensures asked { q.Asks id now self.old.asked self.new.asked }
+    {
+        let _ = self.asked.insert(id, now);
         if !self.ids.contains(&id) {
             let _ = self.ids.push(id);
         }
@@ -40,6 +62,35 @@ impl Queue {
     pub fn leave(&mut self, id: u32)
         ensures { self.new.ids.items ≡ filter (λ other. not (other == id)) self.old.ids.items }
     {
+        forget(&mut self.asked, id);
         self.ids.retain(|other| *other != id);
     }
+}
+
+/// Whether it is the first, or there is none.
+fn is_first(id: u32, first: Option<&u32>) -> bool
+    ensures { result ≡ q.is_first id (option_copied first.entry) }
+{
+    match first {
+        Some(first) => *first == id,
+        None => true,
+    }
+}
+
+/// Whether another one asked of late, or is the one that asks now.
+fn asks(id: u32, now: u64, asked: &BTreeMap<u32, u64>, other: u32) -> bool
+    ensures { result ≡ q.asks id now asked.now other }
+{
+    if other == id {
+        return true;
+    }
+    match asked.get(&other) {
+        Some(moment) => now.saturating_sub(*moment) < PATIENCE,
+        None => false,
+    }
+}
+
+/// When it asked isn't known any more.
+fn forget(asked: &mut BTreeMap<u32, u64>, id: u32) {
+    let _ = asked.remove(&id);
 }

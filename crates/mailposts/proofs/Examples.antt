@@ -19,7 +19,7 @@ use Rattle.mailposts.specs.declared.tally.Waits.TheVariants.{Nothing, Store}
 
 -- it was away for 40 seconds at one recipient, and is for 20 at the next
 abbrev waiting : ℕ → Tally
-waiting since = record { tried = 0; told = 1; waits = Store since (since + 5); spent = 40000; since = 0 }
+waiting since = record { tried = 0; told = 1; waits = Store since (since + 5); spent = 40000; since = 0; guest = 0 }
 
 put_off_then : HasWaited 120000 (waiting 100000)
 put_off_then = omega arith
@@ -39,7 +39,7 @@ asking tried = record {
   hello = [];
   dialogue = record { phase = Asking (codes "s@x") [] (codes "Ann+b@x"); unread = [] };
   addressees = [];
-  tally = record { tried = tried; told = 0; waits = Nothing; spent = 0; since = 0 };
+  tally = record { tried = tried; told = 0; waits = Nothing; spent = 0; since = 0; guest = 0 };
 }
 
 -- where another form is left nothing is said

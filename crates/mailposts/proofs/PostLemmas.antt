@@ -13,9 +13,9 @@ use Rattle.lmtp.specs.declared.receiver.Stage.{Stage}
 use Rattle.lmtp.specs.declared.receiver.Stage.TheVariants as stage
 use Rattle.lmtp.specs.declared.reply.Outcome.{Outcome}
 use Rattle.lmtp.proofs.DialogueLemmas.{one_item}
-use Rattle.mailposts.specs.Posts.{Post, is_open, is_sending, behind, Answered, Declined, Asked, Away, Brought, IsAsked, taken_with, next_form, Finds, IsFound, Resolved, first_form, IsOwed, said_for, told_post, next_recipient}
+use Rattle.mailposts.specs.Posts.{Post, is_open, is_sending, has_some, behind, Answered, Declined, Asked, Away, Brought, IsAsked, taken_with, next_form, Finds, IsFound, Resolved, first_form, IsOwed, said_for, told_post, next_recipient}
 use Rattle.mailposts.specs.Stands.{wanted_for, Holds, Stands, is_open_at, is_sending_at, Settles, GoesOn, Asks, ResolvesIt, TellsIt, Keeps, Hears, Does, IsNext, Demands, AsksIt}
-use Rattle.mailposts.specs.Tallies.{fresh, done, heard, away}
+use Rattle.mailposts.specs.Tallies.{done, settled, heard, away}
 use Rattle.mailposts.specs.declared.addressee.Addressee.{Addressee}
 use Rattle.mailposts.specs.declared.addressee.Became.{Became}
 use Rattle.mailposts.specs.declared.demand.Demand.TheVariants as demand
@@ -64,7 +64,8 @@ goes_on now c m e what settles names receiver addressees tally next comes = λ p
         addressees = ap (λ a. a.items) addressees ∙ (settles.addressees
             ∙ (ap (λ xs. if is_open_at c.receiver.talk.stage then xs else []) holds.addressees ∙ ap (λ b. if b then p.addressees else []) goes));
         tally = tally ∙ (settles.tally
-            ∙ (ap (λ t. if is_open_at c.receiver.talk.stage then done now t else fresh now) holds.tally ∙ ap (λ b. if b then done now p.tally else fresh now) goes));
+            ∙ (ap (λ t. settled now (is_open_at c.receiver.talk.stage) (has_some c.addressees.items) t) holds.tally
+            ∙ (ap (λ xs. settled now (is_open_at c.receiver.talk.stage) (has_some xs) p.tally) holds.addressees ∙ ap (λ b. settled now b (has_some p.addressees) p.tally) goes)));
       };
       comes = (what, next p.dialogue inside, comes);
     }

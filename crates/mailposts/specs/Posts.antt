@@ -16,7 +16,7 @@ use Rattle.mailposts.specs.declared.addressee.Became.{Became}
 use Rattle.mailposts.specs.declared.addressee.Became.TheVariants.{Delivered, Refused}
 use Rattle.mailposts.specs.declared.demand.Parcel.{Parcel}
 use Rattle.mailposts.specs.declared.tally.Tally.{Tally}
-use Rattle.mailposts.specs.Tallies.{fresh, MayAsk, HasWaited, away, done, heard}
+use Rattle.mailposts.specs.Tallies.{fresh, MayAsk, HasWaited, away, done, settled, heard}
 
 -- ---- how it stands
 
@@ -51,12 +51,16 @@ is_sending phase = false
 abbrev pub post_heard : ℕ → List ℕ → Post → Post
 post_heard now piece p = record p { dialogue = given piece p.dialogue; tally = heard now (is_sending p.dialogue.phase) (length piece) p.tally }
 
+abbrev pub has_some : List Addressee → Bool
+has_some [] = false
+has_some (it ∷ others) = true
+
 -- the dialogue goes on so, with these recipients; where no transaction is open any more nothing of it is left
 abbrev pub behind : ℕ → Dialogue → List Addressee → Tally → Post → Post
 behind now later addressees tally p = record p {
   dialogue = later;
   addressees = if is_open later.phase then addressees else [];
-  tally = if is_open later.phase then done now tally else fresh now;
+  tally = settled now (is_open later.phase) (has_some addressees) tally;
 }
 
 -- ---- what is done for it

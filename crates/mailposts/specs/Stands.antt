@@ -13,15 +13,15 @@ use Rattle.lmtp.specs.declared.reply.Reply.{Reply}
 use Rattle.lmtp.specs.declared.reply.Reply.TheVariants.{MessageTooLarge, NoRoom}
 use Rattle.lmtp.specs.declared.text.Trouble.{Trouble}
 use Rattle.lmtp.specs.declared.text.Trouble.TheVariants.{TooLarge, Memory}
-use Rattle.mailposts.specs.Posts.{Post, behind, post_heard, Deed, Declined, Goes, AsksStore, IsAsked, first_form, IsOwed, Becomes, said_for, told_post, IsParcel}
-use Rattle.mailposts.specs.Tallies.{MayAsk, HasWaited, fresh, done}
+use Rattle.mailposts.specs.Posts.{Post, has_some, behind, post_heard, Deed, Declined, Goes, AsksStore, IsAsked, first_form, IsOwed, Becomes, said_for, told_post, IsParcel}
+use Rattle.mailposts.specs.Tallies.{MayAsk, HasWaited, settled, wanted}
 use Rattle.mailposts.specs.declared.addressee.Addressee.{Addressee}
 use Rattle.mailposts.specs.declared.addressee.Became.{Became}
 use Rattle.mailposts.specs.declared.demand.Demand.{Demand}
 use Rattle.mailposts.specs.declared.demand.Demand.TheVariants as demand
 use Rattle.mailposts.specs.declared.post.Post.{Post as Code}
 use Rattle.mailposts.specs.declared.tally.Wanted.{Wanted}
-use Rattle.mailposts.specs.declared.tally.Wanted.TheVariants.{More, Step, Done}
+use Rattle.mailposts.specs.declared.tally.Wanted.TheVariants.{More, Step, Until, Done}
 
 -- what a dialogue wants, by what comes next in it
 abbrev pub wanted_for : Next → Wanted
@@ -47,6 +47,29 @@ pub record Stands (c : Code) (p : Post) : Type 0 where
   pub holds : Holds c p
   pub comes : Wants p.dialogue c.comes
 
+-- since when no recipient is taken, where its client owes octets; none where one is, or where something is owed to the client
+abbrev pub owed_by : List Addressee → Wanted → ℕ → Option ℕ
+owed_by [] More since = Some since
+owed_by [] Step since = None
+owed_by [] (Until moment) since = None
+owed_by [] Done since = None
+owed_by (it ∷ others) wanted since = None
+
+abbrev pub owed_since : Code → Option ℕ
+owed_since c = owed_by c.addressees.items (wanted c.comes c.tally) c.tally.guest
+
+-- its client has said LHLO
+abbrev pub has_said_at : Stage → Bool
+has_said_at stage.Greeted = false
+has_said_at stage.Ready = true
+has_said_at stage.Opened = true
+has_said_at stage.Asking = true
+has_said_at stage.Sending = true
+has_said_at stage.Over = true
+
+abbrev pub has_said_hello : Code → Bool
+has_said_hello c = has_said_at c.receiver.talk.stage
+
 -- ---- what its calls make of it
 
 abbrev pub is_open_at : Stage → Bool
@@ -66,7 +89,7 @@ pub record Settles (now : ℕ) (c e : Code) : Type 0 where
   pub names : e.names ≡ c.names
   pub receiver : e.receiver ≡ c.receiver
   pub addressees : e.addressees.items ≡ (if is_open_at c.receiver.talk.stage then c.addressees.items else [])
-  pub tally : e.tally ≡ (if is_open_at c.receiver.talk.stage then done now c.tally else fresh now)
+  pub tally : e.tally ≡ settled now (is_open_at c.receiver.talk.stage) (has_some c.addressees.items) c.tally
 
 -- what follows from what goes on in the dialogue
 abbrev pub GoesOn : ℕ → Code → Code → Type 0

@@ -1,5 +1,5 @@
 -- What a connection of LMTP waits for, and for how long it may.
-use Rattle.std.specs.Prelude.{ℕ, ◌+◌, ◌-◌, ◌%◌, ◌^◌, ◌<◌, ◌≤◌, min, Bool, true, false}
+use Rattle.std.specs.Prelude.{ℕ, ◌+◌, ◌-◌, ◌%◌, ◌^◌, ◌<◌, ◌≤◌, min, Bool, true, false, if◌then◌else◌}
 use Rattle.mailposts.specs.declared.tally.Tally.{Tally}
 use Rattle.mailposts.specs.declared.tally.Waits.{Waits}
 use Rattle.mailposts.specs.declared.tally.Waits.TheVariants.{Nothing, Store}
@@ -23,7 +23,7 @@ after_span now span = (now + span) % 2 ^ 64
 
 -- that of a new message
 abbrev pub fresh : ℕ → Tally
-fresh now = record { tried = 0; told = 0; waits = Nothing; spent = 0; since = now }
+fresh now = record { tried = 0; told = 0; waits = Nothing; spent = 0; since = now; guest = now }
 
 -- ---- the store
 
@@ -52,6 +52,11 @@ away now t = record t { waits = Store (asked_since now t.waits) (after_span now 
 
 abbrev pub done : ℕ → Tally → Tally
 done now t = record t { waits = Nothing; spent = waited now t; since = now }
+
+-- behind something that was done, while a transaction is open or none is, with a recipient that was taken or without; and it is without one
+-- from now on at the earliest where it had one
+abbrev pub settled : ℕ → Bool → Bool → Tally → Tally
+settled now opened taken t = record (if opened then done now t else fresh now) { guest = if taken then now else t.guest }
 
 -- ---- the client
 

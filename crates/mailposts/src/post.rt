@@ -76,6 +76,24 @@ impl Post {
         self.tally.due()
     }
 
+    /// Since when no recipient is taken, where its client owes octets. None where one is, and where something is owed to the client.
+    pub fn owed_since(&self) -> Option<u64>
+        ensures { result ≡ s.owed_since self.now }
+    {
+        owed_by(
+            self.addressees.as_slice(),
+            self.wanted(),
+            self.tally.guest,
+        )
+    }
+
+    /// Whether its client has said LHLO.
+    pub fn has_said_hello(&self) -> bool
+        ensures { result ≡ s.has_said_hello self.now }
+    {
+        has_said_at(self.receiver.stage())
+    }
+
     /// Octets of the client come.
     ///
     /// Lack of memory is the only error; nothing changes then.
@@ -275,12 +293,22 @@ impl Post {
     fn settle(&mut self, now: u64)
         ensures { s.Settles now self.old self.new }
     {
-        if is_open(self.receiver.stage()) {
-            self.tally = self.tally.done(now);
-            return;
+        let opened = is_open(self.receiver.stage());
+        self.tally = self
+            .tally
+            .settled(now, opened, has_some(self.addressees.as_slice()));
+        if !opened {
+            self.addressees.truncate(0);
         }
-        self.addressees.truncate(0);
-        self.tally = Tally::fresh(now);
+    }
+}
+
+fn has_some(addressees: &[Addressee]) -> bool
+    ensures { result ≡ posts.has_some addressees.now }
+{
+    match addressees {
+        [] => false,
+        _ => true,
     }
 }
 
@@ -291,6 +319,29 @@ fn wanted_for(next: Next<'_>) -> Wanted
         Next::Need => Wanted::More,
         Next::Line | Next::Recipient(_) | Next::Delivery(_) => Wanted::Step,
         Next::Over => Wanted::Done,
+    }
+}
+
+// Since when it owes octets, where no recipient is taken and more is wanted of it.
+fn owed_by(addressees: &[Addressee], wanted: Wanted, since: u64) -> Option<u64>
+    ensures { result ≡ s.owed_by addressees.now wanted since }
+{
+    if has_some(addressees) {
+        return None;
+    }
+    match wanted {
+        Wanted::More => Some(since),
+        Wanted::Step | Wanted::Until(_) | Wanted::Done => None,
+    }
+}
+
+// Whether LHLO was said.
+fn has_said_at(stage: Stage) -> bool
+    ensures { result ≡ s.has_said_at stage }
+{
+    match stage {
+        Stage::Greeted => false,
+        _ => true,
     }
 }
 

@@ -45,6 +45,8 @@ pub struct Tally {
     pub spent: u64,
     /// The moment from which on the client's silence is counted.
     pub since: u64,
+    /// The moment since which no recipient is taken; where one is, that of what was done last.
+    pub guest: u64,
 }
 
 impl Tally {
@@ -58,6 +60,7 @@ impl Tally {
             waits: Waits::Nothing,
             spent: 0,
             since: now,
+            guest: now,
         }
     }
 
@@ -92,7 +95,21 @@ impl Tally {
             waits: Waits::Nothing,
             spent: self.waited(now),
             since: now,
+            guest: self.guest,
         }
+    }
+
+    /// Behind something that was done, where a transaction is open or none is, with a recipient that was taken or without.
+    pub fn settled(&self, now: u64, opened: bool, taken: bool) -> Tally
+        ensures { result ≡ s.settled now opened taken self.now }
+    {
+        let mut tally = if opened {
+            self.done(now)
+        } else {
+            Tally::fresh(now)
+        };
+        tally.guest = if taken { now } else { self.guest };
+        tally
     }
 
     /// Behind the store's absence.
@@ -109,6 +126,7 @@ impl Tally {
             waits: Waits::Store(since, now.wrapping_add(RETRY_SPAN)),
             spent: self.spent,
             since: self.since,
+            guest: self.guest,
         }
     }
 
@@ -127,6 +145,7 @@ impl Tally {
             waits: self.waits,
             spent: self.spent,
             since,
+            guest: self.guest,
         }
     }
 

@@ -1,5 +1,5 @@
 -- Right cases of the definitions, and near misses.
-use Rattle.std.proofs.Common.{◌≡◌, ℕ, false, List, [], ◌∷◌, Option, Some, None, IfSome, codes, refl, sym, ◌∙◌, arith, inl, inr}
+use Rattle.std.proofs.Common.{◌≡◌, ℕ, true, false, List, [], ◌∷◌, Option, Some, None, IfSome, codes, refl, sym, ◌∙◌, arith, inl, inr}
 use Rattle.std.specs.FinMap.{get}
 use Rattle.msproto.specs.Replies.{spelled}
 use Rattle.mailstore.specs.declared.refusal.Refusal.TheVariants.{Memory, Store}
@@ -17,6 +17,8 @@ use Rattle.wires.specs.declared.act.Act.TheVariants.{Timed, Sent, Noted, Full, R
 use Rattle.sieveddaemon.specs.Acts.{no_line, tell_on, AreRight, LeadsBy, IsMadeOr}
 use Rattle.sieveddaemon.specs.Desk.{AreOthers}
 use Rattle.sieveddaemon.specs.Places.{new_place, due_by, never}
+use Rattle.sieveddaemon.specs.Room.{silent_rank, kept_rank, want_claim, kept_claim, since_claim, span_by}
+use Rattle.wires.specs.declared.machine.Want.TheVariants as wants
 use Rattle.sieveddaemon.specs.Waiting.{Allows, said_at_once, is_failure}
 use Rattle.sieveddaemon.specs.declared.note.Note.{Note}
 use Rattle.sieveddaemon.specs.declared.note.Note.TheVariants.{Did, Away, Freed, Spoke}
@@ -144,3 +146,34 @@ not_ours sessions c there is = let never : Some c ≡ None = sym there ∙ is.0 
 
 never_late_while_it_waits : (c : Client) → due_by (waits.Store 0 5) (new_place 0) c ≡ never
 never_late_while_it_waits c = refl
+
+-- ---- who makes room
+
+-- a guest of 50 ms claims that, and one of 49 doesn't
+claims_then : want_claim 50 wants.More silent_rank 0 ≡ Some (record { rank = silent_rank; moment = 0 })
+claims_then = refl
+
+not_within_its_first : want_claim 49 wants.More silent_rank 0 ≡ None
+not_within_its_first = refl
+
+-- a near miss: to whom an answer is owed
+not_while_it_is_owed : want_claim 60000 wants.Step silent_rank 0 ≡ None
+not_while_it_is_owed = refl
+
+-- of those that wait for the answer to a login the one that would hear it last goes first, once it has waited half a second
+kept_at_last : kept_claim 700 2200 ≡ Some (record { rank = kept_rank; moment = 18446744073709549415 })
+kept_at_last = refl
+
+not_yet_kept : kept_claim 699 2200 ≡ None
+not_yet_kept = refl
+
+-- a client of LMTP without LHLO claims at once where many say none, else a second later
+flooded_then : since_claim 50 (span_by false true) (Some 0) ≡ Some (record { rank = silent_rank; moment = 0 })
+flooded_then = refl
+
+left_alone_else : since_claim 999 (span_by false false) (Some 0) ≡ None
+left_alone_else = refl
+
+-- a near miss: one that has said LHLO has its second among many that haven't
+left_alone_behind_hello : since_claim 999 (span_by true true) (Some 0) ≡ None
+left_alone_behind_hello = refl

@@ -18,20 +18,22 @@ use Rattle.wires.specs.declared.act.Act.TheVariants.{Woke, Began, Timed, Late, W
 use Rattle.wires.specs.declared.service.Service.{Service}
 use Rattle.wires.specs.declared.turn.Turn.TheVariants.{Stuffed}
 use Rattle.wires.specs.Moves.{Leaves}
-use Rattle.wires.specs.Turns.{Turns, Opens as Enters, Goes, Lacks, Parting, is_open_of, room_by, makes_room}
+use Rattle.wires.specs.Room.{makes_room}
+use Rattle.wires.specs.Turns.{Turns, Opens as Enters, Goes, Lacks, Parting}
+use Rattle.wires.proofs.RoomLemmas.{claims_one}
 use Rattle.wires.specs.Talk.{client_of, kind_of}
 use Rattle.mailmoves.specs.Enduring.{MayLeave, ShowsMade, ShowsTried, none_tried}
 use Rattle.mailmoves.specs.declared.moving.Moving.{Moving}
 use Rattle.mailmoves.specs.declared.moving.Moving.TheVariants as moving
 use Rattle.mailmoves.proofs.EnduringLemmas.{left_alone, left_weaker}
 use Rattle.sieveddaemon.specs.Acts.{LeadsBy, LeadsIn, Leads, LacksThen, IsMadeOr, IsGuest}
-use Rattle.sieveddaemon.specs.DaemonRules.{lmtp, displaced_of, Happened, Made, Makes, WorksBy}
+use Rattle.sieveddaemon.specs.DaemonRules.{lmtp, place_at, Happened, Made, Makes, WorksBy}
 use Rattle.sieveddaemon.specs.Deeds.{IsDeed, Stores}
 use Rattle.sieveddaemon.specs.Desk.{View, DoneAt, IsWorld, ComesTo, IsDone, NothingDone, StillShows}
-use Rattle.sieveddaemon.specs.MailRules.{mail_rules, displaced_for, OpensBy, GivesBy, GoesBy, LacksBy}
+use Rattle.sieveddaemon.specs.MailRules.{mail_rules, post_at, OpensBy, GivesBy, GoesBy, LacksBy}
 use Rattle.sieveddaemon.specs.Moves.{MovedAt, TriedAt}
-use Rattle.sieveddaemon.specs.Places.{is_user}
-use Rattle.sieveddaemon.specs.Room.{guest_to_go}
+use Rattle.sieveddaemon.specs.Places.{client_at, is_user}
+use Rattle.sieveddaemon.specs.Room.{is_flooded}
 use Rattle.sieveddaemon.specs.Tried.{TriesBy, TriesAt}
 use Rattle.sieveddaemon.proofs.RoomLemmas.{no_user_goes}
 use Rattle.sieveddaemon.specs.declared.daemon.Daemon.{Daemon}
@@ -40,19 +42,6 @@ use Rattle.sieveddaemon.specs.declared.note.Note.{Note}
 use Rattle.sieveddaemon.specs.declared.note.Note.TheVariants.{Did, Away, Freed, Spoke, Answered, Asked, Looked, Moved}
 use Rattle.sieveddaemon.proofs.EventLemmas.{clients_one, open_refused, give_refused, give_unheard}
 
--- who makes room is the one that the machine names
-named_by : (s : Service) (kind : ℕ) (o : Option ℕ) (id : ℕ) → room_by kind s o ≡ Some id → o ≡ Some id
-named_by s kind None id is = is
-named_by s kind (Some other) id is = by (is_open_of kind (client_of s other)) is
-  where
-    by : (test : Bool) → (if test then Some other else None) ≡ Some id → Some other ≡ Some id
-    by true same = same
-    by false none = let never : ◌≡◌ {A = Option ℕ} None (Some id) = none in cc
-
-if_named : (test : Bool) (o : Option ℕ) (id : ℕ) → (if test then o else None) ≡ Some id → o ≡ Some id
-if_named true o id is = is
-if_named false o id is = let never : ◌≡◌ {A = Option ℕ} None (Some id) = is in cc
-
 guest_of : (o : Option Client) → is_user o ≡ false → IfSome o (λ c. c.user ≡ None)
 guest_of None is = tt
 guest_of (Some c) is = by c.user is
@@ -60,11 +49,6 @@ guest_of (Some c) is = by c.user is
     by : (user : Option (List ℕ)) → is_some user ≡ false → user ≡ None
     by None none = refl
     by (Some name) some = let never : true ≡ false = some in cc
-
--- a client of LMTP makes no room
-by_kind : (b : Bool) (o : Option ℕ) (id : ℕ) → (if b then None else o) ≡ Some id → o ≡ Some id
-by_kind true o id is = let never : ◌≡◌ {A = Option ℕ} None (Some id) = is in cc
-by_kind false o id is = is
 
 -- what an act tried, as a crash may leave it: what the event makes of the world that it met
 abbrev pub TriedBy : World → Note → World → Trees → Type 0
@@ -197,9 +181,9 @@ module _ {R : Type 0} (view : View R) (d e : MailDaemon) (r q : R) where
   -- who makes room is a guest
   guest_goes : (s : Service) (kind id : ℕ) → makes_room (mail_rules view) d s kind ≡ Some id → (w : World) → IsWorld view r d.daemon.clients.sessions w → IsGuest w id
   guest_goes s kind id room w is =
-      let chosen = by_kind (kind == lmtp) (displaced_of d.daemon kind) id (named_by s kind (displaced_for d kind) id room) in
-      let named = if_named (kind == 0) (guest_to_go d.daemon.clients.sessions d.daemon.places) id chosen in
-      guest_of (get w.sessions id) (subst (λ c. is_user c ≡ false) (is.sessions id) (no_user_goes d.daemon.clients.sessions d.daemon.places id named))
+      let its = claims_one (mail_rules view) d s kind id room in
+      let nobody = no_user_goes s.moment (is_flooded d.posts.entries) (post_at d id) (place_at d.daemon id) (client_at d.daemon.clients.sessions id) its.0 its.1 in
+      guest_of (get w.sessions id) (subst (λ c. is_user c ≡ false) (is.sessions id) nobody)
 
   -- where memory was lacking for a connection, that is what follows says
   module _ (s u : Service) (more : List (Act Note)) (lacks_then : (id kind : ℕ) → u.turn ≡ Stuffed id kind → LacksThen id more) where

@@ -13,7 +13,7 @@ use Rattle.sieveddaemon.specs.Desk.{View, StillShows, IsDone, NothingDone}
 use Rattle.mailmoves.specs.Moving.{span_behind}
 use Rattle.sieveddaemon.specs.Holds.{asked_at, holding_behind, has_work, is_move_due, is_rested, looked, moved, patience_by}
 use Rattle.sieveddaemon.specs.Moves.{IsMoved}
-use Rattle.sieveddaemon.specs.Room.{guest_to_go}
+use Rattle.sieveddaemon.specs.Room.{guest_claim}
 use Rattle.sieveddaemon.specs.Places.{client_at, want_of, due_of, new_place, place_given, place_behind, renewed, is_out, is_user}
 use Rattle.sieveddaemon.specs.Waiting.{Allows, IsDue, said_with, greeting, idle}
 use Rattle.sieveddaemon.specs.declared.daemon.Daemon.{Daemon}
@@ -38,10 +38,6 @@ max_clients = 50
 
 abbrev pub limit_of : ℕ → ℕ
 limit_of kind = if kind == managesieve then max_clients else 0
-
--- where so many are there, who of them makes room for another
-abbrev pub displaced_of : Daemon → ℕ → Option ℕ
-displaced_of d kind = if kind == managesieve then guest_to_go d.clients.sessions d.places else None
 
 abbrev pub place_at : Daemon → ℕ → Option Place
 place_at d id = tree.get nat_cmp d.places id
@@ -188,7 +184,7 @@ patience_of d = least_from (patience_by d.holding) d.places.entries
 abbrev pub daemon_rules : {R : Type 0} → View R → Rules Daemon Note R
 daemon_rules view = record {
   limit = limit_of;
-  displaced = displaced_of;
+  claim = λ d now id. guest_claim now (place_at d id) (client_at d.clients.sessions id);
   wants = λ d id. want_of (place_at d id) (client_at d.clients.sessions id);
   has_work = λ d now. has_work d.holding now;
   patience = patience_of;

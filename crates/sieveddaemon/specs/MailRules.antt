@@ -16,11 +16,12 @@ use Rattle.wires.specs.Talk.{same}
 use Rattle.wires.specs.declared.machine.Want.{Want}
 use Rattle.wires.specs.declared.machine.Want.TheVariants as want
 use Rattle.sieveddaemon.specs.Bounds.{held, bound, own, room, FitsClient, PassesBound}
-use Rattle.sieveddaemon.specs.DaemonRules.{lmtp, limit_of, displaced_of, place_at, least, patience_of, Opens, Gives, Goes, DoesWork, LacksFor, Closes, Forgets}
+use Rattle.sieveddaemon.specs.DaemonRules.{lmtp, limit_of, place_at, least, patience_of, Opens, Gives, Goes, DoesWork, LacksFor, Closes, Forgets}
 use Rattle.sieveddaemon.specs.Deeds.{DoesOne}
 use Rattle.sieveddaemon.specs.Desk.{View}
 use Rattle.sieveddaemon.specs.Holds.{has_work}
 use Rattle.sieveddaemon.specs.Places.{client_at, want_of, due_of}
+use Rattle.sieveddaemon.specs.Room.{is_flooded, claim_by}
 use Rattle.sieveddaemon.specs.Waiting.{idle}
 use Rattle.sieveddaemon.specs.declared.mail.MailDaemon.{MailDaemon}
 use Rattle.sieveddaemon.specs.declared.note.Note.{Note}
@@ -28,16 +29,12 @@ use Rattle.sieveddaemon.specs.declared.place.Fit.{Fit}
 use Rattle.sieveddaemon.specs.declared.place.Fit.TheVariants as fit
 use Rattle.sieveddaemon.specs.declared.place.Place.{Place}
 
--- how many connections of LMTP there may be: the next waits at the door
+-- how many connections of LMTP there may be
 abbrev pub max_senders : ℕ
 max_senders = 20
 
 abbrev pub limit_for : ℕ → ℕ
 limit_for kind = if kind == lmtp then max_senders else limit_of kind
-
--- no client of LMTP makes room
-abbrev pub displaced_for : MailDaemon → ℕ → Option ℕ
-displaced_for d kind = if kind == lmtp then None else displaced_of d.daemon kind
 
 abbrev pub post_at : MailDaemon → ℕ → Option Post
 post_at d id = tree.get nat_cmp d.posts id
@@ -240,7 +237,7 @@ pub record ClosesBy (d : MailDaemon) (id : ℕ) (e : MailDaemon) : Type 0 where
 abbrev pub mail_rules : {R : Type 0} → View R → Rules MailDaemon Note R
 mail_rules view = record {
   limit = limit_for;
-  displaced = displaced_for;
+  claim = λ d now id. claim_by now (is_flooded d.posts.entries) (post_at d id) (place_at d.daemon id) (client_at d.daemon.clients.sessions id);
   wants = λ d id. wants_by (post_at d id) (want_of (place_at d.daemon id) (client_at d.daemon.clients.sessions id));
   has_work = λ d now. has_work d.daemon.holding now;
   patience = patience_for;

@@ -1,80 +1,103 @@
--- Which connection makes room for another, where all places are taken.
-use Rattle.std.specs.Prelude.{◌≡◌, ℕ, ◌≤◌, nat_lt, Bool, true, false, if◌then◌else◌, List, [], ◌∷◌, Option, Some, None, is_some, option_map}
-use Rattle.std.specs.Ordering.{nat_cmp}
-use Rattle.std.specs.BTreeMap as tree
+-- Who claims to go where another one of its kind wants its place, and all are taken.
+use Rattle.std.specs.Prelude.{◌≡◌, ℕ, ◌+◌, ◌-◌, ◌==◌, nat_le, Bool, true, false, if◌then◌else◌, List, [], ◌∷◌, Option, Some, None, is_some}
 use Rattle.sessions.specs.Clients.{Client, has_failed}
-use Rattle.mailengine.specs.Hosts.{Kept}
+use Rattle.mailposts.specs.Stands.{owed_since, has_said_hello}
+use Rattle.mailposts.specs.declared.post.Post.{Post}
+use Rattle.wires.specs.Talk.{after_span}
+use Rattle.wires.specs.declared.machine.Claim.{Claim}
 use Rattle.wires.specs.declared.machine.Want.{Want}
 use Rattle.wires.specs.declared.machine.Want.TheVariants.{More, Step, Wait, Until, Done}
-use Rattle.sieveddaemon.specs.Places.{client_at, want_by}
+use Rattle.sieveddaemon.specs.Places.{want_by, is_user, never}
+use Rattle.sieveddaemon.specs.Waiting.{login_delay}
 use Rattle.sieveddaemon.specs.declared.place.Place.{Place}
-use Rattle.sieveddaemon.specs.declared.room.Rank.{Rank}
-use Rattle.sieveddaemon.specs.declared.room.Rank.TheVariants as rank
+use Rattle.sieveddaemon.specs.declared.place.Waits.{Waits}
+use Rattle.sieveddaemon.specs.declared.place.Waits.TheVariants as waits
 
--- ---- of all that claim a moment, the one with the earliest
+-- ---- for how long one is left alone, in milliseconds
 
--- of two, each with a moment, the one of the earlier; of one moment the first
-abbrev pub earlier : Option (ℕ × ℕ) → ℕ → Option ℕ → Option (ℕ × ℕ)
-earlier best id None = best
-earlier None id (Some moment) = Some (id, moment)
-earlier (Some best) id (Some moment) = if nat_lt moment best.1 then Some (id, moment) else Some best
+-- a guest of ManageSieve from its coming on, and a client of LMTP that hasn't said LHLO, where many haven't
+abbrev pub first_span : ℕ
+first_span = 50
 
-abbrev pub earliest_from : {V : Type 0} → (ℕ → V → Option ℕ) → Option (ℕ × ℕ) → List (ℕ × V) → Option (ℕ × ℕ)
-earliest_from claim best [] = best
-earliest_from claim best (it ∷ entries) = earliest_from claim (earlier best it.0 (claim it.0 it.1)) entries
+-- any other client of LMTP, since it has no recipient that was taken
+abbrev pub sender_span : ℕ
+sender_span = 1000
 
-abbrev pub number_of : Option (ℕ × ℕ) → Option ℕ
-number_of best = option_map (λ (it : ℕ × ℕ). it.0) best
+-- so many are many: three quarters of the places
+abbrev pub many_silent : ℕ
+many_silent = 15
 
-abbrev pub earliest : {V : Type 0} → (ℕ → V → Option ℕ) → tree.BTreeMap ℕ V → Option ℕ
-earliest claim those = number_of (earliest_from claim None those.entries)
+-- one that waits for the answer to a login that failed, since then
+abbrev pub kept_span : ℕ
+kept_span = 500
 
--- one that claims a moment, and no other claims an earlier one
-pub record MakesRoom {V : Type 0} (claim : ℕ → V → Option ℕ) (those : tree.BTreeMap ℕ V) (id : ℕ) : Type 0 where
-  pub it : V
-  pub is_there : tree.get nat_cmp those id ≡ Some it
-  pub moment : ℕ
-  pub claims : claim id it ≡ Some moment
-  pub earliest : (other : ℕ) (v : V) (at : ℕ) → tree.get nat_cmp those other ≡ Some v → claim other v ≡ Some at → moment ≤ at
+-- ---- ranks: who failed a login goes before the others, and who waits for the answer to one goes last
 
--- none does
-abbrev pub NobodyGoes : {V : Type 0} → (ℕ → V → Option ℕ) → tree.BTreeMap ℕ V → Type 0
-NobodyGoes {V = V} claim those = (id : ℕ) (it : V) → tree.get nat_cmp those id ≡ Some it → claim id it ≡ None
+abbrev pub failed_rank : ℕ
+failed_rank = 0
 
--- ---- clients of ManageSieve
+abbrev pub silent_rank : ℕ
+silent_rank = 1
 
--- more octets are wanted: it is the client's turn
-abbrev pub is_more : Want → Bool
-is_more More = true
-is_more Step = false
-is_more Wait = false
-is_more (Until moment) = false
-is_more Done = false
+abbrev pub kept_rank : ℕ
+kept_rank = 2
 
--- a client that owes octets claims the moment since which nobody is logged in there
-abbrev pub owed : Place → Client → Option ℕ
-owed place c = if is_more (want_by place.waits place.fit c) then Some place.guest else None
+-- ---- claims
 
--- guests go by ranks: who failed a login before the others
-abbrev pub claim_by : Rank → Place → Client → Option ℕ
-claim_by rank.Failed place c = if has_failed c then owed place c else None
-claim_by rank.Silent place c = owed place c
+-- one that owes octets claims the moment since which it stands so, once so many milliseconds have passed since
+abbrev pub owed_claim : ℕ → ℕ → ℕ → ℕ → Option Claim
+owed_claim now span rank since = if nat_le (after_span since span) now then Some (record { rank = rank; moment = since }) else None
 
--- a guest claims it, nobody else does: an answer is owed to nobody who goes, and who is logged in stays
-abbrev pub guest_claim : Rank → Place → Option Client → Option ℕ
-guest_claim which place None = None
-guest_claim which place (Some c) = if is_some c.user then None else claim_by which place c
+-- of those to whom the answer to a login is owed the one goes first that would hear it last
+abbrev pub kept_claim : ℕ → ℕ → Option Claim
+kept_claim now until =
+    if nat_le until (after_span now (login_delay - kept_span)) then Some (record { rank = kept_rank; moment = never - until }) else None
 
-abbrev pub claim_of : Kept → Rank → ℕ → Place → Option ℕ
-claim_of sessions which id place = guest_claim which place (client_at sessions id)
+abbrev pub rank_of : Client → ℕ
+rank_of c = if has_failed c then failed_rank else silent_rank
 
-abbrev pub longest_guest : Kept → Rank → tree.BTreeMap ℕ Place → Option ℕ
-longest_guest sessions which places = earliest (claim_of sessions which) places
+-- to any other an answer is owed
+abbrev pub want_claim : ℕ → Want → ℕ → ℕ → Option Claim
+want_claim now More rank since = owed_claim now first_span rank since
+want_claim now Step rank since = None
+want_claim now Wait rank since = None
+want_claim now (Until moment) rank since = None
+want_claim now Done rank since = None
 
--- the first rank in which one goes
-abbrev pub or_else : Option ℕ → Option ℕ → Option ℕ
-or_else (Some id) other = Some id
-or_else None other = other
+abbrev pub waits_claim : ℕ → Waits → Place → Client → Option Claim
+waits_claim now (waits.Reply until text) place c = kept_claim now until
+waits_claim now w place c = want_claim now (want_by place.waits place.fit c) (rank_of c) place.guest
 
-abbrev pub guest_to_go : Kept → tree.BTreeMap ℕ Place → Option ℕ
-guest_to_go sessions places = or_else (longest_guest sessions rank.Failed places) (longest_guest sessions rank.Silent places)
+-- a guest of ManageSieve; who is logged in stays
+abbrev pub guest_claim : ℕ → Option Place → Option Client → Option Claim
+guest_claim now (Some place) (Some c) = if is_some c.user then None else waits_claim now place.waits place c
+guest_claim now _ _ = None
+
+-- how many clients of LMTP haven't said LHLO
+abbrev pub silent_by : Bool → ℕ
+silent_by hello = if hello then 0 else 1
+
+abbrev pub silent_in : List (ℕ × Post) → ℕ
+silent_in [] = 0
+silent_in (it ∷ entries) = silent_by (has_said_hello it.1) + silent_in entries
+
+-- many haven't
+abbrev pub is_flooded : List (ℕ × Post) → Bool
+is_flooded entries = (many_silent - silent_in entries) == 0
+
+abbrev pub span_by : Bool → Bool → ℕ
+span_by true flooded = sender_span
+span_by false flooded = if flooded then first_span else sender_span
+
+abbrev pub since_claim : ℕ → ℕ → Option ℕ → Option Claim
+since_claim now span None = None
+since_claim now span (Some since) = owed_claim now span silent_rank since
+
+-- a client of LMTP that owes octets while no recipient of its is taken; none that has a session
+abbrev pub sender_claim : ℕ → Bool → Option Client → Post → Option Claim
+sender_claim now flooded o post = if is_user o then None else since_claim now (span_by (has_said_hello post) flooded) (owed_since post)
+
+-- either, by what is known of it
+abbrev pub claim_by : ℕ → Bool → Option Post → Option Place → Option Client → Option Claim
+claim_by now flooded (Some post) place o = sender_claim now flooded o post
+claim_by now flooded None place o = guest_claim now place o

@@ -8,13 +8,13 @@ use crate::mail::MailDaemon;
 use crate::mail_open::{enter_client, enter_post, hear_by, leave_by, say_last};
 use crate::mail_step::step_post;
 use crate::patience::patience_for;
-use crate::room::guest_to_go;
+use crate::room::{claim_of_guest, claim_of_sender, is_flooded};
 use crate::step::step_once;
 use crate::want::{due_of, want_of};
 use mailposts::Wanted;
 use octets::Octets;
 use std::alloc::AllocError;
-use wires::machine::{Machine, Want};
+use wires::machine::{Claim, Machine, Want};
 
 /// The kind of the connections of ManageSieve.
 pub const MANAGESIEVE: u32 = 0;
@@ -25,7 +25,7 @@ pub const MAX_CLIENTS: usize = 50;
 /// The kind of the connections of LMTP.
 pub const LMTP: u32 = 1;
 
-/// So many clients of LMTP may be there at once; the next waits at the door.
+/// So many clients of LMTP may be there at once.
 pub const MAX_SENDERS: usize = 20;
 
 impl<O: Desk> Machine<O> for MailDaemon {
@@ -43,11 +43,13 @@ impl<O: Desk> Machine<O> for MailDaemon {
         }
     }
 
-    fn displaced(&self, kind: u32) -> Option<u32> {
-        if kind == MANAGESIEVE {
-            guest_to_go(&self.daemon.clients, &self.daemon.places)
-        } else {
-            None
+    fn claim(&self, now: u64, id: u32) -> Option<Claim> {
+        match self.posts.get(&id) {
+            Some(post) => {
+                let flooded = is_flooded(&self.posts);
+                claim_of_sender(&self.daemon.clients, now, flooded, id, post)
+            }
+            None => claim_of_guest(&self.daemon, now, id),
         }
     }
 

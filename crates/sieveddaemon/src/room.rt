@@ -1,25 +1,41 @@
-//! Which connection makes room for another, where all places are taken.
-ghost use Rattle.std.specs.Prelude.{◌≡◌, IfSome, None};
+//! Who claims to go where another one of its kind wants its place, and all are taken.
+ghost use Rattle.std.specs.Prelude.{◌≡◌, ◌-◌};
+ghost use Rattle.sieveddaemon.specs.DaemonRules as rules;
 ghost use Rattle.sieveddaemon.specs.Places as places;
 ghost use Rattle.sieveddaemon.specs.Places.{client_at};
 ghost use Rattle.sieveddaemon.specs.Room as room;
-ghost use Rattle.sieveddaemon.specs.Room.{MakesRoom, NobodyGoes};
 
-use crate::place::Place;
+use crate::daemon::Daemon;
+use crate::place::{Place, Waits};
 use crate::want::want_by;
 use mailengine::Clients;
+use mailposts::Post;
 use sessions::Session;
 use std::collections::BTreeMap;
-use wires::machine::Want;
+use wires::machine::{Claim, Want};
 
-/// Guests of ManageSieve make room by ranks: one of a later rank only where there is none of an earlier.
-#[derive(Clone, Copy, Debug, PartialEq, Eq)]
-pub enum Rank {
-    /// A login of theirs failed.
-    Failed,
-    /// Any.
-    Silent,
-}
+/// So many milliseconds a guest of ManageSieve is left alone from its coming on, and a client of LMTP that hasn't said LHLO, where many
+/// haven't: a client on the same machine answers its greeting within one or two, and 300 that say nothing have gone by within a second.
+const FIRST_SPAN: u64 = 50;
+
+/// So many milliseconds any other client of LMTP is left alone while no recipient of its is taken.
+const SENDER_SPAN: u64 = 1000;
+
+/// So many clients of LMTP that haven't said LHLO are many: three quarters of the places.
+const MANY_SILENT: usize = 15;
+
+/// An answer to a login that failed is kept back for no more milliseconds where it may not be heard: its client has waited for 500 then, so
+/// who guesses passwords keeps each place that long.
+const KEPT_LEFT: u64 = 1500;
+
+/// Who failed a login goes before the others.
+const FAILED: u32 = 0;
+
+/// Any that owes octets.
+const SILENT: u32 = 1;
+
+/// Who waits for the answer to a login that failed goes last.
+const KEPT: u32 = 2;
 
 /// Whether somebody is logged in there.
 pub fn is_user(clients: &Clients, id: u32) -> bool
@@ -31,106 +47,142 @@ pub fn is_user(clients: &Clients, id: u32) -> bool
     }
 }
 
-fn is_more(want: Want) -> bool
-    ensures { result ≡ room.is_more want }
+/// What one claims that owes octets, and stands so since that moment.
+fn owed_claim(now: u64, span: u64, rank: u32, since: u64) -> Option<Claim>
+    ensures { result ≡ room.owed_claim now span rank since }
 {
-    match want {
-        Want::More => true,
-        _ => false,
-    }
-}
-
-/// Since when nobody is logged in there, where the client owes octets.
-fn owed(place: &Place, session: &Session) -> Option<u64>
-    ensures { result ≡ room.owed place.now session.now.client }
-{
-    if is_more(want_by(&place.waits, place.fit, session)) {
-        Some(place.guest)
+    if since.wrapping_add(span) <= now {
+        Some(Claim {
+            rank,
+            moment: since,
+        })
     } else {
         None
     }
 }
 
-/// The same of those of a rank.
-fn claim_by(rank: Rank, place: &Place, session: &Session) -> Option<u64>
-    ensures { result ≡ room.claim_by rank place.now session.now.client }
+/// What one claims to whom the answer to a login is said at that moment: who would hear it last goes first.
+fn kept_claim(now: u64, until: u64) -> Option<Claim>
+    ensures { result ≡ room.kept_claim now until }
 {
-    match rank {
-        Rank::Failed => {
-            if session.has_failed() {
-                owed(place, session)
-            } else {
-                None
-            }
-        }
-        Rank::Silent => owed(place, session),
+    if until <= now.wrapping_add(KEPT_LEFT) {
+        Some(Claim {
+            rank: KEPT,
+            moment: u64::MAX - until,
+        })
+    } else {
+        None
     }
 }
 
-/// Since when nobody is logged in at a connection of that rank that may make room: its client owes octets.
-fn claim_of(clients: &Clients, rank: Rank, id: u32, place: &Place) -> Option<u64>
-    ensures { result ≡ room.claim_of clients.now.sessions rank id place.now }
+fn rank_of(session: &Session) -> u32
+    ensures { result ≡ room.rank_of session.now.client }
 {
-    match clients.session(id) {
-        Some(session) => {
-            if session.is_logged_in() {
-                None
-            } else {
-                claim_by(rank, place, session)
+    if session.has_failed() { FAILED } else { SILENT }
+}
+
+/// What one claims of whom that is wanted.
+fn want_claim(now: u64, want: Want, rank: u32, since: u64) -> Option<Claim>
+    ensures { result ≡ room.want_claim now want rank since }
+{
+    match want {
+        Want::More => owed_claim(now, FIRST_SPAN, rank, since),
+        Want::Step | Want::Wait | Want::Until(_) | Want::Done => None,
+    }
+}
+
+/// What one claims that waits so.
+fn waits_claim(now: u64, place: &Place, session: &Session) -> Option<Claim>
+    ensures { result ≡ room.waits_claim now place.now.waits place.now session.now.client }
+{
+    match &place.waits {
+        Waits::Reply(until, _) => kept_claim(now, *until),
+        _ => want_claim(
+            now,
+            want_by(&place.waits, place.fit, session),
+            rank_of(session),
+            place.guest,
+        ),
+    }
+}
+
+/// What a client of ManageSieve claims; none where somebody is logged in there.
+pub fn claim_of_guest(daemon: &Daemon, now: u64, id: u32) -> Option<Claim>
+    ensures { result ≡ room.guest_claim now (rules.place_at daemon.now id) (client_at daemon.now.clients.sessions id) }
+{
+    match daemon.places.get(&id) {
+        Some(place) => match daemon.clients.session(id) {
+            Some(session) => {
+                if session.is_logged_in() {
+                    None
+                } else {
+                    waits_claim(now, place, session)
+                }
             }
-        }
+            None => None,
+        },
         None => None,
     }
 }
 
-/// The one of two, each with a moment, that has the earlier.
-fn earlier(best: Option<(u32, u64)>, id: u32, claim: Option<u64>) -> Option<(u32, u64)>
-    ensures { result ≡ room.earlier best id claim }
+/// What a client of LMTP claims: nothing while a recipient of its is taken. `flooded`, where many haven't said LHLO.
+pub fn claim_of_sender(
+    clients: &Clients,
+    now: u64,
+    flooded: bool,
+    id: u32,
+    post: &Post,
+) -> Option<Claim>
+    ensures { result ≡ room.sender_claim now flooded (client_at clients.now.sessions id) post.now }
 {
-    let Some(moment) = claim else {
-        return best;
-    };
-    match best {
-        Some((other, since)) => {
-            if moment < since {
-                Some((id, moment))
-            } else {
-                Some((other, since))
-            }
-        }
-        None => Some((id, moment)),
+    if is_user(clients, id) {
+        return None;
     }
+    let span = span_by(post.has_said_hello(), flooded);
+    since_claim(now, span, post.owed_since())
 }
 
-fn number_of(best: Option<(u32, u64)>) -> Option<u32>
-    ensures { result ≡ room.number_of best }
+fn since_claim(now: u64, span: u64, since: Option<u64>) -> Option<Claim>
+    ensures { result ≡ room.since_claim now span since }
 {
-    match best {
-        Some((id, _)) => Some(id),
+    match since {
+        Some(since) => owed_claim(now, span, SILENT, since),
         None => None,
     }
 }
 
-/// Of the guests of a rank whose client owes octets, the one that is there for the longest time. Time is linear in the connections.
-fn longest_guest(clients: &Clients, rank: Rank, places: &BTreeMap<u32, Place>) -> Option<u32>
-    ensures which { result ≡ room.longest_guest clients.now.sessions rank places.now }
-    ensures some { IfSome result (MakesRoom (room.claim_of clients.now.sessions rank) places.now) }
-    ensures none { result ≡ None → NobodyGoes (room.claim_of clients.now.sessions rank) places.now }
+fn span_by(hello: bool, flooded: bool) -> u64
+    ensures { result ≡ room.span_by hello flooded }
 {
-    let mut best = None;
-    for (id, place) in places.iter() {
-        best = earlier(best, *id, claim_of(clients, rank, *id, place));
+    if hello {
+        SENDER_SPAN
+    } else if flooded {
+        FIRST_SPAN
+    } else {
+        SENDER_SPAN
     }
-    number_of(best)
 }
 
-/// The guest of ManageSieve that makes room: one that failed a login before others, and then the one that is there for the longest time. To
-/// none of them an answer is owed. Time is linear in the connections.
-pub fn guest_to_go(clients: &Clients, places: &BTreeMap<u32, Place>) -> Option<u32>
-    ensures { result ≡ room.guest_to_go clients.now.sessions places.now }
+/// Whether many clients of LMTP haven't said LHLO. Time is linear in them.
+pub fn is_flooded(posts: &BTreeMap<u32, Post>) -> bool
+    ensures { result ≡ room.is_flooded posts.now.entries }
 {
-    match longest_guest(clients, Rank::Failed, places) {
-        Some(id) => Some(id),
-        None => longest_guest(clients, Rank::Silent, places),
+    less_silent(MANY_SILENT, posts) == 0
+}
+
+/// Less how many of them haven't.
+fn less_silent(most: usize, posts: &BTreeMap<u32, Post>) -> usize
+    ensures { result ≡ most - room.silent_in posts.now.entries }
+{
+    let mut left = most;
+    for (_, post) in posts.iter() {
+        left = left.saturating_sub(silent_by(post.has_said_hello()));
     }
+    left
+}
+
+fn silent_by(hello: bool) -> usize
+    ensures { result ≡ room.silent_by hello }
+{
+    if hello { 0 } else { 1 }
 }

@@ -22,6 +22,9 @@ const MAX_EVENTS: usize = 64;
 /// So many milliseconds a listener rests after a connection that couldn't be accepted (no descriptor was left, say).
 const REST: u64 = 100;
 
+/// So many it rests where there is no place for who knocks: then it is asked again whether one makes room.
+const CROWDED_REST: u64 = 10;
+
 /// No more octets are dropped at once.
 const MAX_DISCARD: usize = 4096;
 
@@ -141,18 +144,27 @@ impl<'n, N: Net + Clock> SystemSockets<'n, N> {
         self.poll
             .poll(&mut self.events, Some(Duration::from_millis(within)))?;
         for event in &self.events {
-            let Some(wake) = wake_of(event.token()) else {
+            let Some(Wake::Ready(id)) = wake_of(event.token()) else {
                 continue;
             };
-            if let Wake::Ready(id) = wake {
-                if let Some(link) = self.links.get_mut(&id) {
-                    link.drained = false;
-                    link.over |= event.is_read_closed();
-                }
+            if let Some(link) = self.links.get_mut(&id) {
+                link.drained = false;
+                link.over |= event.is_read_closed();
             }
-            self.told.push_back(wake)?;
+            self.told.push_back(Wake::Ready(id))?;
         }
+        self.tell_knocks()?;
         self.end_rests();
+        Ok(())
+    }
+
+    /// Of those who knock it is told behind the connections: who has said something is heard before another one takes its place.
+    fn tell_knocks(&mut self) -> io::Result<()> {
+        for event in &self.events {
+            if let Some(Wake::Knock(kind)) = wake_of(event.token()) {
+                self.told.push_back(Wake::Knock(kind))?;
+            }
+        }
         Ok(())
     }
 
@@ -233,13 +245,23 @@ impl<'n, N: Net + Clock> SystemSockets<'n, N> {
         Accepted::Came
     }
 
-    /// A listener rests.
+    /// A listener rests after a connection that couldn't be accepted.
     fn rest(&mut self, kind: usize) -> Accepted {
-        let until = self.now().saturating_add(REST);
+        self.rest_for(kind, REST);
+        Accepted::Nobody
+    }
+
+    /// A listener rests, since there is no place, and a wait tells of it again then.
+    pub fn defer(&mut self, kind: u32) {
+        self.rest_for(kind as usize, CROWDED_REST);
+    }
+
+    /// A listener rests for so many milliseconds.
+    fn rest_for(&mut self, kind: usize, span: u64) {
+        let until = self.now().saturating_add(span);
         if let Some(door) = self.doors.get_mut(kind) {
             door.rests_until = Some(until);
         }
-        Accepted::Nobody
     }
 
     /// Reads of a connection what there is, at most as many octets as the buffer has. Behind a read that left room in its buffer the

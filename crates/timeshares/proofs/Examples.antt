@@ -4,7 +4,7 @@ use Rattle.wires.specs.declared.outcome.Wake.{Wake}
 use Rattle.wires.specs.declared.outcome.Wake.TheVariants.{Knock, Ready}
 use Rattle.timeshares.specs.declared.account.Account.TheVariants.{Guests, Senders, User}
 use Rattle.timeshares.specs.declared.share.Share.{Share}
-use Rattle.timeshares.specs.Shares.{same, spent_in, added, spent_by}
+use Rattle.timeshares.specs.Shares.{same, spent_in, added, spent_by, noted}
 use Rattle.timeshares.specs.Order.{all_of, served, waiting}
 
 -- one that had 40 ms in the third slot and 20 in the one before
@@ -65,3 +65,17 @@ the_other_waits = refl
 -- one of which a wait tells again is there once
 told_once : all_of (Ready 2 ∷ []) (Ready 2 ∷ Ready 3 ∷ []) ≡ Ready 2 ∷ Ready 3 ∷ []
 told_once = refl
+
+-- an account that is known had more, and one that isn't is known from then on
+abbrev another : Share
+another = record { account = User (98 ∷ []); slot = 3; spent = 7; before = 0 }
+
+more_of_the_second : noted (User (98 ∷ [])) 3 5 (share ∷ another ∷ []) ≡ share ∷ record another { spent = 12 } ∷ []
+more_of_the_second = refl
+
+known_then : noted Guests 3 5 (share ∷ []) ≡ share ∷ record { account = Guests; slot = 3; spent = 5; before = 0 } ∷ []
+known_then = refl
+
+-- a near miss: another account of a name that begins so had nothing
+not_by_its_beginning : noted (User (97 ∷ 98 ∷ [])) 3 5 (share ∷ []) ≡ share ∷ record { account = User (97 ∷ 98 ∷ []); slot = 3; spent = 5; before = 0 } ∷ []
+not_by_its_beginning = refl

@@ -62,7 +62,6 @@ Unordered waited told left ready =
     ((ready ≡ all_of waited told) × (left ≡ [])) ⊎ ((ready ≡ others waited told) × (left ≡ waited))
 
 -- nobody is forgotten: each of all goes on or waits
-abbrev pub Orders : ℕ → Turns → List Wake → Turns → List Wake → Type 0
-Orders now before told after ready =
-    ((ready ≡ served (late_in before now) (all_of before.put_off.items told)) × (after.put_off.items ≡ waiting (late_in before now) (all_of before.put_off.items told)))
-    ⊎ Unordered before.put_off.items told after.put_off.items ready
+pub record Orders (now : ℕ) (before : Turns) (told : List Wake) (after : Turns) (ready : List Wake) : Type 0 where
+  pub go : ready ≡ served (late_in before now) (all_of before.put_off.items told)
+  pub wait : after.put_off.items ≡ waiting (late_in before now) (all_of before.put_off.items told)

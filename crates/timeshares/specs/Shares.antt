@@ -1,5 +1,5 @@
 -- How much time accounts had of late.
-use Rattle.std.specs.Prelude.{ℕ, ◌+◌, ◌-◌, ◌/◌, ◌^◌, ◌==◌, min, nat_eq, Bool, true, false, if◌then◌else◌, List, find, Option, Some, None}
+use Rattle.std.specs.Prelude.{ℕ, ◌+◌, ◌-◌, ◌/◌, ◌^◌, ◌==◌, min, nat_eq, nat_le, Bool, true, false, not, if◌then◌else◌, List, [], ◌∷◌, ◌++◌, length, filter, find, Option, Some, None, is_some}
 use Rattle.std.specs.Cmp.Lexicographic.{pointwise}
 use Rattle.timeshares.specs.declared.account.Account.{Account}
 use Rattle.timeshares.specs.declared.account.Account.TheVariants.{Guests, Senders, User}
@@ -40,3 +40,31 @@ spent_of (Some share) slot = spent_in slot share
 -- of an account, at a moment in milliseconds
 abbrev pub spent_by : Account → ℕ → List Share → ℕ
 spent_by account now shares = spent_of (find (λ share. same share.account account) shares) (now / slot_span)
+
+-- ---- an account had more
+
+abbrev pub is_known : Account → List Share → Bool
+is_known account shares = is_some (find (λ share. same share.account account) shares)
+
+-- the first of which that is true is changed so
+abbrev pub change_first : {X : Type 0} → (X → Bool) → (X → X) → List X → List X
+change_first which change [] = []
+change_first which change (x ∷ xs) = if which x then change x ∷ xs else x ∷ change_first which change xs
+
+-- so many microseconds more of one that is known, in a slot
+abbrev pub more_of : Account → ℕ → ℕ → List Share → List Share
+more_of account slot micros shares = change_first (λ share. same share.account account) (added slot micros) shares
+
+-- where so many are known as may be, those aren't any more that had nothing of late
+abbrev pub cleared : ℕ → List Share → List Share
+cleared slot shares = if nat_le max_accounts (length shares) then filter (λ share. not (spent_in slot share == 0)) shares else shares
+
+-- one that isn't known yet is known where there is room then
+abbrev pub joined : Account → ℕ → ℕ → List Share → List Share
+joined account slot micros shares =
+    if nat_le max_accounts (length shares) then shares else shares ++ record { account = account; slot = slot; spent = micros; before = 0 } ∷ []
+
+-- an account had so many microseconds more, in a slot
+abbrev pub noted : Account → ℕ → ℕ → List Share → List Share
+noted account slot micros shares =
+    if is_known account shares then more_of account slot micros shares else joined account slot micros (cleared slot shares)

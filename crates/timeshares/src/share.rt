@@ -1,9 +1,10 @@
 //! How much time accounts had of late.
-ghost use Rattle.std.specs.Prelude.{◌≡◌, ◌≤◌, [], length, find, option_copied};
+ghost use Rattle.std.specs.Prelude.{◌≡◌, ◌==◌, ◌<◌, ◌/◌, [], length, not, filter, find, option_copied, slice_get, slice_set, position, Some, OnOk, OnErr};
+ghost use Rattle.timeshares.specs.declared.share.Share.{Share as ShareOf};
 ghost use Rattle.timeshares.specs.Shares as s;
 
 use crate::account::Account;
-use std::alloc::Global;
+use std::alloc::{AllocError, Global};
 
 /// So many milliseconds are a slot. Time counts in the slot in which it was spent and in the next one: for half a second at least, and a
 /// second at most.
@@ -66,6 +67,13 @@ fn spent_of(share: Option<&Share>, slot: u64) -> u64
     }
 }
 
+/// Those stay that had something of late.
+fn leave_late(shares: &mut Vec<Share>, slot: u64)
+    ensures { shares.new.items ≡ filter (λ share. not (s.spent_in slot share == 0)) shares.old.items }
+{
+    shares.retain(|share| share.spent_in(slot) != 0);
+}
+
 /// What accounts had of late.
 #[derive(Drop)]
 pub struct Shares {
@@ -96,44 +104,86 @@ impl Shares {
         self.entries.iter().find(|share| share.account.is(account))
     }
 
-    /// An account had so many microseconds more. Where memory is lacking for one that isn't known yet, or a thousand are, nothing is noted.
-    pub fn add(&mut self, alloc: Global, account: &Account, now: u64, micros: u64)
-        ensures { length self.old.entries.items ≤ s.max_accounts → length self.new.entries.items ≤ s.max_accounts }
+    /// An account had so many microseconds more, at a moment in milliseconds. Of one that isn't known nothing is noted where a thousand had
+    /// something of late.
+    ///
+    /// Lack of memory is the only error; nothing is noted of that account then.
+    pub fn add(
+        &mut self,
+        alloc: Global,
+        account: &Account,
+        now: u64,
+        micros: u64,
+    ) -> Result<(), AllocError>
+        ensures ok { OnOk result (self.new.entries.items ≡ s.noted account.now (now / s.slot_span) micros self.old.entries.items) }
+        ensures err { OnErr result (self.new.entries.items ≡ s.cleared (now / s.slot_span) self.old.entries.items) }
     {
         let slot = now / SLOT;
-        match self
-            .entries
-            .iter()
-            .position(|share| share.account.is(account))
-        {
-            Some(at) => {
-                if let Some(share) = self.entries.get_mut(at) {
-                    share.add(slot, micros);
-                }
-            }
-            None => self.begin(alloc, account, slot, micros),
+        if self.find(account).is_some() {
+            self.raise(account, slot, micros);
+            return Ok(());
+        }
+        self.clear(slot);
+        self.begin(alloc, account, slot, micros)
+    }
+
+    /// One that is known had so many microseconds more in a slot.
+    fn raise(&mut self, account: &Account, slot: u64, micros: u64)
+        ensures { self.new.entries.items ≡ s.more_of account.now slot micros self.old.entries.items }
+    {
+        if let Some(at) = self.place_of(account) {
+            self.raise_at(at, slot, micros);
         }
     }
 
-    /// One that isn't known yet had so many microseconds in a slot.
-    fn begin(&mut self, alloc: Global, account: &Account, slot: u64, micros: u64)
-        ensures { length self.old.entries.items ≤ s.max_accounts → length self.new.entries.items ≤ s.max_accounts }
+    fn place_of(&self, account: &Account) -> Option<usize>
+        ensures { result ≡ position (λ share. s.same share.account account.now) self.now.entries.items }
+    {
+        self.entries
+            .iter()
+            .position(|share| share.account.is(account))
+    }
+
+    fn raise_at(&mut self, at: usize, slot: u64, micros: u64)
+        requires { at < length self.old.entries.items }
+        ensures { (share : ShareOf) → slice_get self.old.entries.items at ≡ Some share → self.new.entries.items ≡ slice_set self.old.entries.items at (s.added slot micros share) }
+    {
+        self.entries[at].add(slot, micros);
+    }
+
+    /// Where so many are known as may be, those aren't any more that had nothing of late.
+    fn clear(&mut self, slot: u64)
+        ensures { self.new.entries.items ≡ s.cleared slot self.old.entries.items }
     {
         if self.entries.len() >= MAX_ACCOUNTS {
-            self.entries.retain(|share| share.spent_in(slot) != 0);
+            leave_late(&mut self.entries, slot);
         }
+    }
+
+    /// One that isn't known yet had so many microseconds in a slot; nothing is noted where there is no room.
+    fn begin(
+        &mut self,
+        alloc: Global,
+        account: &Account,
+        slot: u64,
+        micros: u64,
+    ) -> Result<(), AllocError>
+        ensures ok { OnOk result (self.new.entries.items ≡ s.joined account.now slot micros self.old.entries.items) }
+        ensures err { OnErr result (self.new.entries.items ≡ self.old.entries.items) }
+    {
         if self.entries.len() >= MAX_ACCOUNTS {
-            return;
+            return Ok(());
         }
-        let Ok(account) = account.try_clone(alloc) else {
-            return;
-        };
+        let account = account.try_clone(alloc)?;
         let share = Share {
             account,
             slot,
             spent: micros,
             before: 0,
         };
-        let _ = self.entries.push(share);
+        match self.entries.push(share) {
+            Ok(()) => Ok(()),
+            Err(_) => Err(AllocError),
+        }
     }
 }

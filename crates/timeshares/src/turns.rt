@@ -1,9 +1,10 @@
 //! Who waits behind the others.
-ghost use Rattle.std.specs.Prelude.{◌≡◌, ◌==◌, [], not, filter, true, false, IfOk, IsTrue, option_copied};
+ghost use Rattle.std.specs.Prelude.{◌≡◌, ◌/◌, [], not, filter, true, false, Some, IfOk, OnOk, OnErr, IsTrue, option_copied};
 ghost use Rattle.std.specs.Ordering.{nat_cmp};
 ghost use Rattle.std.specs.BTreeMap as tree;
 ghost use Rattle.timeshares.specs.Order as o;
-ghost use Rattle.timeshares.specs.Order.{Orders};
+ghost use Rattle.timeshares.specs.Order.{Orders, Unordered};
+ghost use Rattle.timeshares.specs.Shares as s;
 
 use crate::account::Account;
 use crate::share::Shares;
@@ -38,12 +39,37 @@ impl Turns {
         }
     }
 
-    /// An act of a connection took so many microseconds of an account's time. Where memory is lacking less is known of it.
-    pub fn charge(&mut self, id: u32, account: Account, now: u64, micros: u64)
-        ensures { self.new.put_off ≡ self.old.put_off }
+    /// A connection comes: its acts are for that account, as long as nothing else is known.
+    ///
+    /// Lack of memory is the only error; nothing changes then.
+    pub fn enter(&mut self, id: u32, account: Account) -> Result<(), AllocError>
+        ensures ok { OnOk result (tree.Updates nat_cmp self.old.accounts self.new.accounts id (Some account)) }
+        ensures err { OnErr result (tree.IsUnchanged self.old.accounts self.new.accounts) }
+        ensures shares { self.new.shares ≡ self.old.shares }
+        ensures put_off { self.new.put_off ≡ self.old.put_off }
     {
-        self.shares.add(self.alloc, &account, now, micros);
-        let _ = self.accounts.insert(id, account);
+        match self.accounts.insert(id, account) {
+            Ok(_) => Ok(()),
+            Err(_) => Err(AllocError),
+        }
+    }
+
+    /// An act of a connection, for an account, took so many microseconds, up to a moment in milliseconds.
+    ///
+    /// Lack of memory is the only error; less is known then of whose time it was.
+    pub fn charge(
+        &mut self,
+        id: u32,
+        account: Account,
+        now: u64,
+        micros: u64,
+    ) -> Result<(), AllocError>
+        ensures spent { OnOk result (self.new.shares.entries.items ≡ s.noted account (now / s.slot_span) micros self.old.shares.entries.items) }
+        ensures account { OnOk result (tree.Updates nat_cmp self.old.accounts self.new.accounts id (Some account)) }
+        ensures put_off { self.new.put_off ≡ self.old.put_off }
+    {
+        self.shares.add(self.alloc, &account, now, micros)?;
+        self.enter(id, account)
     }
 
     /// For which account a connection had its last act, where that is known.
@@ -70,17 +96,19 @@ impl Turns {
 
     /// Of what a wait told, and of those who waited, who goes on now: all of accounts that had little time of late, and where there are
     /// none the first of the others. All others wait for the next call.
-    pub fn order(&mut self, now: u64, ready: &mut VecDeque<Wake>)
-        ensures { Orders now self.old ready.old.items self.new ready.new.items }
+    ///
+    /// Lack of memory is the only error; they aren't told apart then, and all go on, or all of which the wait told.
+    pub fn order(&mut self, now: u64, ready: &mut VecDeque<Wake>) -> Result<(), AllocError>
+        ensures ok { OnOk result (Orders now self.old ready.old.items self.new ready.new.items) }
+        ensures err { OnErr result (Unordered self.old.put_off.items ready.old.items self.new.put_off.items ready.new.items) }
     {
         if !join(&mut self.put_off, ready) {
-            return;
+            return Err(AllocError);
         }
-        let Ok(mut late) = late_of(&self.shares, &self.accounts, now, ready) else {
-            return;
-        };
+        let mut late = late_of(&self.shares, &self.accounts, now, ready)?;
         part(&self.shares, &self.accounts, now, ready, &mut late);
         self.put_off = late;
+        Ok(())
     }
 }
 

@@ -28,7 +28,7 @@ use wirefakes::stage::Stage;
 use wires::service::Service;
 
 /// Those of the echo, in the order in which they are played.
-const ECHOES: [&str; 19] = [
+const ECHOES: [&str; 20] = [
     "two-mixed.schedule",
     "pieces.schedule",
     "slow-reader.schedule",
@@ -42,6 +42,7 @@ const ECHOES: [&str; 19] = [
     "room-at-once.schedule",
     "room-twice.schedule",
     "room-for-nobody.schedule",
+    "room-later.schedule",
     "hang-up.schedule",
     "sixty.schedule",
     "three-hundred.schedule",
@@ -51,12 +52,13 @@ const ECHOES: [&str; 19] = [
 ];
 
 /// Those of the daemon, in the order in which they are played.
-const DAEMONS: [&str; 5] = [
+const DAEMONS: [&str; 6] = [
     "one-session.daemon",
     "forty-lives.daemon",
     "mail.daemon",
     "mail-beside-sieve.daemon",
     "mail-store-away.daemon",
+    "mail-places.daemon",
 ];
 
 /// Those of the daemon where mail moves on.

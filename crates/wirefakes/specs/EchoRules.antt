@@ -1,7 +1,8 @@
 -- What the echo makes of what happens.
-use Rattle.std.specs.Prelude.{◌≡◌, ℕ, ◌+◌, ◌%◌, ◌^◌, ◌==◌, ◌&&◌, nat_lt, not, if◌then◌else◌, List, [], ◌∷◌, find, option_map, Option, Some, None}
+use Rattle.std.specs.Prelude.{◌≡◌, ℕ, ◌+◌, ◌%◌, ◌^◌, ◌==◌, ◌&&◌, ◌||◌, nat_le, nat_lt, not, if◌then◌else◌, List, [], ◌∷◌, Option, Some, None}
 use Rattle.std.specs.BTreeMap as tree
 use Rattle.std.specs.Ordering.{nat_cmp}
+use Rattle.wires.specs.declared.machine.Claim.{Claim}
 use Rattle.wires.specs.declared.machine.Want.{Want}
 use Rattle.wires.specs.declared.machine.Want.TheVariants as want
 use Rattle.wires.specs.Rules.{Rules}
@@ -21,9 +22,16 @@ abbrev pub deadline_by : Option Guest → ℕ
 deadline_by (Some g) = g.deadline
 deadline_by None = 0
 
--- of the third kind the first that hasn't said a line makes room
-abbrev pub displaced_by : Echo → ℕ → Option ℕ
-displaced_by m kind = if kind == 3 then option_map (λ (g : Guest). g.id) (find (λ (g : Guest). (g.kind == 3) && not g.known) (tree.values m.guests)) else None
+-- of the third kind one that hasn't said a line makes room, and of the fourth one that came a second ago; the first that came before others
+abbrev pub claim_of : ℕ → Guest → Option Claim
+claim_of now g =
+    if g.known then None
+    else if g.kind == 3 || ((g.kind == 4) && nat_le ((g.came + 1000) % 2 ^ 64) now) then Some (record { rank = 0; moment = g.came })
+    else None
+
+abbrev pub claim_by : ℕ → Option Guest → Option Claim
+claim_by now (Some g) = claim_of now g
+claim_by now None = None
 
 -- what a step or its own work makes of the total
 abbrev pub Totals : Note → ℕ → ℕ → Type 0
@@ -41,7 +49,7 @@ farewell = 101 ∷ 110 ∷ 100 ∷ 13 ∷ 10 ∷ []
 abbrev pub echo_rules : Rules Echo Note ℕ
 echo_rules = record {
   limit = λ kind. if kind == 1 then 64 else 2;
-  displaced = displaced_by;
+  claim = λ m now id. claim_by now (guest_of m id);
   wants = λ m id. want_by (guest_of m id);
   has_work = λ m now. not (nat_lt now m.due);
   patience = λ m. 1000;

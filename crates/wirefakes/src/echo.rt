@@ -1,13 +1,13 @@
 //! A machine that says back each line.
 ghost use Rattle.std.specs.Prelude.{◌≡◌, ◌<◌, ◌==◌, ◌&&◌, [], length, IfSome, find, option_map, if◌then◌else◌, not, None, Some};
 ghost use Rattle.std.specs.BTreeMap as tree;
-ghost use Rattle.wirefakes.specs.EchoRules.{echo_rules, displaced_by, want_by, deadline_by, guest_of};
+ghost use Rattle.wirefakes.specs.EchoRules.{echo_rules, claim_by, want_by, deadline_by, guest_of};
 
 use crate::desk::Desk;
 use octets::{Octets, Pending, parse_decimal, write_decimal};
 use std::alloc::{AllocError, Global};
 use std::collections::BTreeMap;
-use wires::machine::{Machine, Want};
+use wires::machine::{Claim, Machine, Want};
 
 /// No line is longer.
 const MAX_LINE: usize = 100;
@@ -26,7 +26,9 @@ const PERIOD: u64 = 1000;
 pub struct Guest {
     pub id: u32,
     pub kind: u32,
-    /// Whether a line came from it, or it was told something last.
+    /// The moment at which it came.
+    pub came: u64,
+    /// Whether a line came from it.
     pub known: bool,
     /// What it said and wasn't answered yet.
     pub unread: Pending,
@@ -64,19 +66,6 @@ impl Echo {
         }
     }
 
-    fn first_unknown(&self) -> Option<u32>
-        ensures { result ≡ displaced_by self.now 3 }
-    {
-        let first = self
-            .guests
-            .values()
-            .find(|guest| guest.kind == 3 && !guest.known);
-        match first {
-            Some(guest) => Some(guest.id),
-            None => None,
-        }
-    }
-
     /// Takes the first line of a client, and gives what it asks for.
     fn take(&mut self, now: u64, id: u32, out: &mut Octets) -> Result<Asked, AllocError>
         ensures { self.new.due ≡ self.old.due }
@@ -94,6 +83,23 @@ impl Guest {
     /// What it wants next.
     fn look(&mut self) {
         self.want = next_want(self.unread.as_slice());
+    }
+
+    /// Of the third kind one that hasn't said a line makes room, and of the fourth one that came a second ago.
+    fn claim(&self, now: u64) -> Option<Claim>
+        ensures { result ≡ claim_by now (Some self.now) }
+    {
+        if self.known {
+            return None;
+        }
+        if self.kind == 3 || self.kind == 4 && self.came.wrapping_add(PERIOD) <= now {
+            Some(Claim {
+                rank: 0,
+                moment: self.came,
+            })
+        } else {
+            None
+        }
     }
 
     fn take(&mut self, alloc: Global, now: u64, out: &mut Octets) -> Result<Asked, AllocError> {
@@ -198,11 +204,10 @@ impl<O: Desk> Machine<O> for Echo {
         if kind == 1 { 64 } else { 2 }
     }
 
-    fn displaced(&self, kind: u32) -> Option<u32> {
-        if kind == 3 {
-            self.first_unknown()
-        } else {
-            None
+    fn claim(&self, now: u64, id: u32) -> Option<Claim> {
+        match self.guests.get(&id) {
+            Some(guest) => guest.claim(now),
+            None => None,
         }
     }
 
@@ -232,6 +237,7 @@ impl<O: Desk> Machine<O> for Echo {
         let guest = Guest {
             id,
             kind,
+            came: now,
             known: false,
             unread: Pending::new(self.alloc),
             want: Want::More,
@@ -277,9 +283,6 @@ impl<O: Desk> Machine<O> for Echo {
     }
 
     fn late(&mut self, now: u64, id: u32, out: &mut Octets) -> Result<(), AllocError> {
-        if let Some(guest) = self.guests.get_mut(&id) {
-            guest.known = true;
-        }
         out.extend_from_slice(b"end\r\n")
     }
 

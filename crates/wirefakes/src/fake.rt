@@ -264,6 +264,10 @@ impl<N: Drop, R: Drop> Sockets for Fake<N, R> {
         self.keep(Act::Listened(kind));
     }
 
+    fn defer(&mut self, kind: u32) {
+        self.keep(Act::Crowded(kind));
+    }
+
     fn note(&mut self, act: Act<N>)
         requires { IsOwn act }
         ensures seen { IsTrue (not self.new.lost) → self.new.acts.items ≡ self.old.acts.items ++ act ∷ [] }

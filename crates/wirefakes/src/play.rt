@@ -60,10 +60,7 @@ impl<O: Staged + Drop, M: Machine<O> + Drop, W: Owner<O> + Drop> Player<O, M, W>
     fn play_entry(&mut self, line: usize, entry: &Entry) -> Result<(), AllocError> {
         match entry {
             Entry::Of(name, deed) => self.play_deed(line, name.as_slice(), deed),
-            Entry::Clock(moment) => {
-                self.outside.stage().set_clock(*moment);
-                Ok(())
-            }
+            Entry::Clock(moment) => self.outside.stage().set_clock(*moment),
             Entry::Pause => self.settle(line),
             Entry::Own(text) => {
                 self.owner

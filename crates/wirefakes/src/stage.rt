@@ -8,6 +8,7 @@ use crate::script::{Reading, Script};
 use octets::Octets;
 use std::alloc::{AllocError, Global};
 use std::collections::VecDeque;
+use std::mem::replace;
 use wires::act::Act;
 use wires::outcome::{Accepted, Fault, Input, Output, Wake};
 use wires::outside::{Clock, Outside, Sockets};
@@ -24,6 +25,8 @@ pub struct Stage<N: Drop, R: Drop> {
     pub peers: Vec<Peer>,
     /// The kinds of listeners of which a wait is to tell.
     pub knocks: Vec<u32>,
+    /// Those of which one is to tell once the clock goes on: there was no place.
+    pub crowded: Vec<u32>,
     /// How many waits in a row told nothing, while nothing else happened.
     pub idle: u32,
 }
@@ -56,6 +59,7 @@ impl<N: Drop, R: Drop> Stage<N, R> {
             fake: Fake::new(alloc, Script::new(alloc), rest),
             peers: Vec::new(alloc),
             knocks: Vec::new(alloc),
+            crowded: Vec::new(alloc),
             idle: 0,
         }
     }
@@ -93,10 +97,26 @@ impl<N: Drop, R: Drop> Stage<N, R> {
         Ok(())
     }
 
+    /// A wait is to tell of that listener once the clock goes on.
+    fn put_off(&mut self, kind: u32) -> Result<(), AllocError>
+        ensures { self.new.fake ≡ self.old.fake }
+    {
+        if self.crowded.contains(&kind) {
+            return Ok(());
+        }
+        self.crowded.push(kind)?;
+        Ok(())
+    }
+
     /// The clock shows this moment.
-    pub fn set_clock(&mut self, moment: u64) {
+    pub fn set_clock(&mut self, moment: u64) -> Result<(), AllocError> {
         self.idle = 0;
         self.fake.moment = moment;
+        let crowded = replace(&mut self.crowded, Vec::new(self.fake.alloc));
+        for kind in crowded {
+            self.knock(kind)?;
+        }
+        Ok(())
     }
 }
 
@@ -316,6 +336,14 @@ impl<N: Drop, R: Drop> Sockets for Stage<N, R> {
             self.fake.lost = true;
         }
         self.fake.keep(Act::Listened(kind));
+    }
+
+    fn defer(&mut self, kind: u32) {
+        self.idle = 0;
+        if self.put_off(kind).is_err() {
+            self.fake.lost = true;
+        }
+        self.fake.keep(Act::Crowded(kind));
     }
 
     fn note(&mut self, act: Act<N>)

@@ -1,6 +1,7 @@
 -- Right cases of the definitions, and near misses.
-use Rattle.std.proofs.Common.{◌≡◌, ℕ, ◌-◌, ◌^◌, true, false, List, [], ◌∷◌, Option, Some, None, refl, arith}
+use Rattle.std.proofs.Common.{◌≡◌, ℕ, ◌-◌, ◌^◌, true, false, if◌then◌else◌, List, [], ◌∷◌, Option, Some, None, refl, arith}
 use Rattle.wires.specs.declared.act.Act.TheVariants.{Woke, Began, Timed, Waits, Roused, Came, Sent, Noted, Ended}
+use Rattle.wires.specs.declared.machine.Claim.{Claim}
 use Rattle.wires.specs.declared.machine.Want.TheVariants as want
 use Rattle.wires.specs.declared.outcome.Wake.{Wake}
 use Rattle.wires.specs.declared.outcome.Wake.TheVariants.{Knock, Ready}
@@ -13,7 +14,8 @@ use Rattle.wires.specs.Life.{Move, AreOpen}
 use Rattle.wires.specs.Rules.{Rules}
 use Rattle.wires.specs.Talk.{shut_from, Sends, Talks, is_late, newcomer, gathers, task, task_by}
 use Rattle.wires.proofs.TalkLemmas.{hear_quiet}
-use Rattle.wires.specs.Turns.{is_open_of, numbers_between, came_among}
+use Rattle.wires.specs.Room.{goes_before, best_from, number_of, may_go}
+use Rattle.wires.specs.Turns.{numbers_between, came_among}
 
 -- ---- what is to be done
 
@@ -151,21 +153,49 @@ not_by_an_end N is = cc
 
 -- ---- who makes room
 
--- near misses: one that isn't there, and one that was told something last
-not_one_that_is_gone : is_open_of 7 None ≡ false
-not_one_that_is_gone = refl
+-- of two ranks the lower goes, whatever the moments; of one the earlier
+lower_goes : goes_before (record { rank = 0; moment = 9 }) (record { rank = 1; moment = 5 }) ≡ true
+lower_goes = refl
 
-not_one_that_ends : is_open_of 7 (Some (record (newcomer 0 1 7 []) { phase = phase.Closing })) ≡ false
+earlier_goes : goes_before (record { rank = 1; moment = 4 }) (record { rank = 1; moment = 5 }) ≡ true
+earlier_goes = refl
+
+-- near misses: one that is alike, and one of a higher rank that is earlier
+not_alike : goes_before (record { rank = 1; moment = 5 }) (record { rank = 1; moment = 5 }) ≡ false
+not_alike = refl
+
+not_of_a_higher_rank : goes_before (record { rank = 2; moment = 4 }) (record { rank = 1; moment = 5 }) ≡ false
+not_of_a_higher_rank = refl
+
+-- near misses: one that was told something last, one that makes room already, and one of another kind
+not_one_that_ends : may_go 0 7 (record (newcomer 0 1 7 []) { phase = phase.Closing }) ≡ false
 not_one_that_ends = refl
 
-not_one_that_makes_room : is_open_of 7 (Some (record (newcomer 0 1 7 []) { phase = phase.Yielding })) ≡ false
+not_one_that_makes_room : may_go 0 7 (record (newcomer 0 1 7 []) { phase = phase.Yielding }) ≡ false
 not_one_that_makes_room = refl
 
-not_one_of_another_kind : is_open_of 8 (Some (newcomer 0 1 7 [])) ≡ false
+not_one_of_another_kind : may_go 0 8 (newcomer 0 1 7 []) ≡ false
 not_one_of_another_kind = refl
 
-one_that_is_open : is_open_of 7 (Some (newcomer 0 1 7 [])) ≡ true
+one_that_is_open : may_go 0 7 (newcomer 0 1 7 []) ≡ true
 one_that_is_open = refl
+
+-- one that was greeted and didn't take that for a second may go, and not before
+deaf_goes : may_go 1000 7 (newcomer 0 1 7 (65 ∷ [])) ≡ true
+deaf_goes = refl
+
+not_yet_deaf : may_go 999 7 (newcomer 0 1 7 (65 ∷ [])) ≡ false
+not_yet_deaf = refl
+
+-- of two that claim the same the first goes, and one that may not go is passed over
+abbrev all_alike : Client → Option Claim
+all_alike c = if may_go 0 7 c then Some (record { rank = 0; moment = 5 }) else None
+
+first_of_two : number_of (best_from all_alike None ((1, newcomer 0 1 7 []) ∷ (2, newcomer 0 2 7 []) ∷ [])) ≡ Some 1
+first_of_two = refl
+
+passed_over : number_of (best_from all_alike None ((1, record (newcomer 0 1 7 []) { phase = phase.Closing }) ∷ (2, newcomer 0 2 7 []) ∷ [])) ≡ Some 2
+passed_over = refl
 
 -- ---- how many are open
 

@@ -3,5 +3,6 @@ pub mod EndLemmas
 pub mod Examples
 pub mod LifeLemmas
 pub mod QueueLemmas
+pub mod RoomLemmas
 pub mod TalkLemmas
 pub mod SendLemmas

@@ -1,5 +1,6 @@
 pub mod Life
 pub mod Moves
+pub mod Room
 pub mod Rules
 pub mod Talk
 pub mod Told

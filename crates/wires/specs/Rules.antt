@@ -2,16 +2,17 @@
 use Rattle.std.specs.Prelude.{◌≡◌, ℕ, Bool, List, [], ◌∷◌, ◌++◌, Option, IsTrue}
 use Rattle.wires.specs.declared.act.Act.{Act}
 use Rattle.wires.specs.declared.act.Act.TheVariants.{Noted, Worked}
+use Rattle.wires.specs.declared.machine.Claim.{Claim}
 use Rattle.wires.specs.declared.machine.Want.{Want}
 
 -- of a machine M that notes N and acts on R, all of the outside that is neither sockets nor clock: how many connections of a
--- kind may be open, and which of them makes room for another where that many are; of a connection by its number what it wants,
+-- kind may be open; of a connection by its number whether it may make room at a moment, where that many are, what it wants,
 -- and the moment by which it is late; whether it has work of its own at a moment, and for how long it may rest. Then, for each happening (at a moment, where
 -- one stands first), what it says to that connection and the machine after it; a step and work of its own may change R. A rule
 -- may allow more than one. `lates`: it was late or made room, and ends. `lacks`: memory was lacking for it
 pub record Rules (M N R : Type 0) : Type 1 where
   pub limit : ℕ → ℕ
-  pub displaced : M → ℕ → Option ℕ
+  pub claim : M → ℕ → ℕ → Option Claim
   pub wants : M → ℕ → Want
   pub has_work : M → ℕ → Bool
   pub patience : M → ℕ

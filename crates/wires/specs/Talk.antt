@@ -190,10 +190,17 @@ abbrev pub next_piece : List ℕ → List ℕ → List ℕ
 next_piece [] behind = behind
 next_piece (x ∷ more) behind = x ∷ more
 
+-- the moment by which some more of what waits is to be taken: behind what is said last it stays
+abbrev pub due_taken : ℕ → Phase → ℕ → ℕ
+due_taken now phase.Open until = after_span now max_unsent
+due_taken now phase.Closing until = until
+due_taken now phase.Yielding until = until
+due_taken now (phase.Shut left) until = until
+
 -- a front of what waits is taken off
 pub record Taken (now : ℕ) (octets : List ℕ) (before after : Client) : Type 0 where
   pub front : waits before ≡ octets ++ waits after
-  pub until : after.until ≡ after_span now max_unsent
+  pub until : after.until ≡ due_taken now before.phase before.until
   pub stays : Stays before after
 
 -- what is sent is a front of what waits, and not nothing

@@ -1,7 +1,7 @@
 -- What one call on the outside adds to the acts.
 use Rattle.std.specs.Prelude.{◌≡◌, ℕ, ◌≤◌, ◌<◌, Bool, List, [], ◌∷◌, ◌++◌, length, take, IsTrue}
 use Rattle.wires.specs.declared.act.Act.{Act}
-use Rattle.wires.specs.declared.act.Act.TheVariants.{Began, Late, Waits, Roused, Came, NoneCame, Crowded, Displaced, InUse, Heard}
+use Rattle.wires.specs.declared.act.Act.TheVariants.{Began, Late, Waits, Roused, Came, NoneCame, Displaced, InUse, Heard}
 use Rattle.wires.specs.declared.act.Act.TheVariants.{ReadBlocked, Over, Sent, WriteBlocked, Lost, Full, Dropped}
 use Rattle.wires.specs.declared.outcome.Accepted.{Accepted}
 use Rattle.wires.specs.declared.outcome.Accepted.TheVariants as accepted
@@ -54,7 +54,6 @@ IsOwn (Began wake) = Unit {0}
 IsOwn (Late id) = Unit {0}
 IsOwn (Waits id) = Unit {0}
 IsOwn (Roused id) = Unit {0}
-IsOwn (Crowded kind) = Unit {0}
 IsOwn (Displaced id) = Unit {0}
 IsOwn (InUse id) = Unit {0}
 IsOwn (Full id) = Unit {0}

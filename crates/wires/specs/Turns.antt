@@ -16,6 +16,7 @@ use Rattle.wires.specs.declared.turn.Turn.{Turn}
 use Rattle.wires.specs.declared.turn.Turn.TheVariants.{Free, Rested, Waked, Sweep, Door, Busy, Stuffed, Leaving}
 use Rattle.wires.specs.declared.turn.Task.{Task}
 use Rattle.wires.specs.declared.turn.Task.TheVariants.{Send, Hear, Step, Rest, HangUp, Drain, End, Nothing}
+use Rattle.wires.specs.Room.{makes_room}
 use Rattle.wires.specs.Rules.{Rules}
 use Rattle.wires.specs.Talk.{same, client_of, kind_of, is_quiet, is_closing, is_late, fair, task, is_open_by, newcomer, Answers, Alone, MayAnswer, MayPart}
 use Rattle.wires.specs.Told.{largest_piece}
@@ -95,19 +96,6 @@ pub record Admits {M N R : Type 0} (rules : Rules M N R) (s : Service) (kind : �
 pub record NoPlace {M N R : Type 0} (rules : Rules M N R) (s : Service) (kind : ℕ) (knocked : Bool) : Type 0 where
   pub door : s.turn ≡ Door kind knocked
   pub full : ¬ HasPlace rules kind s
-
--- it is open, and of that kind
-abbrev pub is_open_of : ℕ → Option Client → Bool
-is_open_of kind (Some c) = is_open_by c.phase && (c.kind == kind)
-is_open_of kind None = false
-
--- the one that makes room for another of that kind: whom the machine names, if it is open and of that kind
-abbrev pub room_by : ℕ → Service → Option ℕ → Option ℕ
-room_by kind s (Some id) = if is_open_of kind (client_of s id) then Some id else None
-room_by kind s None = None
-
-abbrev pub makes_room : {M N R : Type 0} → Rules M N R → M → Service → ℕ → Option ℕ
-makes_room rules m s kind = room_by kind s (rules.displaced m kind)
 
 -- the next number
 abbrev pub after_number : ℕ → ℕ

@@ -24,7 +24,7 @@ pub enum Act<N> {
     Came(u32, u32),
     /// There was none of that `kind` to accept.
     NoneCame(u32),
-    /// There was no place for another one of that `kind`.
+    /// There was no place for another one of that `kind`, and nobody makes room now: a wait is to tell again of those who knock.
     Crowded(u32),
     /// There was none, and `id` makes room for one that knocks.
     Displaced(u32),

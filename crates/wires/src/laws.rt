@@ -1,5 +1,6 @@
 //! Laws of what is served, each the contract of a function that does nothing.
 ghost use Rattle.wires.specs.Life.{OneConnection, Apart, EndsRight, Bounded, NoneForgotten};
+ghost use Rattle.wires.specs.Room.{FirstGoes};
 
 use crate::machine::Machine;
 use crate::outside::Outside;
@@ -27,4 +28,9 @@ pub fn ends_right<O: Outside, M: Machine<O>>()
 /// What waits told is taken up, each once and in its order, and nothing of it is forgotten.
 pub fn none_forgotten<O: Outside, M: Machine<O>>()
     ensures { NoneForgotten M.rules }
+{}
+
+/// Who makes room may go, and no other that may claims what goes before its claim; where there is none, none of those claims.
+pub fn first_goes<O: Outside, M: Machine<O>>()
+    ensures { FirstGoes M.rules }
 {}

@@ -21,6 +21,15 @@ pub enum Want {
     Done,
 }
 
+/// What a connection has of its own that speaks for its going, where its place is wanted for another one: of all of its kind the one of the
+/// lowest rank goes, and of those of one rank the one with the earliest moment.
+#[derive(Clone, Copy, Debug, PartialEq, Eq)]
+pub struct Claim {
+    pub rank: u32,
+    /// In milliseconds, as the clock counts them.
+    pub moment: u64,
+}
+
 /// An abstract machine: connections come, send octets and go, and each time it says something to that connection. It is kept
 /// by `rules`, which are all that is known of it.
 ///
@@ -33,10 +42,10 @@ pub trait Machine<O: Outside> {
     fn limit(&self, kind: u32) -> usize
         ensures { result ≡ rules.limit kind };
 
-    /// Which connection of that kind makes room for one that knocks, where so many are open. It is asked again for each that
-    /// knocks: where it names one that has just come, those who knock push each other out.
-    fn displaced(&self, kind: u32) -> Option<u32>
-        ensures { result ≡ rules.displaced self.now kind };
+    /// Whether a connection may make room at that moment for one of its kind that knocks, where so many are open, and before which others it
+    /// does. It is asked again for each that knocks: where one that has just come may go, those who knock push each other out.
+    fn claim(&self, now: u64, id: u32) -> Option<Claim>
+        ensures { result ≡ rules.claim self.now now id };
 
     /// What it wants of that connection.
     fn wants(&self, id: u32) -> Want

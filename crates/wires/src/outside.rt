@@ -1,7 +1,7 @@
 //! All that is outside: one list of acts, and the sockets.
 ghost use Rattle.std.specs.Prelude.{◌≡◌, Bool, List, [], ◌<◌, length, IsTrue, OnOk, OnErr};
 ghost use Rattle.wires.specs.Told.{IsOwn, TellsIf, LeavesIf, AfterAccept, AfterRead, AfterDiscard, AfterWrite, ReadFits, DiscardFits, WriteFits};
-ghost use Rattle.wires.specs.declared.act.Act.TheVariants.{Woke, Timed, Again, Listened, Shut, Ended};
+ghost use Rattle.wires.specs.declared.act.Act.TheVariants.{Woke, Timed, Again, Crowded, Listened, Shut, Ended};
 ghost use Rattle.wires.specs.declared.act.Act.{Act};
 
 use crate::act::Act;
@@ -98,6 +98,12 @@ pub trait Sockets: Outside {
     /// Has a wait tell again of those who knock at that kind's listener, if somebody does.
     fn listen(&mut self, kind: u32)
         ensures seen { TellsIf Self.tells Self.seen self.old (Listened kind) self.new }
+        ensures left { LeavesIf Self.tells Self.rest self.old self.new }
+        ensures kept { IsTrue (Self.tells self.new) → IsTrue (Self.tells self.old) };
+
+    /// Has a wait tell some milliseconds later again of those who knock at that kind's listener, if somebody does: there was no place.
+    fn defer(&mut self, kind: u32)
+        ensures seen { TellsIf Self.tells Self.seen self.old (Crowded kind) self.new }
         ensures left { LeavesIf Self.tells Self.rest self.old self.new }
         ensures kept { IsTrue (Self.tells self.new) → IsTrue (Self.tells self.old) };
 

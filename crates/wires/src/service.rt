@@ -2,15 +2,16 @@
 ghost use Rattle.std.specs.Prelude.{◌≡◌, ◌==◌, ℕ, ◌<◌, ◌≤◌, ◌↔◌, ◌⊎◌, [], length, take, not, filter, find, true, Some, None, IsTrue, IsSome, OnErr};
 ghost use Rattle.std.specs.BTreeMap as tree;
 ghost use Rattle.wires.specs.Moves.{MovesIf, MovesOrIf};
+ghost use Rattle.wires.specs.Room.{goes_before, better, number_of, has_had_by, may_go, claim_in, makes_room};
 ghost use Rattle.wires.specs.Talk.{client_of, kind_of, waits, is_open_by, is_closing_by, parting_span, shut_from, is_quiet, is_late, is_nothing, gathers, task, task_by, task_sent};
-ghost use Rattle.wires.specs.Talk.{task_unsent, task_wanted, takes_more, next_piece, Gathers, Taken, Stays, drained};
+ghost use Rattle.wires.specs.Talk.{task_unsent, task_wanted, takes_more, next_piece, Gathers, Taken, Stays, drained, due_taken};
 ghost use Rattle.wires.specs.Turns.{Tasks, Enters, Answered, Given, Parted, Yields, MayEnd, Admits, NoPlace, MayWait, Calm, Rests, Quiet};
-ghost use Rattle.wires.specs.Turns.{open_of, is_open_of, came_since, makes_room, turn_of, first_late, first_roused, goes_on};
+ghost use Rattle.wires.specs.Turns.{open_of, came_since, turn_of, first_late, first_roused, goes_on};
 ghost use Rattle.wires.specs.declared.turn.Turn.TheVariants.{Free, Rested, Waked, Sweep, Door, Busy, Stuffed};
 ghost use Rattle.wires.specs.declared.turn.Task.TheVariants.{Send, Hear, Step, Rest, HangUp, Drain};
 
 use crate::act::Act;
-use crate::machine::{Machine, Want};
+use crate::machine::{Claim, Machine, Want};
 use crate::outcome::{Accepted, Fault, Input, Output, Wake};
 use crate::outside::{Clock, Sockets};
 use crate::turn::{Task, Turn};
@@ -34,6 +35,9 @@ const MAX_DROPPED: usize = 1048576;
 
 /// So many milliseconds may pass until the peer of a connection takes some more of what is to be sent.
 const MAX_UNSENT: u64 = 60000;
+
+/// One to which something waits to be sent may make room once it has taken nothing for so many milliseconds: then nobody waits for that.
+const MIN_DEAF: u64 = 1000;
 
 /// So many milliseconds the peer of a connection has, behind the last that is said to it. One that makes room has none: its place is free
 /// at once.
@@ -556,7 +560,7 @@ fn door_once<O: Sockets + Clock, M: Machine<O>>(
 }
 
 /// Where there is no place: has one make room for one that knocks. Where one could, but nobody has knocked since the last was
-/// accepted, it asks whether somebody does.
+/// accepted, it asks whether somebody does; and where none can, whether somebody still does a little later.
 fn crowd_once<O: Sockets + Clock, M: Machine<O>>(
     outside: &mut O,
     machine: &mut M,
@@ -569,7 +573,7 @@ fn crowd_once<O: Sockets + Clock, M: Machine<O>>(
     ensures moves { MovesIf O.tells O.seen O.rest M.rules outside.old machine.old service.old outside.new machine.new service.new }
 {
     let Some(id) = find_room(machine, service, kind) else {
-        outside.note(Act::Crowded(kind));
+        outside.defer(kind);
         service.turn = Turn::Free;
         return;
     };
@@ -597,7 +601,7 @@ fn displace_once<O: Sockets + Clock, M: Machine<O>>(
     dismiss(machine, service, id, Phase::Yielding);
 }
 
-/// Who makes room for another of that kind.
+/// Who makes room for another of that kind: of all that may go the first that claims. Time is linear in the connections.
 fn find_room<O: Sockets + Clock, M: Machine<O>>(
     machine: &M,
     service: &Service,
@@ -605,21 +609,86 @@ fn find_room<O: Sockets + Clock, M: Machine<O>>(
 ) -> Option<u32>
     ensures { result ≡ makes_room M.rules machine.now service.now kind }
 {
-    let id = machine.displaced(kind)?;
-    if is_open_at(service, id, kind) {
-        Some(id)
+    let mut best = None;
+    'clients: for (_, client) in service.clients.iter() {
+        let claim = claim_of(machine, service.moment, kind, client);
+        best = better(best, client.id, claim);
+    }
+    number_of(best)
+}
+
+/// What it claims, where it may go.
+fn claim_of<O: Sockets + Clock, M: Machine<O>>(
+    machine: &M,
+    now: u64,
+    kind: u32,
+    client: &Client,
+) -> Option<Claim>
+    ensures { result ≡ claim_in M.rules machine.now now kind client.now }
+{
+    if may_go(now, kind, client) {
+        machine.claim(now, client.id)
     } else {
         None
     }
 }
 
-/// Whether it is open, and of that kind.
-fn is_open_at(service: &Service, id: u32, kind: u32) -> bool
-    ensures { result ≡ is_open_of kind (client_of service.now id) }
+/// Whether it is open, of that kind, and has had what was said to it, or doesn't take it.
+fn may_go(now: u64, kind: u32, client: &Client) -> bool
+    ensures { result ≡ may_go now kind client.now }
 {
-    match service.clients.get(&id) {
-        Some(client) => is_client_open(client) && client.kind == kind,
-        None => false,
+    is_client_open(client) && client.kind == kind && has_had(now, client)
+}
+
+/// Whether all that was said to it is sent, or it took nothing of that for a while.
+fn has_had(now: u64, client: &Client) -> bool
+    ensures { result ≡ has_had_by now client.now.until (waits client.now) }
+{
+    if is_all_sent(client) {
+        true
+    } else {
+        client.until <= now.wrapping_add(MAX_UNSENT - MIN_DEAF)
+    }
+}
+
+/// The one of two whose claim goes before the other's.
+fn better(best: Option<(u32, Claim)>, id: u32, claim: Option<Claim>) -> Option<(u32, Claim)>
+    ensures { result ≡ better best id claim }
+{
+    let Some(claim) = claim else {
+        return best;
+    };
+    match best {
+        Some((other, held)) => {
+            if goes_before(claim, held) {
+                Some((id, claim))
+            } else {
+                Some((other, held))
+            }
+        }
+        None => Some((id, claim)),
+    }
+}
+
+/// Whether a claim goes before another one.
+fn goes_before(claim: Claim, other: Claim) -> bool
+    ensures { result ≡ goes_before claim other }
+{
+    if claim.rank < other.rank {
+        true
+    } else if other.rank < claim.rank {
+        false
+    } else {
+        claim.moment < other.moment
+    }
+}
+
+fn number_of(best: Option<(u32, Claim)>) -> Option<u32>
+    ensures { result ≡ number_of best }
+{
+    match best {
+        Some((id, _)) => Some(id),
+        None => None,
     }
 }
 
@@ -840,7 +909,17 @@ fn take_off(client: &mut Client, alloc: Global, now: u64, count: usize)
 {
     bring_up(client, alloc);
     client.unsent.drop_front(count);
-    client.until = now.wrapping_add(MAX_UNSENT);
+    client.until = due_taken(now, client.phase, client.until);
+}
+
+/// By which moment some more of what waits is to be taken, where some was: behind what is said last that stays.
+fn due_taken(now: u64, phase: Phase, until: u64) -> u64
+    ensures { result ≡ due_taken now phase until }
+{
+    match phase {
+        Phase::Open => now.wrapping_add(MAX_UNSENT),
+        Phase::Closing | Phase::Yielding | Phase::Shut(_) => until,
+    }
 }
 
 /// Where nothing waits before it, what waits behind is next.
@@ -954,6 +1033,7 @@ fn step_once<O: Sockets + Clock, M: Machine<O>>(
         let long = outside.was_long();
         answer(service, id, count_behind(count, long), out);
     } else {
+        let _ = outside.was_long();
         outside.note(Act::Full(id));
         service.turn = Turn::Leaving(id, kind);
     }

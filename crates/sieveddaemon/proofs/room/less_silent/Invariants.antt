@@ -1,0 +1,7 @@
+use Rattle.std.proofs.Common.{◌≡◌}
+use Rattle.sieveddaemon.proofs.RoomLemmas.{less_silent}
+use Rattle.sieveddaemon.proofs.room.less_silent.Given as goal
+
+-- what the entries that are left make of what is left so far is what all make of the most
+abbrev pub invariant-loop-post : goal.invariant-loop-post
+invariant-loop-post l = less_silent l.left l.post-iterator ≡ less_silent l.most l.posts.entries

@@ -1,0 +1,5 @@
+use Rattle.wires.proofs.RoomLemmas as room
+use Rattle.wires.proofs.laws.first_goes.Goals as goal
+
+pub returns : goal.returns
+returns g c = room.first_goes g.M.Machine.rules
