@@ -33,7 +33,7 @@ returns-in-Ok-Some-clause-turns g c = λ clean tables held.
     let found : IsNextFiled c.in-Ok.start c.in-Ok-Some.field-0 tables = c.in-Ok-Some.ensures.next.found mid tables held in
     let next = subst (λ o. IsNextFiled (start_of heard.order.last) o tables) c.in-Ok-Some.field-0-is (subst (λ s. IsNextFiled s c.in-Ok-Some.field-0 tables) c.in-Ok.ensures found) in
     let turns = c.move_of.ensures.turns clean tables
-        (held_behind (state g.S.Store c.args.store.now) (state g.S.Store c.next_filed.new.self) c.next_filed.result c.in-Ok-Some.field-0 c.in-Ok-Some.is c.next_filed.ensures.next.keeps mid tables held) in
+    (held_behind (state g.S.Store c.args.store.now) (state g.S.Store c.next_filed.new.self) c.next_filed.result c.in-Ok-Some.field-0 c.in-Ok-Some.is c.next_filed.ensures.next.keeps mid tables held) in
     let it = turn_is c.args.now tables c.in-Ok-Some.first heard.rests.entries.items heard.order next c.move_of.result c.move_of.new.route.order turns in
     subst (λ rests. TurnsTo c.args.now tables rests c.args.route.now.order c.move_of.result c.move_of.new.route.order) (ap (λ (rests : Rests). rests.entries.items) c.hear.ensures.rests)
     (subst (λ (order : Order). TurnsTo c.args.now tables heard.rests.entries.items order c.move_of.result c.move_of.new.route.order) c.hear.ensures.order it)
