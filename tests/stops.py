@@ -769,6 +769,8 @@ def unsynced():
     for how in "dropped", "kept":
         with weak_disk() as (folder, disk):
             lay(folder, left_by(log, State(0)))
+            # The first word that opens the store where it lies now notes which file it is, as the one whose writes were counted found it.
+            folders_of(folder, "dropped")
             status, told = stopped_delivery(folder, disk, written)
             said[how] = status, told, folders_of(folder, how), folders_of(folder, "dropped")
     wanted = 75, before[1]

@@ -12,8 +12,6 @@ use Rattle.sessions.proofs.ActLemmas.{read_shows}
 use Rattle.mailengine.specs.Hosts.{ActsMailTaking, answer_by}
 use Rattle.mailengine.specs.declared.answer.Answer.TheVariants.{MailTaken}
 use Rattle.mailengine.specs.declared.event.Event.TheVariants.{TakeMail}
-use Rattle.mailengine.specs.World.{World}
-use Rattle.mailengine.specs.declared.answer.Answer.{Answer}
 use Rattle.mailmoves.specs.Enduring.{Endures, ShowsTried, leaves_of, none_tried}
 use Rattle.mailmoves.specs.Moving.{IsFirst, TakesFirst, MovesFirst, Moves, TriedMoving, MovesOn, WasClean, IsStill}
 use Rattle.mailsinks.specs.declared.kept.KeptMail.{KeptMail}

@@ -1,14 +1,14 @@
 -- Places that the store is asked for, and what is next behind them.
 use Prim.Native.Nat.{zero}
-use Rattle.std.proofs.Common.{◌≡◌, ◌⊎◌, ◌<◌, ◌&&◌, ◌++◌, ℕ, suc, Bool, true, false, List, [], ◌∷◌, Option, Some, None, IsTrue, refl, sym, ap, ◌∙◌, subst, inl, inr, arith, Ordering, Less, Equal, Greater, is_lt, is_eq, true≢false}
-use Rattle.std.specs.Ordering.{nat_cmp, ordering_then, ordering_reverse}
+use Rattle.std.proofs.Common.{◌≡◌, ◌⊎◌, ◌<◌, ℕ, suc, Bool, true, false, List, [], ◌∷◌, Option, Some, None, refl, sym, ap, ◌∙◌, subst, inl, inr, arith, Ordering, Less, Equal, Greater, is_lt, true≢false}
+use Rattle.std.specs.Ordering.{nat_cmp, ordering_then}
 use Rattle.std.proofs.lemmas.Cmp.{nat_list_cmp_total, tied_itself}
 use Rattle.mailtables.specs.Rows.{Tables}
 use Rattle.mailstore.specs.Account.{bytes_cmp}
-use Rattle.mailstore.specs.Next.{filed_cmp, IsFiled, IsNextFiled}
+use Rattle.mailstore.specs.Next.{filed_cmp, IsNextFiled}
 use Rattle.mailstore.specs.declared.next.Filed.{Filed}
 use Rattle.mailstore.proofs.AccountLemmas.{bytes_antisymmetric}
-use Rattle.mailmoves.specs.Order.{IsFirstFolder, IsFolderBehind, IsLastFolder, IsMail, IsNextUser, IsRoundOver, beyond, comes_before, is_behind, start_in, start_of}
+use Rattle.mailmoves.specs.Order.{IsFirstFolder, IsFolderBehind, IsLastFolder, IsNextUser, IsRoundOver, beyond, comes_before, is_behind, start_in, start_of}
 
 -- ---- texts in their order
 

@@ -1,5 +1,5 @@
 -- Whose turn it is, by what the store was asked.
-use Rattle.std.proofs.Common.{◌≡◌, ◌⊎◌, ℕ, Bool, true, false, List, Option, Some, None, option_map, Result, Ok, OnOk, IsTrue, refl, sym, ap, ◌∙◌, subst, inl, inr, true≢false, if◌then◌else◌}
+use Rattle.std.proofs.Common.{◌≡◌, ℕ, Bool, true, false, List, Option, Some, None, option_map, Result, Ok, OnOk, IsTrue, refl, sym, ◌∙◌, subst, inl, inr, true≢false, if◌then◌else◌}
 use Rattle.std.specs.Cmp.Lexicographic.{bytes_decides}
 use Rattle.sqlite.specs.State.{State, HasCleanDisk}
 use Rattle.mailtables.specs.Rows.{Tables, HoldsTables}
@@ -9,10 +9,9 @@ use Rattle.mailstore.specs.Promises.{Keeps}
 use Rattle.mailstore.specs.declared.next.Filed.{Filed}
 use Rattle.mailmoves.specs.Order.{FollowsFolder, IsNextFolder, is_user, mark_of, start_in, start_of}
 use Rattle.mailmoves.specs.Rests.{rests_at}
-use Rattle.mailmoves.specs.Turns.{EndsRound, IsEnd, IsOf, IsStayOf, IsTurn, IsTurnAt, IsTurnOf, IsUsersFirst, MayPass, Passes, TurnEnds, TurnsTo, chosen}
+use Rattle.mailmoves.specs.Turns.{IsEnd, IsOf, IsStayOf, IsTurnAt, IsTurnOf, IsUsersFirst, Passes, TurnEnds, TurnsTo, chosen}
 use Rattle.mailmoves.specs.declared.moving.Moving.{Moving}
 use Rattle.mailmoves.specs.declared.moving.Moving.TheVariants as moving
-use Rattle.mailmoves.specs.declared.order.Mark.{Mark}
 use Rattle.mailmoves.specs.declared.order.Order.{Order}
 use Rattle.mailmoves.specs.declared.rest.Rest.{Rest}
 use Rattle.mailmoves.proofs.OrderLemmas.{first_folder, folder_behind, next_user, none_behind, other_behind, round_over}

@@ -2,11 +2,10 @@
 use Rattle.std.proofs.Common.{◌≡◌, ◌⊎◌, ℕ, Bool, true, false, List, [], ◌∷◌, Option, Some, None, refl, sym, ap, ◌∙◌, subst, inl, inr, Ordering, Less, Equal, Greater, is_lt, true≢false}
 use Rattle.std.specs.Ordering.{ordering_reverse}
 use Rattle.std.proofs.lemmas.Cmp.{nat_list_cmp_total, tied_itself}
-use Rattle.mailtables.specs.Rows.{Tables}
 use Rattle.mailstore.specs.Account.{bytes_cmp}
 use Rattle.mailstore.proofs.AccountLemmas.{bytes_antisymmetric}
 use Rattle.mailmoves.specs.Order.{comes_before, is_behind}
-use Rattle.mailmoves.specs.Waits.{HasNone, OneEach, Turns, Waits}
+use Rattle.mailmoves.specs.Waits.{HasNone, OneEach, Waits}
 use Rattle.mailmoves.proofs.OrderLemmas.{before_is}
 
 -- ---- texts in their order
