@@ -716,8 +716,8 @@ def restore_keeps_the_old():
         ours = ours.replace(given, own)
     blocks = ["\n".join(line[4:] for line in block.split("\n")) for block in re.findall(r"(?:\n    .*)+", ours)]
     run = lambda text, shell="sh": subprocess.run([shell, "-e", "-c", text], env=host.env, capture_output=True)
-    copy, look, restore, drain = (lambda text=text: run(text) for text in blocks[:4])
-    lacking, = blocks[4:]
+    copied, looked, restored, lacking, started, drained = blocks
+    copy, look, restore, drain = (lambda text=text: run(text) for text in (copied, looked, restored, drained))
     deliver = lambda subject: host.deliver("--no-drain", "--to", "a@b", "alice", data=MAIL % subject)[0] == 0
     assert os.path.basename(host.file) == "mail.db" and deliver(b"one")
     assert copy().returncode == 0 and deliver(b"two")
@@ -737,7 +737,7 @@ def restore_keeps_the_old():
     with open(f"{host.room}/table", "w") as file:
         file.write("alice x\nbob x\ncarol x\n")
     done = run(lacking, "bash")
-    assert (done.returncode, done.stdout, done.stderr) == (0, b"carol\n", b""), done
+    assert (done.returncode, done.stdout, done.stderr) == (0, b"carol\n", b"") and run(started).returncode == 0, done
     return "a copy that is cut off changes nothing; a good one is the store, and the old one's mail is drained from where it stands"
 
 
