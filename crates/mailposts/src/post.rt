@@ -80,11 +80,7 @@ impl Post {
     pub fn owed_since(&self) -> Option<u64>
         ensures { result ≡ s.owed_since self.now }
     {
-        owed_by(
-            self.addressees.as_slice(),
-            self.wanted(),
-            self.tally.guest,
-        )
+        owed_by(self.addressees.as_slice(), self.wanted(), self.tally.guest)
     }
 
     /// Whether its client has said LHLO.

@@ -7,7 +7,6 @@ use Rattle.timeshares.specs.declared.share.Share.{Share}
 use Rattle.timeshares.proofs.FirstLemmas.{changes_at, changes_none, is_within}
 use Rattle.timeshares.proofs.share.Shares.raise.Goals as goal
 
-
 raised : (account : Account) (slot micros : ℕ) (xs after : List Share) (at : ℕ) → position (λ share. same share.account account) xs ≡ Some at
     → ((share : Share) → slice_get xs at ≡ Some share → after ≡ slice_set xs at (added slot micros share)) → after ≡ more_of account slot micros xs
 raised account slot micros [] after at is sets = let never : ◌≡◌ {A = Option ℕ} None (Some at) = is in cc
