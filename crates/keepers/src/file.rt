@@ -431,8 +431,11 @@ fn refused_for(cause: &'static str) -> Failure {
     }
 }
 
-/// What the system says of a file that it can't look at.
+/// What the system says of a file that it can't look at, or that memory is lacking for its name.
 fn file_failure(error: io::Error) -> Failure {
+    if error.kind() == ErrorKind::OutOfMemory {
+        return Failure::from(Refusal::Memory);
+    }
     Failure {
         denial: Unavailable::Refused(Refusal::Store),
         cause: of_file_of_store(error.kind()),
