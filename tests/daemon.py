@@ -339,7 +339,7 @@ def busy():
     times = sorted(timed(lambda: other.ask(b"NOOP")[-1]) for _ in range(trials.some(200)))
     over.set()
     end(server)
-    assert times[-1] < 0.6 and sum(checked) > 20, (times[-5:], checked)
+    assert times[-1] < 0.6 and sum(checked) >= 5, (times[-5:], checked)
     return f"{sum(checked)} checks of {len(text)} octets by 20 clients of one user: another's NOOP takes {times[-1] * 1000:.0f} ms at most"
 
 
