@@ -10,7 +10,7 @@ use Rattle.addrparts.specs.declared.draft.Draft.{Draft}
 use Rattle.addrparts.specs.declared.address.Addr.{Addr}
 use Rattle.addrparts.specs.Pieces.{unquoted}
 
--- how much of an addr-spec is read once this token is read too
+-- how much of an addr-spec has been read after this token
 abbrev pub stage_after : Stage → Kind → Stage
 stage_after S.Start K.Atom = S.Word
 stage_after S.Start K.Quoted = S.Word
@@ -30,15 +30,15 @@ value_of K.Quoted text = unquoted text
 value_of K.Dot text = 46 ∷ []
 value_of _ text = text
 
--- nothing read, at this place
+-- nothing has been read yet, at this place
 abbrev pub start_at : Place → Draft
 start_at place = record { place = place; stage = S.Start; local = []; domain = [] }
 
--- nothing read of a part
+-- nothing has been read yet of a part
 abbrev pub start : Draft
 start = start_at P.Front
 
--- the draft with this added at this stage
+-- the draft with this value added at this stage
 abbrev pub put : Stage → Draft → List ℕ → Draft
 put S.Word draft value = record draft { stage = S.Word; local = draft.local ++ value }
 put S.Dot draft value = record draft { stage = S.Dot; local = draft.local ++ value }

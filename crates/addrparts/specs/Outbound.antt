@@ -8,7 +8,7 @@ use Rattle.addrparts.specs.declared.address.Addr.{Addr}
 use Rattle.addrparts.specs.Pieces.{Piece, Cut, unquoted}
 use Rattle.addrparts.specs.Parts.{tokens, Each, IsSpec}
 
--- the octet is no control character
+-- the octet isn't a control character
 abbrev pub is_shown : ℕ → Bool
 is_shown octet = nat_le 32 octet && not (octet == 127)
 
@@ -21,7 +21,7 @@ abbrev pub is_no_comment : Kind → Bool
 is_no_comment K.Comment = false
 is_no_comment _ = true
 
--- the piece may stand in a display name
+-- the piece may be in a display name
 abbrev pub is_phrase : Kind → Bool
 is_phrase K.Blank = true
 is_phrase K.Atom = true
@@ -29,7 +29,7 @@ is_phrase K.Quoted = true
 is_phrase K.Dot = true
 is_phrase _ = false
 
--- a word is the first but for blanks
+-- apart from blanks, a word comes first
 abbrev pub BeginsWithWord : List Piece → Type 0
 BeginsWithWord [] = ⊥
 BeginsWithWord (piece ∷ more) = WordFirst piece.kind (BeginsWithWord more)
@@ -56,14 +56,14 @@ pub record IsPhrased (pieces : List Piece) (display_name : List ℕ) (address : 
   pub spec : IsSpec inside address
   pub shown : display_name ≡ unquoted (trimmed (flat_map (λ piece. piece.text) phrase))
 
--- an addr-spec without display name
+-- an addr-spec without a display name
 pub record IsBare (pieces : List Piece) (display_name : List ℕ) (address : Addr) : Type 0 where
   pub spec : IsSpec (tokens pieces) address
   pub shown : display_name ≡ []
 
 -- the text names this address with this display name: it is short, has no control characters and no comment, and is an addr-spec
--- alone or words and an addr-spec in angle brackets. The display name is the text before the bracket without blanks at its ends,
--- quotation marks taken off and quoted pairs replaced.
+-- alone or words and an addr-spec in angle brackets. The display name is the text before the bracket without the blanks at its ends,
+-- without quotation marks and with quoted pairs replaced.
 pub record IsOutbound (text : List ℕ) (display_name : List ℕ) (address : Addr) : Type 0 where
   pub fit : is_fit text ≡ true
   pub pieces : List Piece
@@ -71,7 +71,7 @@ pub record IsOutbound (text : List ℕ) (display_name : List ℕ) (address : Add
   pub no_comment : Each is_no_comment pieces
   pub shape : IsBare pieces display_name address ⊎ IsPhrased pieces display_name address
 
--- the text is this address and nothing beside it: short, without control characters and comments, and an addr-spec
+-- the text is this address and nothing else: short, without control characters and comments, and an addr-spec
 pub record IsBareAddress (text : List ℕ) (address : Addr) : Type 0 where
   pub fit : is_fit text ≡ true
   pub pieces : List Piece

@@ -22,7 +22,7 @@ is_separator K.Colon = true
 is_separator K.Semicolon = true
 is_separator _ = false
 
--- whether an angle bracket is open after a token, where it was or wasn't before
+-- whether an angle bracket is open after a token, if it was or wasn't before
 abbrev pub is_open : Bool → Kind → Bool
 is_open inside K.Less = true
 is_open inside K.Greater = false
@@ -33,7 +33,7 @@ abbrev pub is_open_after : Bool → List Piece → Bool
 is_open_after inside [] = inside
 is_open_after inside (token ∷ more) = is_open_after (is_open inside token.kind) more
 
--- no separator stands outside angle brackets
+-- there is no separator outside angle brackets
 abbrev pub IsUncut : Bool → List Piece → Type 0
 IsUncut inside [] = Unit {0}
 IsUncut inside (token ∷ more) = ((is_separator token.kind && not inside) ≡ false) × IsUncut (is_open inside token.kind) more
@@ -64,7 +64,7 @@ abbrev pub IsAtom : Kind → List ℕ → List ℕ → Type 0
 IsAtom K.Atom text value = value ≡ text
 IsAtom _ text value = ⊥
 
--- one or more of these with dots between, and their values with the dots
+-- one or more of these with dots between them, and their values with the dots
 abbrev pub Dotted : (Kind → List ℕ → List ℕ → Type 0) → List Piece → List ℕ → Type 0
 Dotted IsItem [] value = ⊥
 Dotted IsItem (item ∷ []) value = IsItem item.kind item.text value
@@ -72,14 +72,14 @@ Dotted IsItem (item ∷ (dot ∷ more)) value =
     (first : List ℕ) × (others : List ℕ) × (IsItem item.kind item.text first) × (dot.kind ≡ K.Dot)
     × (Dotted IsItem more others) × (value ≡ first ++ 46 ∷ others)
 
--- one domain literal, whose value is as it is written
+-- one domain literal, whose value is its text as written
 pub record IsLiteral (tokens : List Piece) (value : List ℕ) : Type 0 where
   pub literal : Piece
   pub alone : tokens ≡ literal ∷ []
   pub kind : literal.kind ≡ K.Literal
   pub text : value ≡ literal.text
 
--- words with dots between, `@`, and atoms with dots between or a domain literal (RFC 5322, 3.4.1 and 4.4)
+-- words with dots between them, `@`, and atoms with dots between them or a domain literal (RFC 5322, 3.4.1 and 4.4)
 pub record IsSpec (tokens : List Piece) (address : Addr) : Type 0 where
   pub local : List Piece
   pub at : Piece
@@ -95,7 +95,7 @@ is_plain K.Less = false
 is_plain K.Greater = false
 is_plain _ = true
 
--- the token may stand in a route
+-- the token may be in a route
 abbrev pub is_route : Kind → Bool
 is_route K.Colon = false
 is_route K.Greater = false

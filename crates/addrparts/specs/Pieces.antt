@@ -30,7 +30,7 @@ abbrev pub is_atom_kind : Kind → Bool
 is_atom_kind K.Atom = true
 is_atom_kind _ = false
 
--- the octet may stand in an atom
+-- the octet may be in an atom
 abbrev pub is_atom : ℕ → Bool
 is_atom octet = is_atom_kind (kind_of octet)
 
@@ -44,13 +44,13 @@ pub data Inner : Type 0 where
   Plain : ℕ → Inner
   Pair : ℕ → Inner
 
--- octets and pairs, written in front of a text
+-- octets and pairs, written before a text
 abbrev pub written : List Inner → List ℕ → List ℕ
 written [] after = after
 written (Plain octet ∷ more) after = octet ∷ written more after
 written (Pair octet ∷ more) after = 92 ∷ (octet ∷ written more after)
 
--- none of them alone is the closing octet or a backslash
+-- no octet that isn't escaped is the closing octet or a backslash
 abbrev pub IsInside : ℕ → List Inner → Type 0
 IsInside close [] = Unit {0}
 IsInside close (Plain octet ∷ more) = ((octet == close) ≡ false) × (((octet == 92) ≡ false) × IsInside close more)
@@ -62,7 +62,7 @@ pub record IsEnclosed (opening closing : ℕ) (text : List ℕ) : Type 0 where
   pub plain : IsInside closing inside
   pub spelled : text ≡ opening ∷ written inside (closing ∷ [])
 
--- what octets and pairs stand for: a pair for the octet after its backslash
+-- the value of octets and pairs: that of a pair is the octet after its backslash
 abbrev pub valued : List Inner → List ℕ
 valued [] = []
 valued (Plain octet ∷ more) = octet ∷ valued more
@@ -81,14 +81,14 @@ pub data Notes : Type 0 where
   Note : Inner → Notes → Notes
   Nested : Notes → Notes → Notes
 
--- the inside of a comment, written in front of a text
+-- the inside of a comment, written before a text
 abbrev pub noted : Notes → List ℕ → List ℕ
 noted End after = after
 noted (Note (Plain octet) more) after = octet ∷ noted more after
 noted (Note (Pair octet) more) after = 92 ∷ (octet ∷ noted more after)
 noted (Nested inner more) after = 40 ∷ noted inner (41 ∷ noted more after)
 
--- no octet alone is a parenthesis or a backslash
+-- no octet that isn't escaped is a parenthesis or a backslash
 abbrev pub AreNotes : Notes → Type 0
 AreNotes End = Unit {0}
 AreNotes (Note (Plain octet) more) = ((octet == 92) ≡ false) × (((octet == 40) ≡ false) × (((octet == 41) ≡ false) × AreNotes more))
@@ -114,7 +114,7 @@ pub record IsSingle (kind : Kind) (text : List ℕ) : Type 0 where
   pub alone : text ≡ octet ∷ []
   pub begins : kind_of octet ≡ kind
 
--- every octet stands in an atom
+-- every octet may be in an atom
 abbrev pub AreAtoms : List ℕ → Type 0
 AreAtoms [] = Unit {0}
 AreAtoms (octet ∷ more) = (is_atom octet ≡ true) × AreAtoms more
@@ -124,7 +124,7 @@ abbrev pub IsNoAtom : List ℕ → Type 0
 IsNoAtom [] = Unit {0}
 IsNoAtom (octet ∷ _) = is_atom octet ≡ false
 
--- begins as a quoted string, a literal or a comment does, and no front of it is one
+-- it begins as a quoted string, a literal or a comment does, and no prefix of it is one
 pub record IsUnclosed (text : List ℕ) : Type 0 where
   pub octet : ℕ
   pub more : List ℕ
@@ -132,7 +132,7 @@ pub record IsUnclosed (text : List ℕ) : Type 0 where
   pub opens : (kind_of octet ≡ K.Quoted) ⊎ ((kind_of octet ≡ K.Literal) ⊎ (kind_of octet ≡ K.Comment))
   pub never : (front back : List ℕ) → text ≡ front ++ back → IsClosed (kind_of octet) front → ⊥
 
--- the texts of the pieces of each kind, where this text follows: an atom is as long as it can be, and what isn't closed is bad
+-- the texts of the pieces of each kind, if this text follows: an atom is as long as it can be, and what isn't closed is bad
 -- up to the value's end
 abbrev pub IsShape : Kind → List ℕ → List ℕ → Type 0
 IsShape K.Atom text after = (text ≢ []) × (AreAtoms text × IsNoAtom after)
@@ -147,7 +147,7 @@ abbrev pub Cut : List ℕ → List Piece → Type 0
 Cut value [] = value ≡ []
 Cut value (piece ∷ more) = (after : List ℕ) × ((value ≡ piece.text ++ after) × (IsShape piece.kind piece.text after × Cut after more))
 
--- the text without its quotation marks, each quoted pair replaced by its octet; whether a backslash stands before the text
+-- the text without its quotation marks, each quoted pair replaced by its octet; whether a backslash precedes the text
 abbrev pub unquoted_from : Bool → List ℕ → List ℕ
 unquoted_from escaped [] = []
 unquoted_from true (octet ∷ more) = octet ∷ unquoted_from false more

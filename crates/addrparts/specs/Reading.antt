@@ -13,7 +13,7 @@ use Rattle.addrparts.specs.Parts.{is_separator}
 use Rattle.addrparts.specs.Outbound.{is_fit}
 use Rattle.addrparts.specs.Drafts.{start_at, start, taken, is_outside, outcome, given}
 
--- what stands after the first closing octet that no backslash escapes; whether a backslash stands before the text
+-- what follows the first closing octet that no backslash escapes; whether a backslash precedes the text
 abbrev pub after_close : ℕ → Bool → List ℕ → Option (List ℕ)
 after_close close escaped [] = None
 after_close close true (octet ∷ more) = after_close close false more
@@ -22,7 +22,7 @@ after_close close false (octet ∷ more) =
     else (if octet == 92 then after_close close true more
     else after_close close false more)
 
--- what stands after the end of a comment, with that many comments open in it
+-- what follows the end of a comment, with that many comments open in it
 abbrev pub after_comment : ℕ → Bool → List ℕ → Option (List ℕ)
 after_comment depth escaped [] = None
 after_comment depth true (octet ∷ more) = after_comment depth false more
@@ -37,16 +37,16 @@ after_comment (suc depth) false (octet ∷ more) =
     else (if octet == 41 then after_comment depth false more
     else after_comment (suc depth) false more))
 
--- how many octets stand before the rest
+-- how many octets precede the rest
 abbrev pub len_before : List ℕ → Option (List ℕ) → Option ℕ
 len_before text rest = option_map (λ found. length text - length found) rest
 
--- the kind and the length of a piece that is closed after that many octets, or is bad up to the end
+-- the kind and the length of a piece that is closed after that many more octets, or is bad up to the end
 abbrev pub closed : Kind → List ℕ → Option ℕ → Kind × ℕ
 closed kind others (Some len) = (kind, 1 + len)
 closed kind others None = (K.Bad, 1 + length others)
 
--- the kind of the first piece, and its length, where these octets follow its first
+-- the kind of the first piece, and its length, if these octets follow its first one
 abbrev pub front_of : Kind → List ℕ → Kind × ℕ
 front_of K.Atom others = (K.Atom, 1 + prefix_len is_atom others)
 front_of K.Quoted others = closed K.Quoted others (len_before others (after_close 34 false others))
@@ -69,7 +69,7 @@ pieces_within (suc more) (octet ∷ others) =
 unfoldable pub pieces : List ℕ → List Piece
 pieces text = pieces_within (length text) text
 
--- a piece stands first in a text, and this text follows
+-- a piece is the first in a text, and this text follows
 pub record IsNext (text : List ℕ) (kind : Kind) (first : List ℕ) (rest : List ℕ) : Type 0 where
   pub shorter : length rest < length text
   pub cut : text ≡ first ++ rest
@@ -87,7 +87,7 @@ collected draft (piece ∷ more) =
 unfoldable pub addrs : List ℕ → List Addr
 addrs value = collected start (pieces value)
 
--- the address of a part without comment that opens no bracket any more
+-- the address of a part without comments that opens no further bracket
 abbrev pub addr_spec_only : Draft → List Piece → Option Addr
 addr_spec_only draft [] = outcome draft
 addr_spec_only draft (piece ∷ more) = addr_spec_at piece.kind (addr_spec_only (taken draft piece.kind piece.text) more)
@@ -97,7 +97,7 @@ addr_spec_only draft (piece ∷ more) = addr_spec_at piece.kind (addr_spec_only 
     addr_spec_at K.Less _ = None
     addr_spec_at _ others = others
 
--- how many octets stand before the bracket after the words of a display name, and the pieces after it; whether a word was seen
+-- how many octets precede the bracket after the words of a display name, and the pieces after it; whether a word was seen
 abbrev pub opening : Bool → ℕ → List Piece → Option (ℕ × List Piece)
 opening seen at [] = None
 opening seen at (piece ∷ more) = opening_at piece.kind seen (at, more) (opening seen (at + length piece.text) more) (opening true (at + length piece.text) more)

@@ -3,23 +3,23 @@ use Rattle.std.specs.Prelude.{◌≡◌, ◌≢◌, ℕ, ◌==◌, ◌||◌, ◌
 use Rattle.addrparts.specs.declared.address.Addr.{Addr}
 use Rattle.addrparts.specs.Pieces.{is_atom, AreAtoms, IsEnclosed}
 
--- an atom: one or more octets that may stand in one (RFC 5322, 3.2.3)
+-- an atom: one or more octets that may be in one (RFC 5322, 3.2.3)
 pub record IsAtomText (text : List ℕ) : Type 0 where
   pub present : text ≢ []
   pub octets : AreAtoms text
 
--- one or more atoms with dots between
+-- one or more atoms with dots between them
 abbrev pub AreDotted : List (List ℕ) → List ℕ → Type 0
 AreDotted [] text = ⊥
 AreDotted (atom ∷ []) text = IsAtomText atom × (text ≡ atom)
 AreDotted (atom ∷ (next ∷ more)) text = (rest : List ℕ) × (IsAtomText atom × ((text ≡ atom ++ 46 ∷ rest) × AreDotted (next ∷ more) rest))
 
--- a text that is atoms with dots between (RFC 5322, 3.2.3: dot-atom-text)
+-- a text that is atoms with dots between them (RFC 5322, 3.2.3: dot-atom-text)
 pub record IsDotAtom (text : List ℕ) : Type 0 where
   pub atoms : List (List ℕ)
   pub dotted : AreDotted atoms text
 
--- atom octets with single dots between; whether an atom octet is due
+-- atom octets with single dots between them; whether an atom octet is due
 abbrev pub is_dotted : Bool → List ℕ → Bool
 is_dotted due [] = not due
 is_dotted due (octet ∷ more) =
@@ -35,11 +35,11 @@ abbrev pub escaped : List ℕ → List ℕ
 escaped [] = []
 escaped (octet ∷ more) = if octet == 34 || octet == 92 then 92 ∷ (octet ∷ escaped more) else octet ∷ escaped more
 
--- between quotation marks
+-- in quotation marks
 abbrev pub quoted : List ℕ → List ℕ
 quoted text = 34 ∷ (escaped text ++ 34 ∷ [])
 
--- the local part as it is if it is atoms with dots between, else as a quoted string
+-- the local part as it is if it is atoms with dots between them, otherwise as a quoted string
 abbrev pub local_spelling : List ℕ → List ℕ
 local_spelling local = if is_dot_atom local then local else quoted local
 
@@ -51,6 +51,6 @@ spelling address = local_spelling address.local ++ 64 ∷ address.domain
 abbrev pub all_of : Addr → List ℕ
 all_of address = address.local ++ 64 ∷ address.domain
 
--- atoms with dots between, or a domain literal (RFC 5322, 3.4.1)
+-- atoms with dots between them, or a domain literal (RFC 5322, 3.4.1)
 abbrev pub IsDomain : List ℕ → Type 0
 IsDomain domain = (is_dot_atom domain ≡ true) ⊎ IsEnclosed 91 93 domain

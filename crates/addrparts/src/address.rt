@@ -9,8 +9,8 @@ use std::alloc::{AllocError, Global};
 
 /// A mail address (RFC 5322, 3.4.1).
 ///
-/// The local part has the values of its words with the dots between them: no quotation marks, and no backslashes that
-/// quote. The domain has its atoms with the dots between them, or a domain literal as it was written.
+/// The local part consists of the values of its words with the dots between them: without quotation marks, and without the
+/// backslashes of quoted pairs. The domain consists of its atoms with the dots between them, or is a domain literal as it was written.
 #[derive(Debug, Drop, PartialEq, Eq)]
 pub struct Addr {
     pub local: Octets,
@@ -18,7 +18,7 @@ pub struct Addr {
 }
 
 impl Addr {
-    /// The local part, `@` and the domain, with nothing quoted. One copy.
+    /// Returns the local part, `@` and the domain, with nothing quoted. One copy.
     pub fn all(&self, alloc: Global) -> Result<Octets, AllocError>
         ensures { IfOk result (λ text. text ≡ spec.all_of self.now) }
     {
@@ -33,7 +33,7 @@ impl Addr {
     }
 }
 
-/// Atoms with dots between (RFC 5322, 3.2.3: dot-atom-text).
+/// Whether a text is atoms with dots between them (RFC 5322, 3.2.3: dot-atom-text).
 fn is_dot_atom(text: &[u8]) -> bool
     ensures { result ≡ spec.is_dot_atom text.now }
 {
@@ -53,7 +53,7 @@ fn is_dot_atom(text: &[u8]) -> bool
     !due
 }
 
-/// Appends the text between quotation marks, with a backslash before each quotation mark and backslash (RFC 5322, 3.2.4).
+/// Appends the text in quotation marks, with a backslash before each quotation mark and backslash (RFC 5322, 3.2.4).
 ///
 /// Linear in the text; lack of memory is the only error.
 pub fn quote(out: &mut Octets, text: &[u8]) -> Result<(), AllocError>
@@ -76,10 +76,11 @@ fn escape(out: &mut Octets, text: &[u8]) -> Result<(), AllocError>
     Ok(())
 }
 
-/// The address as a header or a command has it: the local part as it is if it is atoms with dots between, else as a quoted string.
+/// Writes the address as a header or a command has it: the local part as it is if it is atoms with dots between them, otherwise as a
+/// quoted string.
 ///
-/// `sieve_address` gives the address back, with an empty display name, and so does `bare_address`, exactly where the domain is one and
-/// what is written fits the limits. Linear in the address' length; memory for what is written alone.
+/// `sieve_address` reads it back, with an empty display name, and so does `bare_address`, exactly if the domain is valid and what is
+/// written is within the limits. Linear in the address' length; takes memory only for the result.
 pub fn spell(alloc: Global, address: &Addr) -> Result<Octets, AllocError>
     ensures spelled { IfOk result (λ text. text ≡ spec.spelling address.now) }
     ensures again { IfOk result (λ text. outbound.IsOutbound text [] address.now

@@ -7,7 +7,7 @@ use crate::pieces::Pieces;
 use crate::scanner::Kind;
 use std::alloc::{AllocError, Global};
 
-/// Where in its part the next token stands.
+/// Where in its part the next token is.
 #[derive(Clone, Copy)]
 pub enum Place {
     /// Before any angle bracket: in a display name, or in an address without brackets.
@@ -18,7 +18,7 @@ pub enum Place {
     Route,
     /// In brackets, after the route if there is one.
     Inside,
-    /// After a closing bracket, where nothing more may stand.
+    /// After a closing bracket, where nothing more may follow.
     After,
 }
 
@@ -38,7 +38,7 @@ pub enum Stage {
     NameDot,
     /// After a domain literal.
     Literal,
-    /// What was read begins no addr-spec.
+    /// What was read isn't the beginning of an addr-spec.
     Wrong,
 }
 
@@ -81,7 +81,7 @@ fn stage_after(stage: Stage, kind: Kind) -> Stage
     }
 }
 
-/// Appends what a word, a dot or a domain literal stands for.
+/// Appends the value of a word, a dot or a domain literal.
 fn append<'a>(
     alloc: Global,
     out: &mut Pieces<'a>,
@@ -102,7 +102,7 @@ impl<'a> Draft<'a> {
     ghost use Rattle.addrparts.specs.declared.draft.Place.TheVariants as P;
     ghost use Rattle.addrparts.specs.declared.draft.Stage.TheVariants as S;
 
-    /// Nothing read. Takes no memory.
+    /// Nothing has been read yet. Takes no memory.
     pub(crate) fn new(alloc: Global, place: Place) -> Draft<'a>
         ensures { result ≡ drafts.start_at place }
     {
@@ -114,7 +114,7 @@ impl<'a> Draft<'a> {
         }
     }
 
-    /// No angle bracket is open.
+    /// Whether no angle bracket is open.
     pub(crate) fn is_outside(&self) -> bool
         ensures { result ≡ drafts.is_outside self.now.place }
     {
@@ -199,7 +199,7 @@ impl<'a> Draft<'a> {
         Ok(())
     }
 
-    /// No address can come of this part any more.
+    /// Notes that this part can't give an address any more.
     fn reject(&mut self, place: Place)
         ensures { self.new ≡ record self.old { place = place; stage = S.Wrong } }
     {
@@ -207,9 +207,9 @@ impl<'a> Draft<'a> {
         self.stage = Stage::Wrong;
     }
 
-    /// Reads a token that doesn't end the part. A blank or a comment changes nothing.
+    /// Reads a token that doesn't end the part. Blanks and comments change nothing.
     ///
-    /// `from` is the value from the token on. It spares copies; what is read doesn't depend on it.
+    /// `from` is the value from the token on. It saves copies; the result doesn't depend on it.
     pub(crate) fn take(
         &mut self,
         alloc: Global,
@@ -225,7 +225,7 @@ impl<'a> Draft<'a> {
         }
     }
 
-    /// An addr-spec has been read to its end.
+    /// Whether an addr-spec has been read to its end.
     fn is_whole(&self) -> bool
         ensures { result ≡ drafts.is_whole self.now }
     {
@@ -256,7 +256,7 @@ impl<'a> Draft<'a> {
         self.place = Place::Front;
     }
 
-    /// The address that the part gives, if it ends here. The next part begins.
+    /// Returns the address that the part gives if it ends here, and begins the next part.
     pub(crate) fn finish(&mut self, alloc: Global) -> Result<Option<Addr>, AllocError>
         ensures found { IfOk result (λ found. found ≡ drafts.outcome self.old) }
         ensures anew { OnOk result (self.new ≡ drafts.start) }

@@ -31,7 +31,7 @@ fn push_some(found: &mut Vec<Addr>, address: Option<Addr>) -> Result<(), AllocEr
     Ok(())
 }
 
-/// Ends the part at this mark; before a colon it gives none.
+/// Ends the part at this mark and adds its address, if it gives one; a part before a colon gives none.
 fn end_part(
     alloc: Global,
     draft: &mut Draft<'_>,
@@ -49,10 +49,10 @@ fn end_part(
     push_some(found, address)
 }
 
-/// The addresses of a header value, in order (RFC 5322, 3.4). The value is unfolded, and isn't decoded.
+/// Returns the addresses of a header value, in order (RFC 5322, 3.4). The value has been unfolded, and isn't decoded.
 ///
-/// A part that is no address gives none. Any octets may stand in the value. One pass, linear in the value's length; memory
-/// for the addresses, and for the local part and the domain of one address whose pieces stand apart or are quoted.
+/// A part that isn't an address gives none. The value may have any octets. One pass, linear in the value's length; memory
+/// for the addresses, and for the local part and the domain of one address whose pieces are apart or are quoted.
 pub fn addresses(alloc: Global, value: &[u8]) -> Result<Vec<Addr>, AllocError>
     ensures found { IfOk result (λ found. spec.AreAddresses value.now found.items) }
     ensures only { IfOk result (λ found. (others : List Addr) → spec.AreAddresses value.now others → others ≡ found.items) }

@@ -14,10 +14,10 @@ use crate::scanner::{Kind, next_token};
 use octets::{Octets, trim_blanks};
 use std::alloc::{AllocError, Global};
 
-/// The octets that an address which is sent to may have at most, with its display name.
+/// The most octets of an address to which mail is sent, with its display name.
 pub const MAX_LEN: usize = 512;
 
-/// No control character.
+/// Whether the octet isn't a control character.
 fn is_shown(octet: u8) -> bool
     ensures { result ≡ spec.is_shown octet }
 {
@@ -30,14 +30,14 @@ fn all_shown(text: &[u8]) -> bool
     text.iter().all(|octet| is_shown(*octet))
 }
 
-/// Short enough, and without control characters.
+/// Whether the text is short enough and has no control characters.
 fn is_fit(text: &[u8]) -> bool
     ensures { result ≡ spec.is_fit text.now }
 {
     text.len() <= MAX_LEN && all_shown(text)
 }
 
-/// The place of the `<` after a display name, which is one or more words with dots after the first, and what follows it.
+/// The place of the `<` after a display name, which is one or more words, perhaps with dots after the first, and what follows it.
 fn opening(text: &[u8]) -> Option<(usize, &[u8])>
     ensures is { let opens = reading.opening false 0 (reading.pieces text.now) in
         MatchOption result (opens ≡ None) (λ r. opens ≡ Some (r.0, reading.pieces r.1.now)) }
@@ -60,7 +60,7 @@ fn opening(text: &[u8]) -> Option<(usize, &[u8])>
     None
 }
 
-/// The addr-spec that the text is, or that stands before a `>` at its end.
+/// The addr-spec that the text is, or that precedes a `>` at its end.
 fn addr_spec_only(alloc: Global, place: Place, text: &[u8]) -> Result<Option<Addr>, AllocError>
     ensures { IfOk result (λ found. found ≡ reading.addr_spec_only (drafts.start_at place) (reading.pieces text.now)) }
 {
@@ -92,12 +92,12 @@ fn read_fit(alloc: Global, text: &[u8]) -> Result<Option<(Octets, Addr)>, AllocE
     Ok(found.map(|address| (display_name, address)))
 }
 
-/// The display name and the address of a text that is an addr-spec, or words and an addr-spec in angle brackets (RFC 5228, 2.4.2.3).
-/// The display name is empty where there are no words; it is without the marks around quoted strings, and without the backslashes
-/// of quoted pairs.
+/// Returns the display name and the address of a text that is an addr-spec, or words and an addr-spec in angle brackets (RFC 5228,
+/// 2.4.2.3). The display name is empty if there are no words; it is without the quotation marks of quoted strings, and without the
+/// backslashes of quoted pairs.
 ///
-/// None for any other text: one with a comment, a route, a control character, more than 512 octets, or more than one
-/// address. Linear in the text's length; memory for the display name and the address alone.
+/// `None` for any other text: one with a comment, a route, a control character, more than 512 octets, or more than one
+/// address. Linear in the text's length; takes memory only for the display name and the address.
 pub fn sieve_address(alloc: Global, text: &[u8]) -> Result<Option<(Octets, Addr)>, AllocError>
     ensures unfit { spec.is_fit text.now ≡ false → result ≡ Ok None }
     ensures found { IfOk result (λ found. IfSome found (λ r. spec.IsOutbound text.now r.0 r.1)) }
@@ -113,11 +113,11 @@ pub fn sieve_address(alloc: Global, text: &[u8]) -> Result<Option<(Octets, Addr)
     }
 }
 
-/// The address of a text that is an addr-spec alone, without display name and angle brackets (RFC 5322, 3.4.1): `a@b`, and not
-/// `<a@b>` or `"" <a@b>`.
+/// Returns the address of a text that is only an addr-spec, without display name and angle brackets (RFC 5322, 3.4.1): `a@b`, and
+/// not `<a@b>` or `"" <a@b>`.
 ///
-/// None for any other text, and for one that `sieve_address` refuses. Linear in the text's length; memory for the address
-/// alone.
+/// `None` for any other text, and for one that `sieve_address` refuses. Linear in the text's length; takes memory only for the
+/// address.
 pub fn bare_address(alloc: Global, text: &[u8]) -> Result<Option<Addr>, AllocError>
     ensures unfit { spec.is_fit text.now ≡ false → result ≡ Ok None }
     ensures found { IfOk result (λ found. IfSome found (λ address. spec.IsBareAddress text.now address)) }

@@ -1,4 +1,4 @@
-//! Octets that are put together from pieces of a value.
+//! Octets that are assembled from pieces of a value.
 ghost use Rattle.std.specs.Prelude.{◌≡◌, ◌+◌, ◌≤◌, [], ◌++◌, length, take, IsTrue, IfOk, OnOk};
 ghost use Rattle.addrparts.specs.Pieces as spec;
 
@@ -7,15 +7,15 @@ use std::alloc::{AllocError, Global};
 use std::marker::Model;
 use std::mem;
 
-/// Octets that are put together from pieces of a value. Contracts see the octets.
+/// Octets that are assembled from pieces of a value. Contracts see the octets.
 ///
-/// They are a run of the value as long as the pieces stand in it one after the other, and a copy from then on. The room
-/// of the copy is kept when the octets are cleared.
+/// They are a range of the value as long as the pieces follow each other in it, and a copy from then on. The copy's
+/// capacity is kept when the octets are cleared.
 #[derive(Drop)]
 pub struct Pieces<'a> {
     /// The value from the first piece on.
     from: &'a [u8],
-    /// How many octets the run has.
+    /// The number of octets of the range.
     len: usize,
     copy: Octets,
     is_copied: bool,
@@ -47,7 +47,7 @@ pub(crate) fn unquote(out: &mut Octets, text: &[u8]) -> Result<(), AllocError>
     Ok(())
 }
 
-/// Replaces what is there by this text, in the same room.
+/// Replaces the octets by this text, within the same capacity.
 fn replace(alloc: Global, out: &mut Octets, text: &[u8]) -> Result<(), AllocError>
     ensures { OnOk result (out.new ≡ text.now) }
 {
@@ -57,7 +57,7 @@ fn replace(alloc: Global, out: &mut Octets, text: &[u8]) -> Result<(), AllocErro
     out.extend_from_slice(text)
 }
 
-/// The piece stands right after a run of that many octets.
+/// Whether the piece is right after the first `len` octets of `from`.
 fn goes_on(from: &[u8], len: usize, piece: &[u8]) -> bool
     requires { len ≤ length from.now }
     ensures within { IsTrue result → len + length piece.now ≤ length from.now }
@@ -80,7 +80,7 @@ impl<'a> Pieces<'a> {
         }
     }
 
-    /// Takes all octets away. The room stays.
+    /// Removes all octets. The capacity stays.
     pub(crate) fn clear(&mut self)
         ensures { self.new ≡ [] }
     {
@@ -88,7 +88,7 @@ impl<'a> Pieces<'a> {
         self.is_copied = false;
     }
 
-    /// Appends a piece. No octet is copied while the value, from where the piece is said to stand, goes on as the pieces do.
+    /// Appends a piece. No octet is copied as long as the value, from where the piece is said to be, goes on as the pieces do.
     pub(crate) fn add(
         &mut self,
         alloc: Global,
@@ -125,7 +125,7 @@ impl<'a> Pieces<'a> {
         unquote(&mut self.copy, text)
     }
 
-    /// A copy of the octets, at their exact size.
+    /// Copies the octets, with their exact capacity.
     pub(crate) fn try_clone(&self, alloc: Global) -> Result<Octets, AllocError>
         ensures { IfOk result (λ text. text ≡ self.now) }
     {

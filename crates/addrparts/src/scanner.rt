@@ -1,4 +1,4 @@
-//! The pieces of a value, from the front.
+//! The pieces of a value, from the beginning.
 ghost use Rattle.std.specs.Prelude.{◌≡◌, ℕ, false, ◌+◌, ◌<◌, ◌≤◌, [], length, MatchOption, IfSome};
 ghost use Rattle.std.specs.List.{prefix_len};
 ghost use Rattle.addrparts.specs.Pieces as spec;
@@ -7,13 +7,13 @@ ghost use Rattle.addrparts.specs.Reading as reading;
 /// What a piece of a value is.
 #[derive(Clone, Copy)]
 pub enum Kind {
-    /// Octets of no other kind, as many as stand together.
+    /// Octets of no other kind, as many as follow each other.
     Atom,
     /// A quoted string with its quotation marks.
     Quoted,
     /// A domain literal with its brackets.
     Literal,
-    /// A comment with its parentheses, and with those in it.
+    /// A comment with its parentheses, and with the comments in it.
     Comment,
     /// SP or TAB.
     Blank,
@@ -31,7 +31,7 @@ pub enum Kind {
     Semicolon,
     /// `.`
     Dot,
-    /// An octet that has no place, or a quoted string, a comment or a literal that isn't closed.
+    /// An octet that may not be there, or a quoted string, a comment or a literal that isn't closed.
     Bad,
 }
 
@@ -64,7 +64,7 @@ fn kind_of(octet: u8) -> Kind
     }
 }
 
-/// Each octet of an atom stands at its own place, and a comma at every other place.
+/// Each octet that may be in an atom is at its own index, and a comma is at every other index.
 static ATOM_OCTETS: [u8; 256] = *b"\
     ,,,,,,,,,,,,,,,,,,,,,,,,,,,,,,,,\
     ,!,#$%&',,*+,-,/0123456789,,,=,?\
@@ -79,7 +79,7 @@ static ATOM_OCTETS: [u8; 256] = *b"\
     \xe0\xe1\xe2\xe3\xe4\xe5\xe6\xe7\xe8\xe9\xea\xeb\xec\xed\xee\xef\
     \xf0\xf1\xf2\xf3\xf4\xf5\xf6\xf7\xf8\xf9\xfa\xfb\xfc\xfd\xfe\xff";
 
-/// The octet may stand in an atom. One look into a table.
+/// Whether the octet may be in an atom. One look into a table.
 #[inline(always)]
 pub(crate) fn is_atom(octet: u8) -> bool
     ensures { result ≡ spec.is_atom octet }
@@ -87,7 +87,7 @@ pub(crate) fn is_atom(octet: u8) -> bool
     ATOM_OCTETS[octet as usize] != b','
 }
 
-/// How many octets it takes to come past the closing octet; a backslash takes the next octet with it.
+/// How many octets there are up to and including the closing octet; a backslash escapes the next octet.
 fn enclosed_len(inside: &[u8], close: u8) -> Option<usize>
     ensures { result ≡ reading.len_before inside.now (reading.after_close close false inside.now) }
 {
@@ -104,7 +104,7 @@ fn enclosed_len(inside: &[u8], close: u8) -> Option<usize>
     None
 }
 
-/// How many octets it takes to come past the end of the comment whose inside this is.
+/// How many octets there are up to and including the closing parenthesis of the comment whose inside this is.
 fn comment_len(inside: &[u8]) -> Option<usize>
     ensures { result ≡ reading.len_before inside.now (reading.after_comment 0 false inside.now) }
 {
@@ -135,7 +135,7 @@ fn atom_len(text: &[u8]) -> usize
     text.iter().take_while(|octet| is_atom(**octet)).count()
 }
 
-/// A piece that is closed after that many octets more, or is bad up to the end.
+/// A piece that is closed after that many more octets, or is bad up to the end.
 fn closed(kind: Kind, others: &[u8], len: Option<usize>) -> (Kind, usize)
     requires { IfSome len (λ n. n ≤ length others.now) }
     ensures { result ≡ reading.closed kind others.now len }

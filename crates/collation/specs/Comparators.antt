@@ -5,10 +5,10 @@ use Rattle.std.specs.Prelude.{◌≡◌, ℕ, ◌+◌, ◌<◌, List, ◌++◌, 
 abbrev pub EqualBy : (ℕ → ℕ) → List ℕ → List ℕ → Type 0
 EqualBy image key value = map image key ≡ map image value
 
--- there are texts to put before and after the key, so that all three have the value's images
+-- with some texts before and after it the key has the value's images
 abbrev pub ContainsBy : (ℕ → ℕ) → List ℕ → List ℕ → Type 0
 ContainsBy image key value = (before : List ℕ) × ((after : List ℕ) × (map image value ≡ map image (before ++ key ++ after)))
 
--- the images of a number of octets from a place on are the same in the key and the value
+-- the images of that many octets, from a place on, are the same in the key and the value
 abbrev pub SameFrom : (ℕ → ℕ) → List ℕ → List ℕ → ℕ → ℕ → Type 0
 SameFrom image key value from count = (k : ℕ) → k < count → image (slice_index key (from + k)) ≡ image (slice_index value (from + k))

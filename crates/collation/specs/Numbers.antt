@@ -4,7 +4,7 @@ use Rattle.std.specs.List.{AllPass}
 use Rattle.octets.specs.Ascii.{is_digit}
 use Rattle.octets.specs.Decimal.{number_of, Writes}
 
--- no digit stands first
+-- the text doesn't begin with a digit
 abbrev pub HasNoDigit : List ℕ → Type 0
 HasNoDigit [] = Unit {0}
 HasNoDigit (octet ∷ rest) = is_digit octet ≡ false
@@ -36,16 +36,16 @@ pub record IsBelow (text other : List ℕ) : Type 0 where
   pub other_is : StandsFor other two
   pub less : IsLessNumber one two
 
--- two texts stand for the same
+-- two texts stand for the same number, or both for infinity
 abbrev pub EqualNumbers : List ℕ → List ℕ → Type 0
 EqualNumbers text other = (both : Option ℕ) × StandsFor text both × StandsFor other both
 
--- the digits at the front of a text
+-- the digits at the beginning of a text
 abbrev pub digits_of : List ℕ → List ℕ
 digits_of [] = []
 digits_of (octet ∷ rest) = cond (is_digit octet) (octet ∷ digits_of rest) []
 
--- the number that digits write, if there are some
+-- the number that digits write, if there are any
 abbrev pub number_in : List ℕ → Option ℕ
 number_in [] = None
 number_in (digit ∷ more) = Some (number_of (digit ∷ more))
@@ -54,12 +54,12 @@ number_in (digit ∷ more) = Some (number_of (digit ∷ more))
 abbrev pub number_at : List ℕ → Option ℕ
 number_at text = number_in (digits_of text)
 
--- no zero stands first
+-- the first digit isn't zero
 abbrev pub HasNoZero : List ℕ → Type 0
 HasNoZero [] = Unit {0}
 HasNoZero (digit ∷ more) = 48 < digit
 
--- digits with no zero first
+-- digits without leading zeros
 pub record ArePlainDigits (digits : List ℕ) : Type 0 where
   pub all : AllPass is_digit digits
   pub first : HasNoZero digits

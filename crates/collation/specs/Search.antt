@@ -1,4 +1,4 @@
--- What the search for a key by Two-Way keeps of the key, and where the key stands in a value.
+-- What the search for a key by Two-Way keeps of the key, and where the key is in a value.
 use Rattle.std.specs.Prelude.{◌≡◌, ◌≢◌, ◌==◌, ℕ, Bool, ◌+◌, ◌<◌, ◌≤◌, List, Option, length, slice_index}
 use Rattle.memchr.specs.Critical.{IsCritical, NoPeriodBelow}
 use Rattle.memchr.specs.Find.{IsFirst}
@@ -7,7 +7,7 @@ use Rattle.collation.specs.declared.twoway.Order.{Order}
 use Rattle.collation.specs.declared.twoway.Order.TheVariants.{Rising, Falling}
 use Rattle.collation.specs.declared.twoway.Cut.{Cut}
 
--- the image of the octet of an index
+-- the image of the octet at an index
 abbrev pub image_at : (ℕ → ℕ) → (ℕ → ℕ) → ℕ → ℕ
 image_at image octet_at k = image (octet_at k)
 
@@ -15,7 +15,7 @@ image_at image octet_at k = image (octet_at k)
 abbrev pub image_in : (ℕ → ℕ) → List ℕ → ℕ → ℕ
 image_in image text k = image (slice_index text k)
 
--- the octet at a place has an image
+-- the octet at a place has this image
 abbrev pub HasImage : (ℕ → ℕ) → ℕ → List ℕ → ℕ → Type 0
 HasImage image wanted text k = image_in image text k ≡ wanted
 
@@ -29,11 +29,11 @@ pub record GoesPast (image : ℕ → ℕ) (text : List ℕ) (from end wanted pla
   pub high : place ≤ end
   pub passed : (k : ℕ) → from ≤ k → k < place → image_in image text k ≢ wanted
 
--- the images of the key's octets, of which there are m, stand in those of the value from a place on
+-- the images of the key's m octets are those of the value's octets from a place on
 abbrev pub StandsAt : (ℕ → ℕ) → (ℕ → ℕ) → ℕ → List ℕ → ℕ → Type 0
 StandsAt image octet_at m value place = OccursIn (image_at image octet_at) m (image_in image value) (length value) place
 
--- r is the first place from `from` on where the key's images stand, or there is none
+-- r is the first place from `from` on at which the key's images are, or there is none
 abbrev pub FindsKey : (ℕ → ℕ) → (ℕ → ℕ) → ℕ → List ℕ → ℕ → Option ℕ → Type 0
 FindsKey image octet_at m value from r = IsFirst (StandsAt image octet_at m value) from (length value + 1) r
 
@@ -42,7 +42,7 @@ unfoldable pub Precedes : Order → ℕ → ℕ → Type 0
 Precedes Rising a b = a < b
 Precedes Falling a b = b < a
 
--- a key of m octets is cut at a critical place, has no period below the shift, and what is kept repeats after the shift
+-- a key of m octets is cut at a critical position, has no period below the shift, and what is kept is repeated after the shift
 pub record IsCut (x : ℕ → ℕ) (m : ℕ) (cut : Cut) : Type 0 where
   pub below : cut.critical.index < m
   pub critical : IsCritical x m cut.critical.index

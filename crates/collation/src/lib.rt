@@ -1,4 +1,4 @@
-//! Comparators (RFC 4790): whether two texts are the same, whether one holds the other, and which comes first, by the
+//! Comparators (RFC 4790): whether two texts are the same, whether one contains the other, and which comes first, by the
 //! images of their octets or by numbers. Nothing here takes memory.
 #![tactic(auto)]
 
@@ -22,7 +22,7 @@ pub use places::{contains_places, places_of};
 pub use spelling::{Key, Plain, Spot};
 pub use twoway::find;
 
-/// A comparator (RFC 4790, section 4): octets are the same where their images are.
+/// A comparator (RFC 4790, section 4): octets are the same if their images are.
 pub trait Comparator {
     // The image of an octet.
     ghost image_of: { ℕ → ℕ };
@@ -31,7 +31,7 @@ pub trait Comparator {
     fn image(octet: u8) -> u8
         ensures { result ≡ image_of octet };
 
-    /// The other octet with the image of `octet`; the same one where there is no other.
+    /// The other octet with the image of `octet`; if there is no other, `octet` itself.
     fn other(octet: u8) -> u8
         ensures { (b : ℕ) → b < 2 ^ 8 → (image_of octet ≡ image_of b) ↔ ((b ≡ octet) ⊎ (b ≡ result)) };
 
@@ -83,7 +83,7 @@ impl Comparator for AsciiCasemap {
     }
 }
 
-// How many octets `is` compares at a time: a run has no early end, so it becomes vector code.
+// How many octets `is` compares at a time: there is no early exit within such a run, so it becomes vector code.
 const RUN: usize = 64;
 
 /// Whether two texts have the same images, octet by octet. One pass.
@@ -118,9 +118,9 @@ fn same_run<C: Comparator>(key: &[u8], value: &[u8], from: usize, count: usize) 
     same
 }
 
-/// Whether the images of `key` stand somewhere in those of `value`; those of the empty key stand everywhere.
+/// Whether the images of `key` occur in those of `value`; those of the empty key occur everywhere.
 ///
-/// The time is linear in the lengths of key and value together, whatever they hold (`find`).
+/// Time is linear in the sum of the lengths of key and value, whatever they contain (`find`).
 pub fn contains<C: Comparator>(key: &[u8], value: &[u8]) -> bool
     ensures { IsTrue result ↔ ContainsBy C.image_of key.now value.now }
 {

@@ -1,4 +1,4 @@
-//! The search for a few places in a row by Shift-Or (Baeza-Yates and Gonnet, 1992): a bit of a number for each place.
+//! The search for a few consecutive places by Shift-Or (Baeza-Yates and Gonnet, 1992): one bit of a number for each place.
 ghost use Rattle.std.specs.Prelude.{◌≡◌, ◌≢◌, ◌==◌, ◌↔◌, ℕ, Bool, true, ◌+◌, ◌<◌, ◌≤◌, length, slice_index, IsTrue};
 ghost use Rattle.std.specs.Int.{bit_at};
 ghost use Rattle.memchr.specs.Find.{IsFirst};
@@ -6,22 +6,22 @@ ghost use Rattle.collation.specs.Unasked.{AreUnasked};
 
 use crate::Comparator;
 
-/// How many places masks have at most.
+/// The most places of masks.
 pub const MAX_PLACES: usize = 63;
 
-/// Places in a row, each of which takes one octet: one with a given image, or any. They take 2 kB.
+/// Consecutive places, each of which takes one octet: one with a given image, or any. Their size is 2 kB.
 #[derive(Clone, Copy)]
 pub struct Masks {
-    // For each octet a number: its bits of the places that don't take the octet are set.
+    // A number for each octet: the bits of the places that don't take the octet are set.
     octets: [u64; 256],
-    // The bits of the places that don't take any octet.
+    // The bits of the places that don't take every octet.
     choosy: u64,
     len: usize,
     ghost short: { len ≤ 63 },
     ghost unasked: { AreUnasked octets choosy len },
 }
 
-// Numbers of which each bit is set.
+// Numbers with all bits set.
 fn full() -> [u64; 256]
     ensures { (b : ℕ) → b < 256 → slice_index result b ≡ 18446744073709551615 }
 {
@@ -62,7 +62,7 @@ impl Masks {
         }
     }
 
-    /// One place more, which takes the octets with the image of this one.
+    /// Appends a place that takes the octets with the image of this one.
     #[inline(always)]
     pub fn push<C: Comparator>(&mut self, octet: u8)
         requires { self.now.len < 63 }
@@ -75,7 +75,7 @@ impl Masks {
         self.len += 1;
     }
 
-    /// One place more, which takes any octet.
+    /// Appends a place that takes any octet.
     #[inline(always)]
     pub fn push_any(&mut self)
         requires { self.now.len < 63 }
@@ -84,7 +84,8 @@ impl Masks {
         self.len += 1;
     }
 
-    /// The first place of `value`, from `from` on, where octets stand that the places take. Linear in the value, whatever it holds.
+    /// Returns the first place of `value`, from `from` on, at which the places take the octets. Time is linear in the value, whatever it
+    /// contains.
     pub fn find(&self, value: &[u8], from: usize) -> Option<usize>
         requires { from ≤ length value.now }
         ensures { (fits : ℕ → ℕ → Bool) (n : ℕ) → AreMasks fits n self.now → IsFirst (FitsAt fits n value.now) from (length value.now + 1) result }

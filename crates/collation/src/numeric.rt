@@ -10,8 +10,8 @@ use crate::Octet;
 use crate::order::compare;
 use std::cmp::Ordering;
 
-/// How what one text stands for is to what another does: the number of all the digits that a text begins with, however many
-/// they are. A text that begins with no digit stands for positive infinity, so all such texts are equal. One pass over each.
+/// Compares what two texts stand for: the number that all the digits at the beginning of a text write, however many
+/// there are. A text that begins with no digit stands for positive infinity, so all such texts are equal. One pass over each.
 pub fn compare_numbers(one: &[u8], other: &[u8]) -> Ordering
     ensures { MatchOrdering result (IsBelow one.now other.now) (EqualNumbers one.now other.now) (IsBelow other.now one.now) }
 {
@@ -27,14 +27,14 @@ pub fn compare_numbers(one: &[u8], other: &[u8]) -> Ordering
     }
 }
 
-/// Whether two texts stand for the same (`compare_numbers`).
+/// Whether two texts stand for the same number or both for infinity (`compare_numbers`).
 pub fn are_equal_numbers(one: &[u8], other: &[u8]) -> bool
     ensures { IsTrue result ↔ EqualNumbers one.now other.now }
 {
     compare_numbers(one, other).is_eq()
 }
 
-// The digits that a text begins with, without the zeros in front; None where it begins with no digit.
+// The digits that a text begins with, without leading zeros; `None` if it begins with no digit.
 fn plain_digits(text: &[u8]) -> Option<&[u8]>
     ensures value { MatchOption result (number_at text.now ≡ None) (λ digits. number_at text.now ≡ Some (number_of digits.now)) }
     ensures plain { MatchOption result (Unit {0}) (λ digits. ArePlainDigits digits.now) }
@@ -57,7 +57,7 @@ fn leading_digits(text: &[u8]) -> &[u8]
     text.split_at(end).0
 }
 
-// The same digits without the zeros in front.
+// The digits without leading zeros.
 fn without_zeros(digits: &[u8]) -> &[u8]
     requires { AllPass is_digit digits.now }
     ensures value { number_of result.now ≡ number_of digits.now }
@@ -70,7 +70,7 @@ fn without_zeros(digits: &[u8]) -> &[u8]
     digits.split_at(start).1
 }
 
-// How the numbers of two texts of digits stand: the longer one is the greater, since no zero stands first.
+// Compares the numbers of two texts of digits: the longer one is the greater, since there are no leading zeros.
 fn compare_digits(one: &[u8], other: &[u8]) -> Ordering
     requires one { ArePlainDigits one.now }
     requires other { ArePlainDigits other.now }

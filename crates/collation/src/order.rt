@@ -7,7 +7,7 @@ ghost use Rattle.collation.specs.Sorting.{ComesBefore};
 use crate::Comparator;
 use std::cmp::Ordering;
 
-/// How two texts stand in the order of a comparator: their images octet by octet, and then the shorter one first. One pass.
+/// Compares two texts in the order of a comparator: their images octet by octet, and then the shorter one is first. One pass.
 pub fn compare<C: Comparator>(one: &[u8], other: &[u8]) -> Ordering
     ensures { MatchOrdering result (ComesBefore C.image_of one.now other.now) (EqualBy C.image_of one.now other.now)
         (ComesBefore C.image_of other.now one.now) }
@@ -22,7 +22,7 @@ pub fn compare<C: Comparator>(one: &[u8], other: &[u8]) -> Ordering
     left.cmp(&right)
 }
 
-// The first place where two images differ, or the end.
+// The first place at which two images differ, or the end.
 fn same_to<C: Comparator>(one: &[u8], other: &[u8], end: usize) -> usize
     requires one { end ≤ length one.now }
     requires other { end ≤ length other.now }

@@ -1,28 +1,28 @@
-//! What a search looks for: octets that are read one after the other from the front, as a text spells them.
+//! What a search looks for: octets that are read one after the other, as a text spells them.
 ghost use Rattle.std.specs.Prelude.{◌≡◌, ℕ, ◌+◌, ◌<◌, length, slice_index};
 ghost use Rattle.collation.specs.declared.spelling.Spot.{Spot};
 
-/// One octet of a key, and where the key's text spells it.
+/// A position in a key: the index of an octet, and where the key's text spells it.
 #[derive(Clone, Copy, Debug)]
 pub struct Spot {
-    /// Which octet of the key, from 0.
+    /// The index of the octet in the key, from 0.
     pub index: usize,
-    /// Where it is spelled: a place of the key's text, from 0.
+    /// Where it is spelled: an index into the key's text, from 0.
     pub place: usize,
 }
 
-/// A list of octets that is read from the front, or from a spot that was reached before.
+/// A list of octets that is read from the beginning, or from a spot that was reached before.
 pub trait Key {
-    // How many octets there are.
+    // The number of octets.
     ghost size: { Self → ℕ };
 
-    // The octet of an index.
+    // The octet at an index.
     ghost octet_at: { Self → ℕ → ℕ };
 
-    // The octet of the spot's index is spelled at the spot's place.
+    // The octet at the spot's index is spelled at the spot's place.
     ghost is_spot: { Self → Spot → Type 0 };
 
-    /// How many octets there are.
+    /// The number of octets.
     fn len(&self) -> usize
         ensures { result ≡ size self.now };
 
@@ -31,7 +31,7 @@ pub trait Key {
         ensures index { result.index ≡ 0 }
         ensures spot { is_spot self.now result };
 
-    /// The octet of a spot.
+    /// The octet at a spot.
     fn octet(&self, spot: Spot) -> u8
         requires below { spot.index < size self.now }
         requires spot { is_spot self.now spot }
@@ -45,7 +45,7 @@ pub trait Key {
         ensures spot { is_spot self.now result };
 }
 
-/// A key that is spelled as it is, octet by octet.
+/// A key whose text is the key itself.
 #[derive(Clone, Copy, Debug)]
 pub struct Plain<'a> {
     /// The octets.

@@ -1,8 +1,8 @@
-//! The search for a key by the Two-Way algorithm of Crochemore and Perrin (1991), over images in place of octets.
+//! The search for a key by the Two-Way algorithm of Crochemore and Perrin (1991), over images instead of octets.
 //!
-//! The key is cut in two at a critical place. At each place of the value the right half is compared first, from the
-//! cut on; a mismatch there moves the search past it. Then the left half is compared; a mismatch there moves the
-//! search by the key's period, and what the period says to match already is not compared again. No table is kept.
+//! The key is cut in two at a critical position. At each place of the value the right part is compared first, from the
+//! cut on; a mismatch there moves the search past it. Then the left part is compared; a mismatch there moves the
+//! search by the key's period, and what is known to match by the period is not compared again. No table is kept.
 ghost use Rattle.std.specs.Prelude.{◌≡◌, ◌≢◌, ◌↔◌, ℕ, ◌+◌, ◌-◌, ◌<◌, ◌≤◌, length, IsTrue};
 ghost use Rattle.std.specs.Ordering.{MatchOrdering};
 ghost use Rattle.memchr.specs.Critical.{IsSuffixAt, IsCutPlace};
@@ -24,7 +24,7 @@ enum Order {
 }
 
 impl Order {
-    // `Less` where `a` comes before `b`.
+    // `Less` if `a` comes before `b`.
     #[inline(always)]
     fn compare(self, a: u8, b: u8) -> Ordering
         ensures { MatchOrdering result (Precedes self a b) (a ≡ b) (Precedes self b a) }
@@ -43,8 +43,8 @@ struct Suffix {
     period: usize,
 }
 
-// Where a key is cut, how far a mismatch left of the cut moves the search, and how much of the key is known to match
-// at the place moved to.
+// Where a key is cut, how far a mismatch left of the cut moves the search, and how much of the key is then known to match
+// at the new place.
 #[derive(Clone, Copy)]
 struct Cut {
     critical: Spot,
@@ -52,7 +52,7 @@ struct Cut {
     keep: Spot,
 }
 
-// The greatest suffix: each later suffix is a candidate, compared with the best so far by what follows their starts.
+// The greatest suffix: each later suffix is a candidate, which is compared with the best so far.
 fn greatest_suffix<C: Comparator, K: Key>(key: &K, order: Order) -> Suffix
     requires { 0 < K.size key.now }
     ensures suffix { IsSuffixAt (Precedes order) (image_at C.image_of (K.octet_at key.now)) (K.size key.now)
@@ -97,7 +97,7 @@ fn greatest_suffix<C: Comparator, K: Key>(key: &K, order: Order) -> Suffix
     }
 }
 
-// The spot of an index.
+// The spot at an index.
 fn spot_of<K: Key>(key: &K, index: usize) -> Spot
     requires { index ≤ K.size key.now }
     ensures index { result.index ≡ index }
@@ -175,7 +175,7 @@ fn cut_at<C: Comparator, K: Key>(key: &K, suffix: Suffix) -> Cut
     }
 }
 
-// How far, from `from` and up to `end`, the key stands at place `pos` of the value.
+// How far, from `from` and up to `end`, the key matches at place `pos` of the value.
 #[inline(always)]
 fn matched_to<C: Comparator, K: Key>(
     key: &K,
@@ -224,8 +224,8 @@ fn next_place<C: Comparator>(value: &[u8], from: usize, end: usize, wanted: u8) 
     }
 }
 
-// The next place from `pos` on where a key of `m` octets may stand, as far as it fits: one where the first octet after
-// the cut stands. Where some of the key is known to match at `pos`, it is `pos`.
+// The next place from `pos` on at which a key of `m` octets may match: one at which the first octet after
+// the cut matches. If some of the key is known to match at `pos`, it is `pos`.
 #[inline(always)]
 fn next_candidate<C: Comparator, K: Key>(
     key: &K,
@@ -250,7 +250,7 @@ fn next_candidate<C: Comparator, K: Key>(
     next_place::<C>(value, pos + critical.index, end, wanted) - critical.index
 }
 
-// The search with a key that is cut.
+// The search for a key that has been cut.
 fn find_cut<C: Comparator, K: Key>(key: &K, cut: Cut, value: &[u8], from: usize) -> Option<usize>
     requires cut { IsCut (image_at C.image_of (K.octet_at key.now)) (K.size key.now) cut }
     requires critical { K.is_spot key.now cut.critical }
@@ -301,7 +301,7 @@ pub(crate) fn masks_of<C: Comparator, K: Key>(key: &K) -> Masks
     masks
 }
 
-// The search with a key of at most 63 octets.
+// The search for a key of at most 63 octets.
 fn find_short<C: Comparator, K: Key>(key: &K, value: &[u8], from: usize) -> Option<usize>
     requires short { K.size key.now ≤ 63 }
     requires start { from ≤ length value.now }
@@ -310,12 +310,12 @@ fn find_short<C: Comparator, K: Key>(key: &K, value: &[u8], from: usize) -> Opti
     masks_of::<C, K>(key).find(value, from)
 }
 
-/// The first place of `value`, from `from` on, where the images of `key` stand.
+/// Returns the first place of `value`, from `from` on, at which the images of `key` occur.
 ///
-/// It takes no memory, and time linear in the lengths of key and value together, whatever they hold. The key's first octet is looked
-/// for; from there on a key of at most 63 octets is looked for by [`Masks`], which looks at each octet once. For a longer one Two-Way
-/// of Crochemore and Perrin (Two-way string-matching, 1991) takes a few passes over the key, and compares each octet of the value at
-/// most twice.
+/// Takes no memory, and time linear in the sum of the lengths of key and value, whatever they contain. The key's first octet is
+/// searched for; from there on a key of at most 63 octets is searched for by [`Masks`], which looks at each octet once. For a longer
+/// one the Two-Way algorithm of Crochemore and Perrin (Two-way string-matching, 1991) takes a few passes over the key, and compares
+/// each octet of the value at most twice.
 pub fn find<C: Comparator, K: Key>(key: &K, value: &[u8], from: usize) -> Option<usize>
     requires { from ≤ length value.now }
     ensures { FindsKey C.image_of (K.octet_at key.now) (K.size key.now) value.now from result }

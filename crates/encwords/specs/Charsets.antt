@@ -5,14 +5,14 @@ use Rattle.std.specs.Str.{is_utf8, str_eq_ignore_ascii_case}
 use Rattle.encwords.specs.declared.charset.Charset.{Charset}
 use Rattle.encwords.specs.declared.charset.Charset.TheVariants.{Ascii, Latin1, Utf8}
 
--- the part of ISO-8859 with this number, 1 to 16: of parts 2 to 16 the octets below 128 alone
+-- the part of ISO-8859 with this number, 1 to 16: of parts 2 to 16 only the octets below 128
 abbrev pub part_of : List ℕ → Option Charset
 part_of [] = None
 part_of (one ∷ []) = cond (one == 49) (Some Latin1) (cond (nat_le 50 one && nat_le one 57) (Some Ascii) None)
 part_of (ten ∷ one ∷ []) = cond (ten == 49 && (nat_le 48 one && nat_le one 54)) (Some Ascii) None
 part_of (ten ∷ one ∷ other ∷ more) = None
 
--- the character set of this name, without ASCII case
+-- the character set with this name, ignoring ASCII case
 abbrev pub charset_of : List ℕ → Option Charset
 charset_of name =
     cond (str_eq_ignore_ascii_case name (codes "utf-8")) (Some Utf8)
@@ -23,7 +23,7 @@ charset_of name =
 abbrev pub is_ascii : ℕ → Bool
 is_ascii octet = nat_lt octet 128
 
--- octets of a character set as UTF-8, where they are its
+-- octets of a character set as UTF-8, if they are valid in it
 abbrev pub converted : Charset → List ℕ → Option (List ℕ)
 converted Ascii octets = cond (list_all is_ascii octets) (Some octets) None
 converted Latin1 octets = Some (encode_utf8_all octets)

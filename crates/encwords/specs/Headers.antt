@@ -10,7 +10,7 @@ abbrev pub begins_question : List ℕ → Bool
 begins_question [] = false
 begins_question (octet ∷ rest) = octet == 63
 
--- whether `=?` stands in a text
+-- whether a text contains `=?`
 abbrev pub has_mark : List ℕ → Bool
 has_mark [] = false
 has_mark (octet ∷ rest) = (octet == 61 && begins_question rest) || has_mark rest
@@ -51,7 +51,7 @@ abbrev pub words_for : List (List ℕ) → List ℕ
 words_for [] = []
 words_for (piece ∷ more) = word_for piece ++ others_for more
 
--- what stands between a value so far and its next word
+-- what is put between a value so far and its next word
 abbrev pub between : List ℕ → List ℕ
 between [] = []
 between (octet ∷ rest) = 13 ∷ 10 ∷ 32 ∷ []
@@ -62,7 +62,7 @@ pub record IsWorded (text value : List ℕ) : Type 0 where
   pub cut : ArePieces pieces text
   pub spelled : value ≡ words_for pieces
 
--- a plain text as it is, any other one as the words of its pieces
+-- a plain text as it is, any other as the words of its pieces
 pub record IsHeaderText (text value : List ℕ) : Type 0 where
   pub plain : is_plain text ≡ true → value ≡ text
   pub worded : is_plain text ≡ false → IsWorded text value

@@ -16,7 +16,7 @@ pub record HasStandardAlphabet (engine : GeneralPurpose) : Type 0 where
 abbrev pub IsReadBack : List ℕ → List ℕ → Type 0
 IsReadBack text value = IsHeaderText text value → text_of (unfold_of value) ≡ text
 
--- what a text is to say where it is written with the words that its writer encoded: what it decodes to where they stand, else itself
+-- what a text says that is written with the words that its writer encoded: what it decodes to if it has such words, otherwise itself
 abbrev pub said_by : List ℕ → List ℕ
 said_by text = cond (has_written_words text) (text_of text) text
 

@@ -22,7 +22,7 @@ spelling (Plain octet) = octet ∷ []
 spelling Space = 95 ∷ []
 spelling (Escaped high low) = 61 ∷ high ∷ low ∷ []
 
--- the octet of two digits
+-- the octet that two digits write
 abbrev pub octet_of : Option ℕ → Option ℕ → Option ℕ
 octet_of None low = None
 octet_of (Some high) low = option_map (λ l. high * 16 + l) low
@@ -50,11 +50,11 @@ pub record IsQEncoded (text octets : List ℕ) : Type 0 where
   pub spelled : text ≡ spellings pieces
   pub valued : AreValues pieces octets
 
--- what follows gives more octets
+-- an octet before those to come, or none
 abbrev pub with_octet : ℕ → Option (List ℕ) → Option (List ℕ)
 with_octet octet more = option_map (λ octets. octet ∷ octets) more
 
--- the octets of a text in Q from here on: in the text, after `=`, or after its first digit
+-- the octets of the rest of a text in Q: read in the text, after `=`, or after its first digit
 abbrev pub quoted_from : Mode → List ℕ → Option (List ℕ)
 quoted_from InText [] = Some []
 quoted_from AfterMark [] = None
@@ -63,7 +63,7 @@ quoted_from InText (octet ∷ rest) = cond (octet == 61) (quoted_from AfterMark 
 quoted_from AfterMark (octet ∷ rest) = option_and_then (λ high. quoted_from (AfterDigit high) rest) (digit_of octet)
 quoted_from (AfterDigit high) (octet ∷ rest) = option_and_then (λ low. with_octet (high * 16 + low) (quoted_from InText rest)) (digit_of octet)
 
--- the digit after `=` is one of sixteen
+-- the digit after `=` is below 16
 abbrev pub IsMode : Mode → Type 0
 IsMode InText = Unit {0}
 IsMode AfterMark = Unit {0}
@@ -74,7 +74,7 @@ abbrev pub with_read : Option ℕ → Option (List ℕ) → Option (List ℕ)
 with_read None more = more
 with_read (Some octet) more = with_octet octet more
 
--- the octets of what follows one step, where it was made
+-- the octets of what follows one step, if the step was made
 abbrev pub after_step : Option (Mode × Option ℕ) → List ℕ → Option (List ℕ)
 after_step None rest = None
 after_step (Some step) rest = with_read step.1 (quoted_from step.0 rest)

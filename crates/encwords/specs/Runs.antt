@@ -24,7 +24,7 @@ abbrev pub AreRuns : List (List ℕ) → List ℕ → Type 0
 AreRuns [] text = text ≡ []
 AreRuns (run ∷ more) text = (rest : List ℕ) × ((text ≡ run ++ rest) × ((run ≢ []) × (IsRun run rest × AreRuns more rest)))
 
--- an octet before runs: part of the first one where that is of its kind
+-- an octet before runs: it joins the first one if that is of its kind
 abbrev pub before_runs : ℕ → List (List ℕ) → List (List ℕ)
 before_runs octet [] = (octet ∷ []) ∷ []
 before_runs octet (run ∷ more) =

@@ -10,7 +10,7 @@ abbrev pub word_first : List (List ℕ) → Bool
 word_first [] = false
 word_first (run ∷ more) = is_word run
 
--- right before and right after stands a recognised word
+-- there is a recognised word right before and right after
 pub record IsBetweenWords (before after : List (List ℕ)) : Type 0 where
   pub others : List (List ℕ)
   pub word : List ℕ
@@ -18,7 +18,7 @@ pub record IsBetweenWords (before after : List (List ℕ)) : Type 0 where
   pub word_before : is_word word ≡ true
   pub word_after : word_first after ≡ true
 
--- what a run gives, by the runs before it and after it: a recognised word its text,
+-- what a run gives, depending on the runs before it and after it: a recognised word its text,
 -- blanks between two of them nothing, any other run itself
 pub record Gives (before : List (List ℕ)) (run : List ℕ) (after : List (List ℕ)) (given : List ℕ) : Type 0 where
   pub recognised : (text : List ℕ) → word_of run ≡ Some text → given ≡ text
@@ -39,7 +39,7 @@ pub record IsTextOf (value text : List ℕ) : Type 0 where
   pub given : AreGiven [] runs givens
   pub joined : text ≡ concat givens
 
--- what a run gives, told whether a recognised word stands right before it, and with the runs after it:
+-- what a run gives, by whether a recognised word is right before it, and by the runs after it:
 -- a blank run between two of them nothing, a recognised word its text, any other run itself
 abbrev pub given_by : Bool → List ℕ → List (List ℕ) → List ℕ
 given_by after_word run more = cond (begins_blank run) (cond (after_word && word_first more) [] run) (unwrap_or (word_of run) run)

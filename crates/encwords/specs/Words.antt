@@ -32,7 +32,7 @@ is_visible octet = nat_le 33 octet && nat_le octet 126
 abbrev pub is_encoded_text : List ℕ → Bool
 is_encoded_text text = not (length text == 0) && list_all is_visible text
 
--- the octets that a text stands for in this encoding: B or Q, without ASCII case
+-- the octets that a text stands for in this encoding: B or Q, ignoring ASCII case
 abbrev pub octets_of : List ℕ → List ℕ → Option (List ℕ)
 octets_of encoding text =
     cond (str_eq_ignore_ascii_case encoding (codes "b")) (decoded_of standard text)
@@ -44,7 +44,7 @@ meaning_of charset encoding text =
     cond (is_encoded_text text)
     (option_and_then (λ set. option_and_then (converted set) (octets_of encoding text)) (charset_of charset)) None
 
--- what the parts of a run stand for, where they are `=`, a charset, an encoding, a text and `=`
+-- what the parts of a run stand for, if they are `=`, a charset, an encoding, a text and `=`
 abbrev pub meaning_in : List (List ℕ) → Option (List ℕ)
 meaning_in (front ∷ charset ∷ encoding ∷ text ∷ back ∷ []) =
     cond (bytes_eq front (codes "=") && bytes_eq back (codes "=")) (meaning_of charset encoding text) None

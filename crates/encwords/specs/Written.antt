@@ -1,4 +1,4 @@
--- Texts in which their writer encoded words (RFC 2047).
+-- Texts whose writer encoded words in them (RFC 2047).
 use Rattle.std.specs.Prelude.{◌≡◌, ℕ, ◌==◌, nat_le, Bool, true, false, ◌&&◌, ◌||◌, not, cond, List, [], ◌∷◌, ◌++◌, length}
 use Rattle.std.specs.List.{list_all, list_any}
 use Rattle.octets.specs.Ascii.{is_letter, is_digit, is_printable}
@@ -9,15 +9,15 @@ use Rattle.encwords.specs.Headers.{has_mark, IsHeaderText}
 
 -- ---- which texts they are
 
--- a recognised word of at most 75 octets, more of which none may have (RFC 2047, 2)
+-- a recognised word of at most 75 octets, the most that a word may have (RFC 2047, 2)
 abbrev pub is_written_word : List ℕ → Bool
 is_written_word run = nat_le (length run) 75 && is_word run
 
--- a run of at most 200 octets, without `=?` or such a word
+-- a run of at most 200 octets that either contains no `=?` or is such a word
 abbrev pub is_written_run : List ℕ → Bool
 is_written_run run = nat_le (length run) 200 && (not (has_mark run) || is_written_word run)
 
--- `=?` stands in it, all its octets are 32 to 126, and each run is such a run
+-- it contains `=?`, all its octets are from 32 to 126, and each run is such a run
 abbrev pub has_written_words : List ℕ → Bool
 has_written_words text = has_mark text && (list_all is_printable text && list_all is_written_run (runs_of text))
 
@@ -44,11 +44,11 @@ has_phrase_words text = list_all is_phrase_run (runs_of text)
 abbrev pub has_nonblank : List ℕ → Bool
 has_nonblank text = list_any is_nonblank text
 
--- CRLF, where blanks follow and another octet behind them
+-- CRLF, if blanks follow and another octet comes after them
 abbrev pub fold_before : List ℕ → List ℕ
 fold_before rest = cond (begins_blank rest && has_nonblank rest) (13 ∷ 10 ∷ []) []
 
--- a text with CRLF in front of each run of blanks that stands between other octets (RFC 5322, 2.2.3)
+-- a text with CRLF before each run of blanks between other octets (RFC 5322, 2.2.3)
 abbrev pub folded : List ℕ → List ℕ
 folded [] = []
 folded (octet ∷ rest) = octet ∷ (cond (is_nonblank octet) (fold_before rest) [] ++ folded rest)
@@ -57,7 +57,7 @@ folded (octet ∷ rest) = octet ∷ (cond (is_nonblank octet) (fold_before rest)
 abbrev pub lines_for : List ℕ → List ℕ
 lines_for text = cond (nat_le (length text) 200) text (folded text)
 
--- a text with such words is written as it stands, any other text as header text
+-- a text with such words is written as it is, any other text as header text
 pub record IsWrittenText (text value : List ℕ) : Type 0 where
   pub stands : has_written_words text ≡ true → value ≡ lines_for text
   pub encoded : has_written_words text ≡ false → IsHeaderText text value

@@ -6,17 +6,17 @@ ghost use Rattle.encwords.specs.Charsets as charsets;
 
 use std::alloc::{AllocError, Global};
 
-/// A character set that words are read in.
+/// A character set that encoded words may have.
 #[derive(Clone, Copy)]
 pub enum Charset {
     /// US-ASCII, and of ISO-8859-2 to ISO-8859-16 the part that is the same: octets below 128.
     Ascii,
-    /// ISO-8859-1: each octet is the character of its number.
+    /// ISO-8859-1: each octet is the character with its number.
     Latin1,
     Utf8,
 }
 
-/// The character set of a name, in any ASCII case.
+/// The character set with this name, in any ASCII case.
 pub(crate) fn charset_named(name: &[u8]) -> Option<Charset>
     ensures { result ≡ charsets.charset_of name.now }
 {
@@ -49,7 +49,7 @@ fn iso_part(number: &[u8]) -> Option<Charset>
     }
 }
 
-/// Octets of a character set as UTF-8, if they are its.
+/// Converts octets of a character set to UTF-8, if they are valid in it.
 pub(crate) fn converted(
     alloc: Global,
     charset: Charset,

@@ -6,10 +6,10 @@ use crate::run::{blank_run, nonblank_run};
 use crate::word::word_text;
 use std::alloc::{AllocError, Global};
 
-/// The text of a header value, with each encoded word that is recognised in place of its text
-/// (RFC 2047). What isn't recognised stays as written.
+/// Decodes a header value: each recognised encoded word is replaced by its text (RFC 2047). What isn't recognised stays as
+/// written.
 ///
-/// Time is linear in the value.
+/// Time is linear in the length of the value.
 pub fn decoded(alloc: Global, value: &[u8]) -> Result<Vec<u8>, AllocError>
     ensures { IfOk result (λ text. text.items ≡ text_of value.now) }
 {
@@ -28,7 +28,7 @@ pub fn decoded(alloc: Global, value: &[u8]) -> Result<Vec<u8>, AllocError>
     Ok(text)
 }
 
-/// The blanks of a run, but nothing between two recognised words.
+/// The blanks of a run; between two recognised words nothing.
 fn kept_blanks(after_word: bool, before_word: bool, blanks: &[u8]) -> &[u8]
     ensures { result.now ≡ (if after_word && before_word then [] else blanks.now) }
 {
@@ -39,7 +39,7 @@ fn kept_blanks(after_word: bool, before_word: bool, blanks: &[u8]) -> &[u8]
     }
 }
 
-/// The text of a run that is a word, and else the run.
+/// The text of a run if it is a recognised word, otherwise the run.
 fn shown<'a>(word: &'a Option<Vec<u8>>, run: &'a [u8]) -> &'a [u8]
     ensures { result.now ≡ unwrap_or (option_map (λ v. v.items) word.now) run.now }
 {

@@ -9,14 +9,14 @@ use memchr::memmem;
 use octets::is_printable;
 use std::alloc::{AllocError, Global};
 
-/// How many octets a plain text has at most.
+/// The most octets of a plain text.
 const MAX_PLAIN_LEN: usize = 200;
 
-/// How many octets of text a word holds at most, so that the word has at most 72 octets.
+/// The most octets of text in a word, so that the word has at most 72 octets.
 const MAX_PIECE_LEN: usize = 45;
 
-/// A text as it is written in a header field: itself, where it has at most 200 octets, all 32 to
-/// 126, and no `=?` in it; else encoded words on lines of their own (RFC 2047).
+/// Writes a text for a header field: as it is if it has at most 200 octets, all from 32 to 126, and no `=?` in it; otherwise as
+/// encoded words on lines of their own (RFC 2047).
 pub fn header_text(alloc: Global, text: &str) -> Result<Vec<u8>, AllocError>
     ensures { IfOk result (λ value. IsHeaderText text.now value.items) }
 {
@@ -33,14 +33,14 @@ fn is_plain(text: &[u8]) -> bool
     text.len() <= MAX_PLAIN_LEN && (are_printable(text) && !has_mark(text))
 }
 
-/// Whether all octets of a text are 32 to 126.
+/// Whether all octets of a text are from 32 to 126.
 pub(crate) fn are_printable(text: &[u8]) -> bool
     ensures { result ≡ list_all ascii.is_printable text.now }
 {
     text.iter().all(|octet| is_printable(*octet))
 }
 
-/// Whether `=?` stands in a text.
+/// Whether a text contains `=?`.
 pub(crate) fn has_mark(text: &[u8]) -> bool
     ensures { result ≡ has_mark text.now }
 {
@@ -68,7 +68,7 @@ fn next_piece(text: &str) -> (&str, &str)
     text.split_at(text.floor_char_boundary(MAX_PIECE_LEN))
 }
 
-/// Appends a word, on a line of its own after other words.
+/// Appends a word; after other words, on a line of its own.
 fn push_word(value: &mut String, piece: &str) -> Result<(), AllocError>
     ensures { OnOk result (string_bytes value.new
         ≡ string_bytes value.old ++ (between (string_bytes value.old) ++ word_for piece.now)) }

@@ -1,13 +1,13 @@
-//! Texts on lines of their own.
+//! Folding of long texts.
 ghost use Rattle.std.specs.Prelude.{◌≡◌, ◌==◌, ◌||◌, [], ◌∷◌, length, if◌then◌else◌, IfOk};
 ghost use Rattle.encwords.specs.Written.{folded};
 
 use crate::run::{blank_run, nonblank_run};
 use std::alloc::{AllocError, Global};
 
-/// A text with CRLF in front of each run of blanks that stands between other octets (RFC 5322, section 2.2.3).
+/// Folds a text: inserts CRLF before each run of blanks between other octets (RFC 5322, section 2.2.3).
 ///
-/// Time is linear in the text, memory at most three times the text; lack of memory is the only error.
+/// Time is linear in the text; memory is at most three times the text. Lack of memory is the only error.
 pub(crate) fn fold(alloc: Global, text: &[u8]) -> Result<Vec<u8>, AllocError>
     ensures { IfOk result (λ value. value.items ≡ folded text.now) }
 {
@@ -24,7 +24,7 @@ pub(crate) fn fold(alloc: Global, text: &[u8]) -> Result<Vec<u8>, AllocError>
     Ok(value)
 }
 
-/// CRLF before blanks and a run, where both are there and something stands before them.
+/// CRLF before blanks and a run, if both are nonempty and something precedes them.
 fn line_end(before: &[u8], blanks: &[u8], run: &[u8]) -> &'static [u8]
     ensures { result.now ≡ (if length before.now == 0 || (length blanks.now == 0 || length run.now == 0) then [] else 13 ∷ 10 ∷ []) }
 {

@@ -6,7 +6,7 @@ ghost use Rattle.encwords.specs.Written as written;
 use crate::encoding::has_mark;
 use crate::run::{blank_run, nonblank_run};
 
-/// Whether each run with `=?` in it is written as a word in a phrase has to be: with letters, digits, `! * + - / = _` and question
+/// Whether each run that contains `=?` is written as a word in a phrase must be: with letters, digits, `! * + - / = _` and question
 /// marks (RFC 2047, section 5 (3)). Time is linear in the text; takes no memory.
 pub fn has_phrase_words(text: &[u8]) -> bool
     ensures { result ≡ written.has_phrase_words text.now }

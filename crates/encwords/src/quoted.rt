@@ -4,7 +4,7 @@ ghost use Rattle.encwords.specs.Quoted as quoted;
 
 use std::alloc::{AllocError, Global};
 
-/// Where a reader of Q stands.
+/// The state of a reader of Q.
 #[derive(Clone, Copy)]
 pub enum Mode {
     InText,
@@ -36,7 +36,7 @@ pub(crate) fn from_quoted(alloc: Global, text: &[u8]) -> Result<Option<Vec<u8>>,
     }
 }
 
-/// Where a reader stands after one octet more, and the octet that it has read by then, if any.
+/// The state of a reader after one more octet, and the octet that it has read by then, if any.
 fn step(mode: Mode, octet: u8) -> Option<(Mode, Option<u8>)>
     requires { quoted.IsMode mode }
     ensures reads { (rest : List ℕ) → quoted.quoted_from mode (octet ∷ rest) ≡ quoted.after_step result rest }

@@ -6,7 +6,7 @@ ghost use Rattle.encwords.specs.Runs as runs;
 
 use octets::is_blank;
 
-/// The blanks at the front of a text, and what follows.
+/// The blanks at the beginning of a text, and what follows.
 pub(crate) fn blank_run(text: &[u8]) -> (&[u8], &[u8])
     ensures front { result.0.now ≡ take (prefix_len ascii.is_blank text.now) text.now }
     ensures back { result.1.now ≡ drop (prefix_len ascii.is_blank text.now) text.now }
@@ -14,7 +14,7 @@ pub(crate) fn blank_run(text: &[u8]) -> (&[u8], &[u8])
     text.split_at(blank_len(text))
 }
 
-/// The octets other than blanks at the front of a text, and what follows.
+/// The octets other than blanks at the beginning of a text, and what follows.
 pub(crate) fn nonblank_run(text: &[u8]) -> (&[u8], &[u8])
     ensures front { result.0.now ≡ take (prefix_len runs.is_nonblank text.now) text.now }
     ensures back { result.1.now ≡ drop (prefix_len runs.is_nonblank text.now) text.now }

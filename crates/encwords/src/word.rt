@@ -104,7 +104,7 @@ fn are_equals_signs(front: &[u8], back: &[u8]) -> bool
     front == b"=".as_slice() && back == b"=".as_slice()
 }
 
-/// What stands before and after the first question mark of a text.
+/// What comes before and after the first question mark of a text.
 fn cut(text: &[u8]) -> Option<(&[u8], &[u8])>
     ensures { MatchOption result (words.parts_of text.now ≡ text.now ∷ [])
         (λ p. words.parts_of text.now ≡ p.0.now ∷ words.parts_of p.1.now) }

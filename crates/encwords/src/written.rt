@@ -1,4 +1,4 @@
-//! Texts in which their writer encoded words.
+//! Texts whose writer encoded words in them.
 ghost use Rattle.std.specs.Prelude.{◌≡◌, ◌&&◌, IfOk};
 ghost use Rattle.std.specs.List.{list_all};
 ghost use Rattle.encwords.specs.Runs.{runs_of};
@@ -10,17 +10,17 @@ use crate::run::{blank_run, nonblank_run};
 use crate::word::word_text;
 use std::alloc::{AllocError, Global};
 
-/// How many octets an encoded word has at most (RFC 2047, section 2).
+/// The most octets of an encoded word (RFC 2047, section 2).
 const MAX_WORD_LEN: usize = 75;
 
-/// How many octets a run has at most, so that no line of a text has more than 998 (RFC 5322, section 2.1.1).
+/// The most octets of a run, so that no line of a text has more than 998 (RFC 5322, section 2.1.1).
 const MAX_RUN_LEN: usize = 200;
 
-/// How many octets a text has at most that stands on one line.
+/// The most octets of a text that is written on one line.
 const MAX_LINE_LEN: usize = 200;
 
-/// A text as it is written in a header field, with the words that its writer encoded: where it [has such
-/// words](has_written_words) as [`written_lines`], else as [`header_text`].
+/// Writes a text for a header field, with the words that its writer encoded: if it [has such words](has_written_words), as
+/// [`written_lines`] does, otherwise as [`header_text`] does.
 ///
 /// Time is linear in the text; lack of memory is the only error.
 pub fn written_text(alloc: Global, text: &str) -> Result<Vec<u8>, AllocError>
@@ -33,8 +33,8 @@ pub fn written_text(alloc: Global, text: &str) -> Result<Vec<u8>, AllocError>
     }
 }
 
-/// A text with such words as it stands: on one line where it has at most 200 octets, else with a line end before each run of blanks
-/// that stands between other octets.
+/// Writes a text with such words as it is: on one line if it has at most 200 octets, otherwise with a line end before each run of
+/// blanks between other octets.
 ///
 /// Time is linear in the text; lack of memory is the only error.
 pub fn written_lines(alloc: Global, text: &[u8]) -> Result<Vec<u8>, AllocError>
@@ -47,8 +47,8 @@ pub fn written_lines(alloc: Global, text: &[u8]) -> Result<Vec<u8>, AllocError>
     }
 }
 
-/// Whether `=?` stands in a text, all its octets are 32 to 126, each run has at most 200 of them, and each run with `=?` in it is a
-/// recognised word of at most 75.
+/// Whether a text contains `=?`, all its octets are from 32 to 126, each run has at most 200 of them, and each run that contains `=?`
+/// is a recognised word of at most 75.
 ///
 /// Time is linear in the text; lack of memory is the only error.
 pub fn has_written_words(alloc: Global, text: &[u8]) -> Result<bool, AllocError>
@@ -86,7 +86,7 @@ fn are_written(alloc: Global, blanks: &[u8], run: &[u8]) -> Result<bool, AllocEr
     }
 }
 
-/// Whether a run has at most 200 octets, and no `=?` or is a recognised word of at most 75 octets.
+/// Whether a run has at most 200 octets, and either contains no `=?` or is a recognised word of at most 75 octets.
 fn is_written_run(alloc: Global, run: &[u8]) -> Result<bool, AllocError>
     ensures { IfOk result (λ is. is ≡ written.is_written_run run.now) }
 {

@@ -3,11 +3,11 @@ use Rattle.std.specs.Prelude.{◌≡◌, ◌==◌, ℕ, ◌≤◌, List, [], ◌
 use Rattle.globmatch.specs.declared.pattern.Item.{Item}
 use Rattle.globmatch.specs.declared.pattern.Item.TheVariants.{Star, One, Exact}
 
--- what an octet spells that no backslash stands before: `*` is 42, `?` is 63
+-- the item that an octet spells without a backslash before it: `*` is 42, `?` is 63
 abbrev pub unquoted_item : ℕ → Item
 unquoted_item octet = if octet == 42 then Star else if octet == 63 then One else Exact octet
 
--- the items that a pattern spells: a backslash, 92, makes the next octet stand for itself, and a last lone one stands for itself
+-- the items that a pattern spells: a backslash, 92, makes the next octet stand for itself, and a lone one at the end stands for itself
 unfoldable pub items : List ℕ → List Item
 items [] = []
 items (octet ∷ []) = unquoted_item octet ∷ []
@@ -15,7 +15,7 @@ items (octet ∷ next ∷ rest) =
     if octet == 92 then Exact next ∷ items rest
     else unquoted_item octet ∷ items (next ∷ rest)
 
--- the items match the whole text: a star any run of octets, One any octet, Exact an octet of the same image
+-- the items match the whole text: a star any number of octets, One any octet, Exact an octet with the same image
 unfoldable pub Glob : (ℕ → ℕ) → List Item → List ℕ → Type 0
 Glob image [] text = text ≡ []
 Glob image (Star ∷ rest) text = (k : ℕ) × (k ≤ length text) × Glob image rest (drop k text)

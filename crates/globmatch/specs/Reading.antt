@@ -5,7 +5,7 @@ use Rattle.globmatch.specs.declared.parts.Segment.{Segment}
 use Rattle.globmatch.specs.Glob.{items}
 use Rattle.globmatch.specs.Segments.{segment_len, octet_of}
 
--- the segment's items are those from its start to the first star, and a literal one's are octets
+-- the segment's items are those from its start to the first star, and those of a literal segment are octets
 pub record IsSegment (s : Segment) : Type 0 where
   pub from : s.from ≤ s.end
   pub end : s.end ≤ length s.pattern.now

@@ -1,4 +1,4 @@
--- The items of a pattern up to the first star, and where they stand in a value.
+-- The items of a pattern up to the first star, and where they match in a value.
 use Rattle.std.specs.Prelude.{◌≡◌, ◌==◌, ℕ, Bool, true, false, zero, suc, ◌+◌, ◌<◌, ◌≤◌, List, [], ◌∷◌, length, slice_index, slice_index_or}
 use Rattle.globmatch.specs.declared.pattern.Item.{Item}
 use Rattle.globmatch.specs.declared.pattern.Item.TheVariants.{Star, One, Exact}
@@ -29,7 +29,7 @@ takes image Star x = false
 takes image One x = true
 takes image (Exact octet) x = image octet == image x
 
--- whether the item of a place takes an octet
+-- whether the item at an index takes an octet
 abbrev pub places_of : (ℕ → ℕ) → List Item → ℕ → ℕ → Bool
 places_of image is j x = takes image (slice_index_or is j Star) x
 

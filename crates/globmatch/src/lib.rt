@@ -11,13 +11,13 @@ use collation::Comparator;
 use parts::Segment;
 pub use pattern::Item;
 
-/// Whether a pattern matches the whole of `value`: `*` stands for any run of octets, `?` for one octet, a backslash
-/// makes the next octet stand for itself, and a last lone backslash stands for itself.
+/// Whether a pattern matches the whole of `value`: `*` stands for any number of octets, `?` for one octet, a backslash
+/// makes the next octet stand for itself, and a lone backslash at the end stands for itself.
 ///
-/// The items between two stars are taken at the first place where they stand; the items after the last star are
-/// compared once, at the end of the value. So the time is linear in the lengths of pattern and value, but for the
-/// segments between two stars that hold a `?` and have more than 63 items: each of these takes at most the number of its
-/// items for each octet that it moves over.
+/// The items between two stars are matched at the first place at which they fit; the items after the last star are
+/// compared once, at the end of the value. So time is linear in the lengths of pattern and value, except for the
+/// segments between two stars that contain a `?` and have more than 63 items: each of these takes at most as many comparisons
+/// as it has items for each octet that it moves over.
 pub fn matches<C: Comparator>(pattern: &[u8], value: &[u8]) -> bool
     ensures { IsTrue result ↔ Glob C.image_of (items pattern.now) value.now }
 {

@@ -18,7 +18,7 @@ pub(crate) struct Segment<'p> {
     pub(crate) from: usize,
     // The place of the star after them, or the pattern's length.
     pub(crate) end: usize,
-    // How many items there are.
+    // The number of items.
     pub(crate) count: usize,
     // Each item is one octet, and none is a `?`.
     pub(crate) literal: bool,
@@ -54,7 +54,7 @@ impl<'p> Segment<'p> {
         }
     }
 
-    // Whether the items stand in the value from place `at` on.
+    // Whether the items match the value's octets from place `at` on.
     pub(crate) fn stands_at<C: Comparator>(&self, value: &[u8], at: usize) -> bool
         requires segment { IsSegment self.now }
         requires within { at ≤ length value.now }
@@ -81,7 +81,7 @@ impl<'p> Segment<'p> {
         true
     }
 
-    // What the items take, of at most 63.
+    // The masks of at most 63 items.
     fn masks<C: Comparator>(&self) -> Masks
         requires segment { IsSegment self.now }
         requires short { self.now.count ≤ 63 }
@@ -101,7 +101,7 @@ impl<'p> Segment<'p> {
         masks
     }
 
-    // The first place of the value, from `from` on, where the items stand, of at most 63.
+    // The first place of the value, from `from` on, at which the items match, of which there are at most 63.
     fn find_short<C: Comparator>(&self, value: &[u8], from: usize) -> Option<usize>
         requires segment { IsSegment self.now }
         requires short { self.now.count ≤ 63 }
@@ -112,7 +112,7 @@ impl<'p> Segment<'p> {
         self.masks::<C>().find(value, from)
     }
 
-    // The first place of the value, from `from` on, where the items stand.
+    // The first place of the value, from `from` on, at which the items match.
     pub(crate) fn find<C: Comparator>(&self, value: &[u8], from: usize) -> Option<usize>
         requires segment { IsSegment self.now }
         requires within { from ≤ length value.now }
@@ -139,7 +139,7 @@ impl<'p> Segment<'p> {
     }
 }
 
-/// The octets of a segment's items, as the pattern spells them: a backslash before an octet is no octet of the key.
+/// The octets of a segment's items, as the pattern spells them: a backslash before an octet isn't itself an octet of the key.
 #[derive(Clone, Copy)]
 pub(crate) struct Literal<'p> {
     pattern: &'p [u8],

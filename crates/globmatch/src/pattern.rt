@@ -5,7 +5,7 @@ ghost use Rattle.globmatch.specs.Glob.{unquoted_item, items};
 /// The octet that spells a star.
 pub(crate) const ANY_RUN: u8 = b'*';
 
-/// The octet that spells one octet of any value.
+/// The octet that spells any one octet.
 pub(crate) const ANY_OCTET: u8 = b'?';
 
 /// The octet that makes the next one stand for itself.
@@ -14,9 +14,9 @@ pub(crate) const QUOTE: u8 = b'\\';
 /// An item of a pattern.
 #[derive(Clone, Copy, Debug)]
 pub enum Item {
-    /// `*`: any run of octets, the empty one too.
+    /// `*`: any number of octets, also none.
     Star,
-    /// `?`: one octet of any value.
+    /// `?`: any one octet.
     One,
     /// One octet with the image of this one.
     Exact(u8),
@@ -38,7 +38,7 @@ impl Item {
     }
 }
 
-// The item that an octet spells by itself.
+// The item that an octet spells without a backslash before it.
 #[inline(always)]
 fn unquoted(octet: u8) -> Item
     ensures { result ≡ unquoted_item octet }

@@ -17,7 +17,7 @@ pair_text name value = 32 ∷ (name ++ 61 ∷ spelled value)
 abbrev pub head_of : List ℕ → List ℕ
 head_of word = codes "sieved: " ++ word
 
--- pairs that join one by one
+-- a line with these pairs appended one by one
 abbrev pub joined : List ℕ → List Pair → List ℕ
 joined front [] = front
 joined front (p ∷ pairs) = joined (front ++ pair_text p.name p.value) pairs
@@ -29,15 +29,15 @@ abbrev pub names_of : List Pair → List (List ℕ)
 names_of [] = []
 names_of (p ∷ pairs) = p.name ∷ names_of pairs
 
--- names are visible, and values of octets
+-- the names are visible, and the values are octets
 abbrev pub are_right : List Pair → Bool
 are_right [] = true
 are_right (p ∷ pairs) = list_all is_visible p.name && (list_all is_octet p.value && are_right pairs)
 
--- seen, or a blank
+-- visible, or SP
 abbrev pub is_printed : ℕ → Bool
 is_printed octet = is_between 32 126 octet
 
--- a text without LF or any other control octet, and LF
+-- a text without LF and without any other control octet, and then LF
 abbrev pub IsOneLine : List ℕ → Type 0
 IsOneLine line = (text : List ℕ) × (line ≡ text ++ 10 ∷ []) × (list_all is_printed text ≡ true)

@@ -12,17 +12,17 @@ bounds =
 abbrev pub bound_of : ℕ → ℕ
 bound_of slot = slice_index_or bounds slot 0
 
--- the slot of a time: it is longer than those before hold, and no longer than this one holds; the last holds all that are longer, too
+-- the slot of a time: the time is longer than the bounds of the slots before, and no longer than this one's; the last slot has all longer times, too
 pub record IsSlotOf (micros slot : ℕ) : Type 0 where
   pub is : slot < 32
   pub longer : (before : ℕ) → before < slot → bound_of before < micros
   pub fits : slot < 31 → micros ≤ bound_of slot
 
--- how many were counted up to a slot, with it
+-- how many were counted up to and including a slot
 abbrev pub up_to : List ℕ → ℕ → ℕ
 up_to counts slot = sum (take (slot + 1) counts)
 
--- the first slot up to which so many were counted; else the last
+-- the first slot up to which that many were counted; if there is none, the last
 pub record IsFirstWith (counts : List ℕ) (wanted slot : ℕ) : Type 0 where
   pub is : slot < 32
   pub fewer : (before : ℕ) → before < slot → up_to counts before < wanted
@@ -39,7 +39,7 @@ pub record HasNone (times : Times) : Type 0 where
   pub counts : (slot : ℕ) → slice_index_or times.counts slot 0 ≡ 0
   pub total : times.total ≡ 0
 
--- an event of such a time is counted in its slot, and in no other
+-- an event that took this time is counted in its slot, and in no other
 pub record Counts (micros : ℕ) (old new : Times) : Type 0 where
   pub slot : ℕ
   pub is : IsSlotOf micros slot
@@ -47,11 +47,11 @@ pub record Counts (micros : ℕ) (old new : Times) : Type 0 where
   pub elsewhere : (other : ℕ) → other ≢ slot → slice_index_or new.counts other 0 ≡ slice_index_or old.counts other 0
   pub total : new.total ≡ one_more old.total
 
--- of so many events so many of a hundred, a part counted as a whole
+-- that percentage of a number of events, rounded up
 abbrev pub part_of : ℕ → ℕ → ℕ
 part_of total percent = div_ceil (total * percent) 100
 
--- the bound of the first slot up to which that many events were counted; 0 where there were none
+-- the bound of the first slot up to which that many events were counted; 0 if there were none
 abbrev pub IsWithinOf : Bool → Times → ℕ → ℕ → Type 0
 IsWithinOf true times percent micros = micros ≡ 0
 IsWithinOf false times percent micros = (slot : ℕ) × IsFirstWith times.counts (part_of times.total percent) slot × (micros ≡ bound_of slot)

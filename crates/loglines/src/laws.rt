@@ -4,17 +4,17 @@ ghost use Rattle.std.specs.List.{list_all};
 ghost use Rattle.loglines.specs.Values.{is_octet, is_visible, spelled};
 ghost use Rattle.loglines.specs.Lines.{Pair, names_of, are_right, line_of, IsOneLine};
 
-/// A value has no blank, no LF and no other control octet where it stands in a line.
+/// A value as it is written in a line has no blank, no LF and no other control octet.
 pub fn visible_values()
     ensures { (value : List ℕ) → list_all is_octet value ≡ true → list_all is_visible (spelled value) ≡ true }
 {}
 
-/// A line is one line, whatever its values have.
+/// A line is one line, whatever its values contain.
 pub fn one_line()
     ensures { (word : List ℕ) → (pairs : List Pair) → list_all is_visible word ≡ true → are_right pairs ≡ true → IsOneLine (line_of word pairs) }
 {}
 
-/// Two lines of the same names that read alike have the same values: so no value forges another, or another pair.
+/// Two lines with the same names that read alike have the same values: so no value forges another value, or another pair.
 pub fn one_reading()
     ensures { (word : List ℕ) → (pairs others : List Pair) → are_right pairs ≡ true → are_right others ≡ true → names_of pairs ≡ names_of others
         → line_of word pairs ≡ line_of word others → pairs ≡ others }

@@ -1,4 +1,4 @@
-//! Lines of a log that no value forges, and a tally of what happened.
+//! Log lines that no value can forge, and a tally of what happened.
 #![tactic(auto)]
 
 pub mod laws;

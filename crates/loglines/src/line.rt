@@ -1,4 +1,4 @@
-//! A line, from its front to its end.
+//! A line, from its beginning to its end.
 ghost use Rattle.std.specs.Prelude.{◌≡◌, ◌++◌, ◌∷◌, [], IfOk, OnOk, decimal};
 ghost use Rattle.loglines.specs.Lines.{head_of, pair_text};
 
@@ -6,7 +6,7 @@ use crate::value::add_value;
 use octets::{Octets, write_decimal};
 use std::alloc::{AllocError, Global};
 
-/// The front of a line: `sieved: ` and a word.
+/// Begins a line: `sieved: ` and a word.
 pub fn begin(alloc: Global, word: &[u8]) -> Result<Octets, AllocError>
     ensures { IfOk result (λ line. line ≡ head_of word.now) }
 {
@@ -20,7 +20,7 @@ pub fn begin(alloc: Global, word: &[u8]) -> Result<Octets, AllocError>
 ///
 /// # Errors
 ///
-/// Lack of memory; some of it may be there then.
+/// Lack of memory; a part of it may have been appended then.
 pub fn add_pair(line: &mut Octets, name: &[u8], value: &[u8]) -> Result<(), AllocError>
     ensures { OnOk result (line.new ≡ line.old ++ pair_text name.now value.now) }
 {
@@ -30,11 +30,11 @@ pub fn add_pair(line: &mut Octets, name: &[u8], value: &[u8]) -> Result<(), Allo
     add_value(line, value)
 }
 
-/// The same of a number, in decimal.
+/// Appends a blank, a name, `=` and a number in decimal.
 ///
 /// # Errors
 ///
-/// Lack of memory; some of it may be there then.
+/// Lack of memory; a part of it may have been appended then.
 pub fn add_number(
     line: &mut Octets,
     alloc: Global,
@@ -48,7 +48,7 @@ pub fn add_number(
     add_pair(line, name, digits.as_slice())
 }
 
-/// Ends a line.
+/// Ends a line: appends LF.
 ///
 /// # Errors
 ///

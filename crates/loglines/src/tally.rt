@@ -8,14 +8,14 @@ use crate::times::Times;
 use octets::Octets;
 use std::alloc::{AllocError, Global};
 
-/// How often it happened.
+/// How often each event happened.
 #[derive(Clone, Copy, Debug, PartialEq, Eq)]
 pub struct Counts {
     /// Messages that were delivered, one for each recipient.
     pub delivered: u64,
     /// Messages that were refused, one for each recipient.
     pub refused: u64,
-    /// Messages that moved on.
+    /// Messages that were moved on.
     pub moved: u64,
     /// Logins that failed.
     pub logins_failed: u64,
@@ -49,7 +49,7 @@ impl Counts {
     }
 }
 
-/// What happened, and how long it took. It has one size, whatever comes.
+/// What happened, and how long it took. Its size is constant, whatever happens.
 #[derive(Drop)]
 pub struct Tally {
     pub counts: Counts,
@@ -68,7 +68,7 @@ impl Tally {
     }
 }
 
-/// The line `status`: each count, and how many microseconds half of the events took that asked the store, and 99 of a hundred.
+/// The line `status`: each count, and within how many microseconds half of the events that asked the store, and 99 of a hundred, were done.
 ///
 /// # Errors
 ///

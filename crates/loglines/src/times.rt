@@ -1,18 +1,18 @@
 //! How long events took.
 ghost use Rattle.loglines.specs.Times.{IsSlotOf, IsFirstWith, IsWithin, HasNone, Counts};
 
-/// The longest time of each slot, in microseconds; the last has all that took longer, too.
+/// The longest time of each slot, in microseconds; the last slot also counts all that took longer.
 const BOUNDS: [u64; 32] = [
     10, 20, 30, 50, 70, 100, 150, 200, 300, 500, 700, 1000, 1500, 2000, 3000, 5000, 7000, 10000,
     15000, 20000, 30000, 50000, 70000, 100000, 150000, 200000, 300000, 500000, 1000000, 2000000,
     5000000, 60000000,
 ];
 
-/// How many events took how long: 32 counts, whatever comes.
+/// A histogram of how long events took: 32 counts, whatever happens.
 #[derive(Drop)]
 pub struct Times {
     counts: [u32; 32],
-    /// How many events there were.
+    /// The number of events.
     total: u32,
 }
 
@@ -27,7 +27,7 @@ impl Times {
         }
     }
 
-    /// One event took so many microseconds. Counts end at the greatest number of 32 bits.
+    /// Notes an event that took that many microseconds. Counts saturate at the greatest number of 32 bits.
     pub fn note(&mut self, micros: u64)
         ensures { Counts micros self.old self.new }
     {
@@ -36,8 +36,8 @@ impl Times {
         self.total = self.total.saturating_add(1);
     }
 
-    /// The bound, in microseconds, of the first slot up to which so many of a hundred events were counted; the last slot has all longer
-    /// ones, too. 0 where there were none.
+    /// The bound, in microseconds, of the first slot up to which that percentage of the events was counted; the last slot also counts all
+    /// longer ones. 0 if there were no events.
     pub fn within(&self, percent: u32) -> u64
         ensures { IsWithin self.now percent result }
     {
@@ -49,7 +49,7 @@ impl Times {
     }
 }
 
-/// The first slot whose bound isn't below; else the last.
+/// The first slot whose bound isn't below the time; if there is none, the last.
 fn slot_of(micros: u64) -> usize
     ensures { IsSlotOf micros result }
 {
@@ -61,7 +61,7 @@ fn slot_of(micros: u64) -> usize
     31
 }
 
-/// The first slot up to which so many were counted; else the last.
+/// The first slot up to which that many events were counted; if there is none, the last.
 fn slot_at(counts: &[u32; 32], wanted: u64) -> usize
     ensures { IsFirstWith counts.now wanted result }
 {

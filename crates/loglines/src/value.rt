@@ -1,4 +1,4 @@
-//! How a value stands in a line.
+//! How a value is written in a line.
 ghost use Rattle.std.specs.Prelude.{◌≡◌, ◌<◌, ◌++◌, OnOk};
 ghost use Rattle.std.specs.List.{list_all};
 ghost use Rattle.loglines.specs.Values.{digit_of, escaped_octet, escaped, spelled};
@@ -7,12 +7,12 @@ ghost use Rattle.loglines.specs.Values as values;
 use octets::Octets;
 use std::alloc::AllocError;
 
-/// Appends a value: as it is where it has letters, digits and `+-./<>@_~` alone, and is not empty; else in quotation marks, each
-/// other octet as `\xHH`. Four times its octets and two at most, in one pass.
+/// Appends a value: as it is if it isn't empty and has only letters, digits and `+-./<>@_~`; otherwise in quotation marks, with each
+/// other octet as `\xHH`. At most four times its octets and two, in one pass.
 ///
 /// # Errors
 ///
-/// Lack of memory; some of it may be there then.
+/// Lack of memory; a part of it may have been appended then.
 pub fn add_value(line: &mut Octets, value: &[u8]) -> Result<(), AllocError>
     ensures { OnOk result (line.new ≡ line.old ++ spelled value.now) }
 {
@@ -24,7 +24,7 @@ pub fn add_value(line: &mut Octets, value: &[u8]) -> Result<(), AllocError>
     line.push(b'"')
 }
 
-/// Whether it stands without quotation marks.
+/// Whether the value is written without quotation marks.
 fn is_bare(value: &[u8]) -> bool
     ensures { result ≡ values.is_bare value.now }
 {
@@ -84,7 +84,7 @@ fn is_between(low: u8, high: u8, octet: u8) -> bool
     low <= octet && octet <= high
 }
 
-/// A digit of base 16.
+/// A hexadecimal digit, in upper case.
 fn digit(value: u8) -> u8
     requires { value < 16 }
     ensures { result ≡ digit_of value }

@@ -1,4 +1,4 @@
--- Which front of a message has all of its header.
+-- Which prefix of a message contains its whole header.
 use Rattle.std.specs.Prelude.{◌≡◌, ℕ, Bool, IsTrue, List, ◌++◌}
 use Rattle.std.specs.List.{list_any}
 use Rattle.mailhead.specs.Lines.{lines_of, is_empty_line}
@@ -7,7 +7,7 @@ use Rattle.mailhead.specs.Lines.{lines_of, is_empty_line}
 abbrev pub has_empty_line : List ℕ → Bool
 has_empty_line text = list_any is_empty_line (lines_of text)
 
--- a front of a message that has an empty line, which ends the header
+-- a prefix of a message that has an empty line, which ends the header
 pub record HasHeaderOf (front message : List ℕ) : Type 0 where
   pub rest : List ℕ
   pub spelled : message ≡ front ++ rest

@@ -3,7 +3,7 @@ use Rattle.std.specs.Prelude.{◌≡◌, ℕ, List, [], ◌∷◌}
 use Rattle.mailhead.specs.Heads.{size_of}
 use Rattle.mailfronts.specs.declared.size.SizeCount.{SizeCount}
 
--- the last octet of a text, or the one before it where the text is empty
+-- the last octet of a text, or if the text is empty the one before it
 abbrev pub last_after : ℕ → List ℕ → ℕ
 last_after before [] = before
 last_after before (octet ∷ rest) = last_after octet rest

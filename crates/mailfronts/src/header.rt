@@ -1,11 +1,12 @@
-//! Whether a front of a message has its header.
+//! Whether a prefix of a message contains its header.
 ghost use Rattle.std.specs.Prelude.{◌≡◌, nat_lt};
 ghost use Rattle.mailhead.specs.Heads.{body_start};
 ghost use Rattle.mailfronts.specs.Fronts as fronts;
 
 use mailhead::{after_empty_line, first_line};
 
-/// Whether some line of a text is empty: then it has all the header of a message that begins with it (`laws::fields_of_a_front`).
+/// Whether some line of a text is empty: then it contains the whole header of any message that begins with it
+/// (`laws::fields_of_a_front`).
 ///
 /// One pass up to that line; takes no memory.
 pub fn has_empty_line(text: &[u8]) -> bool
@@ -21,10 +22,10 @@ pub fn has_empty_line(text: &[u8]) -> bool
     false
 }
 
-/// Whether the header of a message, with the empty line that ends it, has more than so many octets; where no line is empty, all of the
+/// Whether the header of a message, including the empty line that ends it, has more than `most` octets; if no line is empty, the whole
 /// message is its header.
 ///
-/// One pass over so many octets at most, whatever the message has; takes no memory.
+/// One pass over at most that many octets, however long the message is; takes no memory.
 pub fn is_header_longer(message: &[u8], most: usize) -> bool
     ensures { result ≡ nat_lt most (body_start message.now) }
 {

@@ -1,4 +1,4 @@
-//! A message of which a front is kept: which front has its header, and a size that is counted in pieces.
+//! A message of which only a prefix is kept: which prefix contains its header, and a size that is counted piece by piece.
 #![tactic(auto)]
 
 mod header;

@@ -8,10 +8,10 @@ ghost use Rattle.mailfronts.specs.Sizes.{CountsSize};
 
 /// Line feed.
 const LF: u8 = b'\n';
-/// Carriage return: an LF right behind one is counted once.
+/// Carriage return: an LF right after one is counted once.
 const CR: u8 = b'\r';
 
-/// How far the last octets of two neighbouring blocks lie apart. What a block counts fits an octet,
+/// The distance between the last octets of two neighbouring blocks. The count of a block fits in one octet,
 /// so that many octets are counted at once.
 const STEP: usize = 240;
 
@@ -23,7 +23,7 @@ pub struct SizeCount {
 }
 
 impl SizeCount {
-    /// The count of what came at first.
+    /// The count of the first piece.
     pub fn of(text: &[u8]) -> SizeCount
         ensures counts { CountsSize text.now result }
         ensures within { result.size ≤ 2 * length text.now }
@@ -34,7 +34,7 @@ impl SizeCount {
         }
     }
 
-    /// The count with one piece more. One pass over the piece.
+    /// The count with one more piece. One pass over the piece.
     pub fn with(self, piece: &[u8]) -> SizeCount
         requires { self.size + 2 * length piece.now < 2 ^ 64 }
         ensures counts { (came : List ℕ) → CountsSize came self → CountsSize (came ++ piece.now) result }
@@ -55,7 +55,7 @@ impl SizeCount {
     }
 }
 
-/// The last octet of a text, or the one before it where the text is empty.
+/// The last octet of a text, or if the text is empty the one before it.
 fn last_after(before: u8, text: &[u8]) -> u8
     ensures { result ≡ sizes.last_after before text.now }
 {
@@ -65,7 +65,7 @@ fn last_after(before: u8, text: &[u8]) -> u8
     }
 }
 
-/// What a piece of a message adds to its size behind this octet: its octets, and one more for each LF without CR right before it.
+/// What a piece of a message adds to its size after this octet: its octets, and one more for each LF without CR right before it.
 fn size_after(before: u8, piece: &[u8]) -> u64
     ensures size { result ≡ heads.size_after before piece.now }
     ensures within { result ≤ 2 * length piece.now }
@@ -73,7 +73,7 @@ fn size_after(before: u8, piece: &[u8]) -> u64
     piece.len() as u64 + bare_feeds(before, piece)
 }
 
-/// How many LFs of a piece have no CR right before them, where this octet stands before it.
+/// How many LFs of a piece have no CR right before them, if this octet precedes the piece.
 fn bare_feeds(before: u8, piece: &[u8]) -> u64
     ensures value { result ≡ bare_after before piece.now }
     ensures within { result ≤ length piece.now }

@@ -5,7 +5,7 @@ use Rattle.octets.specs.Ascii.{is_blank}
 use Rattle.mailhead.specs.Lines.{without_end}
 use Rattle.mailhead.specs.declared.header.Field.{Field}
 
--- 33 to 126 without colon
+-- 33 to 126 other than the colon
 abbrev pub is_name : ℕ → Bool
 is_name octet = nat_le 33 octet && (nat_le octet 126 && not (octet == 58))
 
@@ -24,7 +24,7 @@ pub record IsField (line : List ℕ) (field : FieldText) : Type 0 where
   pub blank_octets : list_all is_blank blanks ≡ true
   pub value : field.raw ≡ without_end after
 
--- what follows a colon, where there is one
+-- what follows a colon, if there is one
 abbrev pub after_colon : List ℕ → Option (List ℕ)
 after_colon [] = None
 after_colon (octet ∷ rest) = cond (octet == 58) (Some rest) None

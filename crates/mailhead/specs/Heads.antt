@@ -1,4 +1,4 @@
--- A message's fields, where they stand, its body, its size, and unfolding (RFC 5322, section 2.2).
+-- A message's fields and their places, its body, its size, and unfolding (RFC 5322, section 2.2).
 use Rattle.std.specs.Prelude.{ℕ, ◌+◌, ◌-◌, ◌==◌, cond, ◌&&◌, not, List, [], ◌∷◌, ◌++◌, length, Option, None, Some, filter_map, slice_range}
 use Rattle.std.specs.List.{concat}
 use Rattle.mailhead.specs.Lines.{is_feed, lines_of, goes_on, logical_lines, header_lines, body_lines, end_len, without_end}
@@ -16,7 +16,7 @@ fields_of message = filter_map field_of (header_of message)
 abbrev pub body_of : List ℕ → List ℕ
 body_of message = concat (body_lines (lines_of message))
 
--- how many octets, each LF without CR right before it counted twice, after this octet
+-- how many octets follow this one, each LF without CR right before it counted twice
 abbrev pub size_after : ℕ → List ℕ → ℕ
 size_after before [] = 0
 size_after before (octet ∷ rest) = cond (is_feed octet && not (before == 13)) 2 1 + size_after octet rest
@@ -34,14 +34,14 @@ joined (line ∷ more) = cond (goes_on more) (without_end line) line ++ joined m
 abbrev pub unfold_of : List ℕ → List ℕ
 unfold_of raw = joined (lines_of raw)
 
--- where the two parts of a field stand, from octet to octet, counted from the first one of the message
+-- the ranges of the two parts of a field, in octets counted from the first one of the message
 pub record FieldPlace : Type 0 where
   pub name_start : ℕ
   pub name_end : ℕ
   pub raw_start : ℕ
   pub raw_end : ℕ
 
--- the name stands first in its line, and the raw value right before the last line end
+-- the name is first in its line, and the raw value is right before the last line end
 abbrev pub place_in : ℕ → List ℕ → FieldText → FieldPlace
 place_in start line field =
     let end = start + (length line - end_len line) in
@@ -57,7 +57,7 @@ abbrev pub with_place : ℕ → List ℕ → Option FieldText → List FieldPlac
 with_place start line None others = others
 with_place start line (Some field) others = place_in start line field ∷ others
 
--- the places of the fields among logical lines of which the first starts here
+-- the places of the fields among logical lines, the first of which starts here
 abbrev pub places_from : ℕ → List (List ℕ) → List FieldPlace
 places_from start [] = []
 places_from start (line ∷ more) = with_place start line (field_of line) (places_from (start + length line) more)

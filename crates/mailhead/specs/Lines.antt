@@ -11,7 +11,7 @@ is_feed octet = octet == 10
 abbrev pub is_other : ℕ → Bool
 is_other octet = not (is_feed octet)
 
--- a text that ends at its only LF
+-- a text whose only LF is its last octet
 pub record IsEnded (line : List ℕ) : Type 0 where
   pub text : List ℕ
   pub spelled : line ≡ text ++ 10 ∷ []
@@ -28,7 +28,7 @@ AreLines [] text = text ≡ []
 AreLines (line ∷ more) text =
     (rest : List ℕ) × ((text ≡ line ++ rest) × ((IsEnded line ⊎ (IsOpen line × (rest ≡ []))) × AreLines more rest))
 
--- an octet at the front of the first of these lines
+-- these lines with an octet put before the first of them
 abbrev pub at_front : ℕ → List (List ℕ) → List (List ℕ)
 at_front octet [] = (octet ∷ []) ∷ []
 at_front octet (line ∷ more) = (octet ∷ line) ∷ more
@@ -48,7 +48,7 @@ abbrev pub goes_on : List (List ℕ) → Bool
 goes_on [] = false
 goes_on (line ∷ more) = begins_blank line
 
--- a line's octets before those of the first of these texts
+-- these texts with a line put before the first of them
 abbrev pub onto_first : List ℕ → List (List ℕ) → List (List ℕ)
 onto_first line [] = line ∷ []
 onto_first line (next ∷ more) = (line ++ next) ∷ more
@@ -58,7 +58,7 @@ abbrev pub logical_lines : List (List ℕ) → List (List ℕ)
 logical_lines [] = []
 logical_lines (line ∷ more) = cond (goes_on more) (onto_first line (logical_lines more)) (line ∷ logical_lines more)
 
--- LF or CRLF alone
+-- LF or CRLF and nothing else
 abbrev pub is_empty_line : List ℕ → Bool
 is_empty_line [] = false
 is_empty_line (octet ∷ []) = octet == 10
@@ -75,11 +75,11 @@ abbrev pub body_lines : List (List ℕ) → List (List ℕ)
 body_lines [] = []
 body_lines (line ∷ more) = cond (is_empty_line line) more (body_lines more)
 
--- CR is not the last octet
+-- the last octet isn't CR
 abbrev pub EndsBare : List ℕ → Type 0
 EndsBare text = (front : List ℕ) → text ≢ front ++ 13 ∷ []
 
--- LF is not the last octet
+-- the last octet isn't LF
 abbrev pub IsUnended : List ℕ → Type 0
 IsUnended text = (front : List ℕ) → text ≢ front ++ 10 ∷ []
 

@@ -6,12 +6,12 @@ use Rattle.mailhead.specs.Lines.{is_feed}
 abbrev pub bare_at : ℕ → ℕ → ℕ
 bare_at before octet = cond (is_feed octet && not (before == 13)) 1 0
 
--- how many LFs without CR right before them stand after this octet
+-- how many LFs without CR right before them follow this octet
 abbrev pub bare_after : ℕ → List ℕ → ℕ
 bare_after before [] = 0
 bare_after before (octet ∷ rest) = bare_at before octet + bare_after octet rest
 
--- how many stand in a block after its first octet
+-- how many there are in a block after its first octet
 abbrev pub bare_in : List ℕ → ℕ
 bare_in [] = 0
 bare_in (octet ∷ rest) = bare_after octet rest

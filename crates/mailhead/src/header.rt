@@ -7,10 +7,10 @@ ghost use Rattle.mailhead.specs.Fields as fields;
 use crate::line::without_end;
 use octets::is_blank;
 
-/// A header field, in octets of the message that it was read from (RFC 5322, section 2.2).
+/// A header field: octets borrowed from the message that it was read from (RFC 5322, section 2.2).
 #[derive(Clone, Copy)]
 pub struct Field<'a> {
-    /// The name as written: one or more octets 33 to 126 without colon.
+    /// The name as written: one or more octets 33 to 126 other than the colon.
     pub name: &'a [u8],
     /// The value as written: all that follows the colon, without the last line end.
     pub raw: &'a [u8],

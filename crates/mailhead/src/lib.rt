@@ -1,6 +1,6 @@
 //! The head of an internet message: its header fields, its body and its size (RFC 5322, section 2.2).
 //!
-//! A message is any list of octets. Nothing is refused: what is no field is passed over.
+//! A message is any list of octets. Nothing is refused: what isn't a field is skipped.
 #![tactic(auto)]
 
 mod header;

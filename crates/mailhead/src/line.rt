@@ -9,7 +9,7 @@ use octets::is_blank;
 /// Line feed: each line ends with it.
 pub(crate) const LF: u8 = b'\n';
 
-/// Carriage return: right before a line feed it belongs to the line end.
+/// Carriage return: right before a line feed it is part of the line end.
 pub(crate) const CR: u8 = b'\r';
 
 /// Whether a text begins with a space or a tab.

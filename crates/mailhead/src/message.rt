@@ -12,7 +12,7 @@ use crate::size;
 use std::alloc::{AllocError, Global};
 use std::marker::Model;
 
-/// A message with its header read. It borrows the message and copies nothing of it; beside that it
+/// A message whose header has been read. It borrows the message and copies nothing of it; besides that it
 /// holds one `Field` for each field. Contracts see the message.
 #[derive(Drop)]
 pub struct Head<'a> {
@@ -47,14 +47,14 @@ impl<'a> Head<'a> {
         })
     }
 
-    /// The fields, in order: each logical line that is one. Other lines are passed over.
+    /// The fields, in order: each logical line that is one. Other lines are skipped.
     pub fn fields(&self) -> &[Field<'a>]
         ensures { texts_of result.now ≡ fields_of self.now }
     {
         self.fields.as_slice()
     }
 
-    /// What follows the first empty line; empty where there is none.
+    /// What follows the first empty line; empty if there is none.
     pub fn body(&self) -> &'a [u8]
         ensures { result.now ≡ body_of self.now }
     {
@@ -96,7 +96,7 @@ fn read_header(alloc: Global, message: &[u8]) -> Result<(Vec<Field<'_>>, &[u8]),
     Ok((fields, rest))
 }
 
-/// What follows an empty line at the front, if there is one.
+/// What follows an empty line at the beginning of a text, if there is one.
 pub fn after_empty_line(text: &[u8]) -> Option<&[u8]>
     ensures { option_copied result ≡ after_empty (lines_of text.now) }
 {

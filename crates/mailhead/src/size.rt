@@ -5,7 +5,7 @@ ghost use Rattle.mailhead.specs.Sizes.{bare_after, bare_in};
 
 use crate::line::{CR, LF};
 
-/// How far the last octets of two neighbouring blocks lie apart. What a block counts fits an octet,
+/// The distance between the last octets of two neighbouring blocks. The count of a block fits in one octet,
 /// so that many octets are counted at once.
 const STEP: usize = 240;
 

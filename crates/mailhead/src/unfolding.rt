@@ -5,7 +5,7 @@ ghost use Rattle.mailhead.specs.Heads.{unfold_of};
 use crate::line::{begins_blank, first_line, without_end};
 use std::alloc::{AllocError, Global};
 
-/// A raw value without each line end that a space or a tab follows: the value on one line, as a
+/// Unfolds a raw value: removes each line end that a space or a tab follows. The result is the value on one line, as a
 /// test or an address parser reads it.
 ///
 /// One pass, and one reservation of as many octets as `raw` has.

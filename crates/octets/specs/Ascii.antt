@@ -18,11 +18,11 @@ is_digit octet = is_ascii_digit octet
 abbrev pub is_printable : ℕ → Bool
 is_printable octet = nat_le 32 octet && nat_le octet 126
 
--- the text with A to Z written a to z
+-- the text with A to Z written as a to z
 abbrev pub lowered : List ℕ → List ℕ
 lowered text = map to_ascii_lowercase text
 
--- the text without the blanks at its front
+-- the text without the blanks at its beginning
 abbrev pub trim_front : List ℕ → List ℕ
 trim_front [] = []
 trim_front (octet ∷ rest) = cond (is_blank octet) (trim_front rest) (octet ∷ rest)

@@ -26,7 +26,7 @@ pub fn is_printable(octet: u8) -> bool
     32 <= octet && octet <= 126
 }
 
-/// The text with A to Z written a to z, in one pass.
+/// Returns the text with A to Z written as a to z, in one pass.
 pub fn lowered(alloc: Global, text: &[u8]) -> Result<Octets, AllocError>
     ensures { IfOk result (λ folded. folded ≡ ascii.lowered text.now) }
 {
@@ -35,7 +35,7 @@ pub fn lowered(alloc: Global, text: &[u8]) -> Result<Octets, AllocError>
     Ok(Octets::from_vec(folded))
 }
 
-/// The part of the text without the blanks at its ends. Looks at those blanks alone.
+/// Returns the text without the blanks at its ends. Looks only at those blanks.
 pub fn trim_blanks(text: &[u8]) -> &[u8]
     ensures { result.now ≡ ascii.trimmed text.now }
 {

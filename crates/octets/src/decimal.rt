@@ -6,7 +6,7 @@ use crate::string::Octets;
 use itoa::Buffer;
 use std::alloc::AllocError;
 
-/// Appends the number in decimal, without zeros in front. At most 20 octets.
+/// Appends the number in decimal, without leading zeros: at most 20 octets.
 pub fn write_decimal(out: &mut Octets, number: u64) -> Result<(), AllocError>
     ensures ok { OnOk result (out.new ≡ out.old ++ decimal number) }
     ensures err { OnErr result (out.new ≡ out.old) }
@@ -15,8 +15,8 @@ pub fn write_decimal(out: &mut Octets, number: u64) -> Result<(), AllocError>
     out.extend_from_slice(buffer.format(number).as_bytes())
 }
 
-/// The number that the text writes in decimal: digits alone, zeros in front taken, no sign; none where
-/// the text is no such thing or the number is 2^64 or more. One pass.
+/// Parses a text of decimal digits, without a sign; leading zeros are accepted. `None` if the text is anything else or the number
+/// is 2^64 or more. One pass.
 pub fn parse_decimal(text: &[u8]) -> Option<u64>
     ensures { MatchOption result ((n : ℕ) → n < 2 ^ 64 → Writes text.now n → ⊥) (λ n. Writes text.now n) }
 {

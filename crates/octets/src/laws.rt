@@ -3,7 +3,7 @@ ghost use Rattle.std.specs.Prelude.{◌≡◌, ℕ, List};
 ghost use Rattle.octets.specs.Ascii.{trimmed};
 ghost use Rattle.octets.specs.Trimming.{Trims};
 
-/// A text is blanks, one text that neither begins nor ends with a blank, and blanks.
+/// A text consists of blanks, a text that neither begins nor ends with a blank, and blanks; the one in the middle is unique.
 pub fn blanks_at_the_ends()
     ensures found { (text : List ℕ) → Trims text (trimmed text) }
     ensures only { (text kept : List ℕ) → Trims text kept → kept ≡ trimmed text }

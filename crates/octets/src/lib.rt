@@ -1,6 +1,6 @@
 //! Text as octets: the small types and words that the crates of the workspace share.
 //!
-//! Nothing here knows of mail. A text is a list of octets, and contracts see it so.
+//! Nothing here knows about mail. A text is a list of octets, and that is what contracts see.
 #![tactic(auto)]
 
 pub mod ascii;

@@ -6,8 +6,8 @@ use std::alloc::{AllocError, Global};
 use std::fmt;
 use std::marker::Model;
 
-/// A list of what the crates of the workspace make types of: texts, lines, addresses. Contracts see the list of its
-/// items, without the vector's room.
+/// A list of the values that the crates of the workspace deal in: texts, lines, addresses. Contracts see the list of its
+/// items, without the vector's capacity.
 #[derive(Drop)]
 pub struct List<T> {
     items: Vec<T>,
@@ -56,7 +56,7 @@ impl<T: Drop> List<T> {
         self.items.as_slice()
     }
 
-    /// How many items.
+    /// The number of items.
     pub fn len(&self) -> usize
         ensures { result ≡ length self.now }
     {
@@ -69,7 +69,7 @@ impl<T: Drop> List<T> {
         self.items.is_empty()
     }
 
-    /// Appends one item, in constant time but for growth; without memory the list stays, and the item is dropped.
+    /// Appends one item, in amortised constant time. If there is no memory, the list stays as it was and the item is dropped.
     pub fn push(&mut self, item: T) -> Result<(), AllocError>
         ensures ok { OnOk result (self.new ≡ self.old ++ item ∷ []) }
         ensures err { OnErr result (self.new ≡ self.old) }

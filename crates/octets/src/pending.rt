@@ -1,16 +1,16 @@
-//! Octets that wait in their order.
+//! Octets that wait in order: a queue of octets.
 ghost use Rattle.std.specs.Prelude.{◌≡◌, ◌↔◌, ◌≤◌, ◌++◌, [], length, drop, IsTrue, OnOk, OnErr};
 
 use crate::string::Octets;
 use std::alloc::{AllocError, Global};
 use std::marker::Model;
 
-/// Octets that join at the end and are taken off in front. Contracts see those that are not yet taken off.
+/// A queue of octets: they are appended at the end and taken off at the front. Contracts see those that are not yet taken off.
 ///
-/// Taking off moves nothing: where the others begin is kept as a place. The others are moved to the front when a piece
-/// comes and no more of them are left than were taken off, so each octet is moved at most as often as one was taken
-/// off, and time is linear in all that comes. No more than twice the octets that wait and the newest piece is held, but
-/// for the room that the vector keeps.
+/// Taking off moves nothing: the index at which the others begin is kept. The others are moved to the front when a piece
+/// comes and no more of them are left than were taken off, so there are at most as many moves of an octet as octets were
+/// taken off, and time is linear in all that comes. At most twice the octets that wait and the newest piece are held, apart
+/// from the vector's spare capacity.
 #[derive(Drop)]
 pub struct Pending {
     octets: Vec<u8>,
@@ -55,7 +55,7 @@ impl Pending {
         &self.octets.as_slice()[self.start..]
     }
 
-    /// How many octets wait.
+    /// The number of octets that wait.
     pub fn len(&self) -> usize
         ensures { result ≡ length self.now }
     {
@@ -68,7 +68,7 @@ impl Pending {
         self.as_slice().is_empty()
     }
 
-    /// A piece joins at the end; without memory nothing does.
+    /// Appends a piece at the end. If there is no memory, nothing changes.
     pub fn extend_from_slice(&mut self, piece: &[u8]) -> Result<(), AllocError>
         ensures ok { OnOk result (self.new ≡ self.old ++ piece.now) }
         ensures err { OnErr result (self.new ≡ self.old) }
@@ -77,7 +77,7 @@ impl Pending {
         self.octets.extend_from_slice(piece)
     }
 
-    /// That many octets are taken off. Takes no memory, and constant time.
+    /// Takes that many octets off the front. Takes no memory, and constant time.
     pub fn drop_front(&mut self, count: usize)
         requires { count ≤ length self.old }
         ensures { self.new ≡ drop count self.old }
@@ -85,7 +85,7 @@ impl Pending {
         self.start += count;
     }
 
-    // Moves the octets to the front, where no more are left than were taken off.
+    // Moves the octets to the front if no more are left than were taken off.
     fn move_down(&mut self)
         ensures { self.new ≡ self.old }
     {

@@ -63,7 +63,7 @@ impl Octets {
         self.items.as_slice()
     }
 
-    /// How many octets.
+    /// The number of octets.
     pub fn len(&self) -> usize
         ensures { result ≡ length self.now }
     {
@@ -76,7 +76,7 @@ impl Octets {
         self.items.is_empty()
     }
 
-    /// Appends one octet, in constant time but for growth.
+    /// Appends one octet, in amortised constant time.
     pub fn push(&mut self, octet: u8) -> Result<(), AllocError>
         ensures ok { OnOk result (self.new ≡ self.old ++ octet ∷ []) }
         ensures err { OnErr result (self.new ≡ self.old) }
@@ -93,7 +93,7 @@ impl Octets {
         self.items.extend_from_slice(more)
     }
 
-    /// Asks for room for that many octets more. The text stays as it was.
+    /// Reserves room for that many more octets. The text stays as it was.
     pub fn reserve(&mut self, more: usize) -> Result<(), AllocError>
         ensures { self.new ≡ self.old }
     {
@@ -132,7 +132,7 @@ impl PartialOrd for Octets {
     }
 }
 
-/// By octets, the shorter first where one begins the other.
+/// Orders by octets; if one text is a prefix of the other, the shorter one is first.
 impl Ord for Octets {
     ghost cmp = { slice_cmp nat_cmp };
 

@@ -1,4 +1,4 @@
--- Who goes on, and who waits behind the others.
+-- Who goes on, and who waits after the others.
 use Rattle.std.specs.Prelude.{◌≡◌, ◌⊎◌, ℕ, ◌==◌, nat_lt, nat_eq, Bool, true, false, not, ◌&&◌, if◌then◌else◌, List, [], ◌++◌, length, take, drop, filter, Option, Some, None}
 use Rattle.std.specs.List.{list_any}
 use Rattle.std.specs.Ordering.{nat_cmp}
@@ -10,12 +10,12 @@ use Rattle.timeshares.specs.declared.account.Account.{Account}
 use Rattle.timeshares.specs.declared.share.Share.{Share}
 use Rattle.timeshares.specs.declared.turns.Turns.{Turns}
 
--- a wait told that of this connection
+-- the wake is of this connection
 abbrev pub is_of : ℕ → Wake → Bool
 is_of id (Ready other) = other == id
 is_of id (Knock kind) = false
 
--- so many microseconds an account may have of late
+-- how many microseconds an account may have used recently
 abbrev pub max_spent : ℕ
 max_spent = 50000
 
@@ -23,7 +23,7 @@ abbrev pub had_too_much : List Share → ℕ → Option Account → Bool
 had_too_much shares now None = false
 had_too_much shares now (Some account) = nat_lt max_spent (spent_by account now shares)
 
--- its account had more
+-- the wake is of a connection whose account used more
 abbrev pub is_late : List Share → tree.BTreeMap ℕ Account → ℕ → Wake → Bool
 is_late shares accounts now (Ready id) = had_too_much shares now (tree.get nat_cmp accounts id)
 is_late shares accounts now (Knock kind) = false
@@ -36,19 +36,19 @@ same_wake (Ready id) (Ready other) = nat_eq id other
 same_wake (Knock kind) (Knock other) = nat_eq kind other
 same_wake _ _ = false
 
--- whether one of these tells the same
+-- whether one of these is the same wake
 abbrev pub is_among : List Wake → Wake → Bool
 is_among wakes wake = list_any (λ other. same_wake other wake) wakes
 
--- those that a wait told who didn't wait
+-- the new wakes that didn't wait
 abbrev pub others : List Wake → List Wake → List Wake
 others waited told = filter (λ wake. not (is_among waited wake)) told
 
--- those who waited, and those others, so each once
+-- those that waited, and those others, so each once
 abbrev pub all_of : List Wake → List Wake → List Wake
 all_of waited told = waited ++ others waited told
 
--- who goes on of all: those whose account had little of late, in their order; where there are none, the first
+-- who goes on: of all, those whose account used little recently, in their order; if there are none, the first
 abbrev pub served : (Wake → Bool) → List Wake → List Wake
 served late all = if length (filter late all) == length all then take 1 all else filter (λ wake. not (late wake)) all
 
@@ -56,7 +56,7 @@ served late all = if length (filter late all) == length all then take 1 all else
 abbrev pub waiting : (Wake → Bool) → List Wake → List Wake
 waiting late all = if length (filter late all) == length all then drop 1 (filter late all) else filter late all
 
--- where memory is lacking to tell them apart, all go on, or those of whom the wait told
+-- if there is no memory to tell them apart, all go on, or only the new ones
 abbrev pub Unordered : List Wake → List Wake → List Wake → List Wake → Type 0
 Unordered waited told left ready =
     ((ready ≡ all_of waited told) × (left ≡ [])) ⊎ ((ready ≡ others waited told) × (left ≡ waited))

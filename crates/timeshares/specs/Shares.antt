@@ -1,4 +1,4 @@
--- How much time accounts had of late.
+-- How much time accounts used recently.
 use Rattle.std.specs.Prelude.{ℕ, ◌+◌, ◌-◌, ◌/◌, ◌^◌, ◌==◌, min, nat_eq, nat_le, Bool, true, false, not, if◌then◌else◌, List, [], ◌∷◌, ◌++◌, length, filter, find, Option, Some, None, is_some}
 use Rattle.std.specs.Cmp.Lexicographic.{pointwise}
 use Rattle.timeshares.specs.declared.account.Account.{Account}
@@ -11,7 +11,7 @@ same Senders Senders = true
 same (User name) (User other) = pointwise nat_eq name other
 same _ _ = false
 
--- so many milliseconds are a slot, and so many accounts are known at most
+-- the length of a slot in milliseconds, and how many accounts are known at most
 abbrev pub slot_span : ℕ
 slot_span = 500
 
@@ -22,11 +22,11 @@ max_accounts = 1000
 abbrev pub most : ℕ
 most = 2 ^ 64 - 1
 
--- what counts of a share in a slot: what was spent in it and in the one before
+-- what counts of a share in a slot: what was used in it and in the one before
 abbrev pub spent_in : ℕ → Share → ℕ
 spent_in slot share = if slot == share.slot then min (share.spent + share.before) most else (if (slot - 1) == share.slot then share.spent else 0)
 
--- so many microseconds more in a slot
+-- a share with that many more microseconds, used in a slot
 abbrev pub added : ℕ → ℕ → Share → Share
 added slot micros share =
     if slot == share.slot
@@ -46,25 +46,25 @@ spent_by account now shares = spent_of (find (λ share. same share.account accou
 abbrev pub is_known : Account → List Share → Bool
 is_known account shares = is_some (find (λ share. same share.account account) shares)
 
--- the first of which that is true is changed so
+-- the first that passes is changed
 abbrev pub change_first : {X : Type 0} → (X → Bool) → (X → X) → List X → List X
 change_first which change [] = []
 change_first which change (x ∷ xs) = if which x then change x ∷ xs else x ∷ change_first which change xs
 
--- so many microseconds more of one that is known, in a slot
+-- a known account with that many more microseconds, in a slot
 abbrev pub more_of : Account → ℕ → ℕ → List Share → List Share
 more_of account slot micros shares = change_first (λ share. same share.account account) (added slot micros) shares
 
--- where so many are known as may be, those aren't any more that had nothing of late
+-- if as many are known as may be, without those that used nothing recently
 abbrev pub cleared : ℕ → List Share → List Share
 cleared slot shares = if nat_le max_accounts (length shares) then filter (λ share. not (spent_in slot share == 0)) shares else shares
 
--- one that isn't known yet is known where there is room then
+-- with an account that wasn't known, if there is room for it
 abbrev pub joined : Account → ℕ → ℕ → List Share → List Share
 joined account slot micros shares =
     if nat_le max_accounts (length shares) then shares else shares ++ record { account = account; slot = slot; spent = micros; before = 0 } ∷ []
 
--- an account had so many microseconds more, in a slot
+-- with that many more microseconds of an account, in a slot
 abbrev pub noted : Account → ℕ → ℕ → List Share → List Share
 noted account slot micros shares =
     if is_known account shares then more_of account slot micros shares else joined account slot micros (cleared slot shares)

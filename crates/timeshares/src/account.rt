@@ -8,16 +8,16 @@ use std::alloc::{AllocError, Global};
 /// Whose time an act takes.
 #[derive(Drop)]
 pub enum Account {
-    /// All clients of ManageSieve together that aren't logged in.
+    /// All ManageSieve clients together that aren't logged in.
     Guests,
-    /// All clients of LMTP together, for what is done before a message is delivered.
+    /// All LMTP clients together, for what is done before a message is delivered.
     Senders,
-    /// The user of that name.
+    /// The user with this name.
     User(Octets),
 }
 
 impl Account {
-    /// A copy. Lack of memory is the only error.
+    /// Copies the account. Lack of memory is the only error.
     pub fn try_clone(&self, alloc: Global) -> Result<Account, AllocError>
         ensures { IfOk result (λ account. account ≡ self.now) }
     {
@@ -28,7 +28,7 @@ impl Account {
         }
     }
 
-    /// Whether it is that one.
+    /// Whether the two are the same.
     pub(crate) fn is(&self, other: &Account) -> bool
         ensures { result ≡ same self.now other.now }
     {

@@ -1,4 +1,4 @@
-//! How much of a daemon's time each account had of late, and who waits behind the others for it.
+//! How much of a daemon's time each account has used recently, and who waits after the others for it.
 #![tactic(auto)]
 
 mod account;

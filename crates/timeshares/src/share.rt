@@ -1,4 +1,4 @@
-//! How much time accounts had of late.
+//! How much time accounts have used recently.
 ghost use Rattle.std.specs.Prelude.{◌≡◌, ◌==◌, ◌<◌, ◌/◌, [], length, not, filter, find, option_copied, slice_get, slice_set, position, Some, OnOk, OnErr};
 ghost use Rattle.timeshares.specs.declared.share.Share.{Share as ShareOf};
 ghost use Rattle.timeshares.specs.Shares as s;
@@ -6,27 +6,27 @@ ghost use Rattle.timeshares.specs.Shares as s;
 use crate::account::Account;
 use std::alloc::{AllocError, Global};
 
-/// So many milliseconds are a slot. Time counts in the slot in which it was spent and in the next one: for half a second at least, and a
-/// second at most.
+/// The length of a slot, in milliseconds. Time counts in the slot in which it was spent and in the next one: for at least half a second
+/// and at most a second.
 const SLOT: u64 = 500;
 
-/// So many accounts are known at most: those that had time in these slots. Of others nothing is noted then, and they wait for nobody.
+/// At most this many accounts are known: those that used time in these slots. Nothing is noted of others then, and they wait for nobody.
 const MAX_ACCOUNTS: usize = 1000;
 
-/// What an account had, in microseconds.
+/// What an account used, in microseconds.
 #[derive(Drop)]
 pub struct Share {
     account: Account,
-    /// The slot in which it had time at last.
+    /// The last slot in which it used time.
     slot: u64,
-    /// What it had in that slot.
+    /// What it used in that slot.
     spent: u64,
-    /// What it had in the slot before.
+    /// What it used in the slot before.
     before: u64,
 }
 
 impl Share {
-    /// What counts of it in a slot.
+    /// What counts of it in a slot: what was used in it and in the one before.
     fn spent_in(&self, slot: u64) -> u64
         ensures { result ≡ s.spent_in slot self.now }
     {
@@ -39,7 +39,7 @@ impl Share {
         0
     }
 
-    /// It had so much more in a slot.
+    /// Adds that many microseconds, used in a slot.
     fn add(&mut self, slot: u64, micros: u64)
         ensures { self.new ≡ s.added slot micros self.old }
     {
@@ -57,7 +57,7 @@ impl Share {
     }
 }
 
-/// What counts in a slot of what an account had; nothing where nothing is known of it.
+/// What counts in a slot of what an account used; 0 if nothing is known of it.
 fn spent_of(share: Option<&Share>, slot: u64) -> u64
     ensures { result ≡ s.spent_of (option_copied share.entry) slot }
 {
@@ -67,21 +67,21 @@ fn spent_of(share: Option<&Share>, slot: u64) -> u64
     }
 }
 
-/// Those stay that had something of late.
+/// Keeps those that used something recently.
 fn leave_late(shares: &mut Vec<Share>, slot: u64)
     ensures { shares.new.items ≡ filter (λ share. not (s.spent_in slot share == 0)) shares.old.items }
 {
     shares.retain(|share| share.spent_in(slot) != 0);
 }
 
-/// What accounts had of late.
+/// What accounts used recently.
 #[derive(Drop)]
 pub struct Shares {
     pub entries: Vec<Share>,
 }
 
 impl Shares {
-    /// None had anything. Takes no memory.
+    /// No account used anything. Takes no memory.
     pub fn new(alloc: Global) -> Shares
         ensures { result.entries.items ≡ [] }
     {
@@ -90,7 +90,7 @@ impl Shares {
         }
     }
 
-    /// How many microseconds an account had of late, at a moment in milliseconds. Time is linear in the accounts that are known.
+    /// How many microseconds an account used recently, at a moment in milliseconds. Time is linear in the number of known accounts.
     pub fn spent(&self, account: &Account, now: u64) -> u64
         ensures { result ≡ s.spent_by account.now now self.now.entries.items }
     {
@@ -104,10 +104,10 @@ impl Shares {
         self.entries.iter().find(|share| share.account.is(account))
     }
 
-    /// An account had so many microseconds more, at a moment in milliseconds. Of one that isn't known nothing is noted where a thousand had
-    /// something of late.
+    /// Adds the microseconds that an account used up to a moment, in milliseconds. Nothing is noted of an account that isn't known yet if a
+    /// thousand others used something recently.
     ///
-    /// Lack of memory is the only error; nothing is noted of that account then.
+    /// Lack of memory is the only error; nothing is noted then.
     pub fn add(
         &mut self,
         alloc: Global,
@@ -127,7 +127,7 @@ impl Shares {
         self.begin(alloc, account, slot, micros)
     }
 
-    /// One that is known had so many microseconds more in a slot.
+    /// Adds microseconds to a known account, in a slot.
     fn raise(&mut self, account: &Account, slot: u64, micros: u64)
         ensures { self.new.entries.items ≡ s.more_of account.now slot micros self.old.entries.items }
     {
@@ -151,7 +151,7 @@ impl Shares {
         self.entries[at].add(slot, micros);
     }
 
-    /// Where so many are known as may be, those aren't any more that had nothing of late.
+    /// If as many are known as may be, forgets those that used nothing recently.
     fn clear(&mut self, slot: u64)
         ensures { self.new.entries.items ≡ s.cleared slot self.old.entries.items }
     {
@@ -160,7 +160,7 @@ impl Shares {
         }
     }
 
-    /// One that isn't known yet had so many microseconds in a slot; nothing is noted where there is no room.
+    /// Notes the microseconds of an account that isn't known yet, in a slot; nothing is noted if there is no room.
     fn begin(
         &mut self,
         alloc: Global,

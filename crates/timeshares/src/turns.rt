@@ -1,4 +1,4 @@
-//! Who waits behind the others.
+//! Who waits after the others.
 ghost use Rattle.std.specs.Prelude.{◌≡◌, ◌/◌, [], not, filter, true, false, Some, IfOk, OnOk, OnErr, IsTrue, option_copied};
 ghost use Rattle.std.specs.Ordering.{nat_cmp};
 ghost use Rattle.std.specs.BTreeMap as tree;
@@ -13,10 +13,10 @@ use std::collections::{BTreeMap, VecDeque};
 use std::mem::swap;
 use wires::outcome::Wake;
 
-/// Connections of an account that had more than so many microseconds of late wait behind all others.
+/// Connections of an account that used more than this many microseconds recently wait after all others.
 const MAX_SPENT: u64 = 50_000;
 
-/// What accounts had of the time, for which account each connection had its last act, and what a wait told of those that wait behind
+/// How much time accounts used, for which account each connection had its last act, and the wakes of those that wait after the
 /// others.
 #[derive(Drop)]
 pub struct Turns {
@@ -27,7 +27,7 @@ pub struct Turns {
 }
 
 impl Turns {
-    /// Nobody had time, and nobody waits. Takes no memory.
+    /// Nobody used time, and nobody waits. Takes no memory.
     pub fn new(alloc: Global) -> Turns
         ensures { result.put_off.items ≡ [] }
     {
@@ -39,7 +39,7 @@ impl Turns {
         }
     }
 
-    /// A connection comes: its acts are for that account, as long as nothing else is known.
+    /// A connection comes: its acts count for that account, as long as nothing else is known.
     ///
     /// Lack of memory is the only error; nothing changes then.
     pub fn enter(&mut self, id: u32, account: Account) -> Result<(), AllocError>
@@ -54,9 +54,9 @@ impl Turns {
         }
     }
 
-    /// An act of a connection, for an account, took so many microseconds, up to a moment in milliseconds.
+    /// An act of a connection, for an account, took that many microseconds, up to a moment in milliseconds.
     ///
-    /// Lack of memory is the only error; less is known then of whose time it was.
+    /// Lack of memory is the only error; a part of what was to be noted is lost then.
     pub fn charge(
         &mut self,
         id: u32,
@@ -72,7 +72,7 @@ impl Turns {
         self.enter(id, account)
     }
 
-    /// For which account a connection had its last act, where that is known.
+    /// The account for which a connection had its last act, if it is known.
     pub fn account(&self, id: u32) -> Option<&Account>
         ensures { option_copied result ≡ tree.get nat_cmp self.now.accounts id }
     {
@@ -87,17 +87,17 @@ impl Turns {
         self.put_off.retain(|wake| !is_of(id, *wake));
     }
 
-    /// Whether somebody waits behind others.
+    /// Whether somebody waits after the others.
     pub fn has_waiting(&self) -> bool
         ensures { IsTrue (not result) → self.now.put_off.items ≡ [] }
     {
         !self.put_off.is_empty()
     }
 
-    /// Of what a wait told, and of those who waited, who goes on now: all of accounts that had little time of late, and where there are
-    /// none the first of the others. All others wait for the next call.
+    /// Chooses, of the new wakes in `ready` and of those that waited, who goes on now: all whose accounts used little time recently, or if
+    /// there are none, the first of the others. All others wait for the next call.
     ///
-    /// Lack of memory is the only error; they aren't told apart then, and all go on, or all of which the wait told.
+    /// Lack of memory is the only error; they aren't told apart then, and all go on, or all of the new ones.
     pub fn order(&mut self, now: u64, ready: &mut VecDeque<Wake>) -> Result<(), AllocError>
         ensures ok { OnOk result (Orders now self.old ready.old.items self.new ready.new.items) }
         ensures err { OnErr result (Unordered self.old.put_off.items ready.old.items self.new.put_off.items ready.new.items) }
@@ -112,8 +112,8 @@ impl Turns {
     }
 }
 
-/// What a wait told joins those who waited, each once; nobody waits then. Where memory is lacking for that, the answer is false, and each
-/// stays where it is.
+/// Joins those that waited and the new wakes in `told`, each once; nobody waits then. Returns false if there is no memory for that, and
+/// each stays where it is.
 fn join(waited: &mut VecDeque<Wake>, told: &mut VecDeque<Wake>) -> bool
     ensures joined { result ≡ true → told.new.items ≡ o.all_of waited.old.items told.old.items }
     ensures empty { result ≡ true → waited.new.items ≡ [] }
@@ -128,7 +128,7 @@ fn join(waited: &mut VecDeque<Wake>, told: &mut VecDeque<Wake>) -> bool
     true
 }
 
-/// Of what a wait told those stay that didn't wait.
+/// Keeps those of the new wakes that didn't wait.
 fn leave_others(waited: &VecDeque<Wake>, told: &mut VecDeque<Wake>)
     ensures { told.new.items ≡ o.others waited.now.items told.old.items }
 {
@@ -151,7 +151,7 @@ fn is_same(wake: Wake, other: Wake) -> bool
     }
 }
 
-/// Of all those go on that aren't among the late ones; where each is, the first of them.
+/// Of all, those go on that aren't late; if all are late, the first of them.
 fn part(
     shares: &Shares,
     accounts: &BTreeMap<u32, Account>,
@@ -171,7 +171,7 @@ fn part(
     }
 }
 
-/// Those stay that aren't late.
+/// Keeps those that aren't late.
 fn leave_early(
     shares: &Shares,
     accounts: &BTreeMap<u32, Account>,
@@ -183,12 +183,12 @@ fn leave_early(
     wakes.retain(|wake| !is_late(shares, accounts, now, wake));
 }
 
-/// Nothing is known of a connection any more.
+/// Forgets a connection.
 fn forget(accounts: &mut BTreeMap<u32, Account>, id: u32) {
     let _ = accounts.remove(&id);
 }
 
-/// Whether a wait told that of this connection.
+/// Whether the wake is of this connection.
 fn is_of(id: u32, wake: Wake) -> bool
     ensures { result ≡ o.is_of id wake }
 {
@@ -198,7 +198,7 @@ fn is_of(id: u32, wake: Wake) -> bool
     }
 }
 
-/// Whether it is of a connection whose account had too much time of late.
+/// Whether the wake is of a connection whose account used too much time recently.
 fn is_late(shares: &Shares, accounts: &BTreeMap<u32, Account>, now: u64, wake: &Wake) -> bool
     ensures { result ≡ o.is_late shares.now.entries.items accounts.now now wake.now }
 {
@@ -211,7 +211,7 @@ fn is_late(shares: &Shares, accounts: &BTreeMap<u32, Account>, now: u64, wake: &
     }
 }
 
-/// Those of such connections.
+/// The wakes of such connections.
 fn late_of(
     shares: &Shares,
     accounts: &BTreeMap<u32, Account>,
@@ -225,7 +225,7 @@ fn late_of(
     Ok(late)
 }
 
-/// Those stay that are late.
+/// Keeps those that are late.
 fn leave_late(
     shares: &Shares,
     accounts: &BTreeMap<u32, Account>,
