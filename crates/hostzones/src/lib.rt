@@ -1,4 +1,4 @@
-//! The zone of a host: the same at each moment, or by a rule (POSIX, Base Definitions, 8.3).
+//! The zone of a host: a fixed offset, or a rule (POSIX, Base Definitions, 8.3).
 #![tactic(auto)]
 
 mod rule;

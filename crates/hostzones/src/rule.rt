@@ -10,10 +10,10 @@ ghost use Rattle.hostzones.specs.Offsets.{IsWhole, AreWhole, nanos_at};
 use jiff_core::{Offset, Timestamp};
 use jiff_tz::posix::TimeZone;
 
-/// The last second at which an offset is told; it is that of each later moment.
+/// The last second whose offset is looked up; its offset is also that of each later moment.
 const LAST: u64 = 253_402_207_200;
 
-/// A rule for a zone (POSIX, Base Definitions, 8.3, TZ), each of whose offsets is of whole minutes and less than a day.
+/// A rule for a zone (POSIX, Base Definitions, 8.3, TZ), whose offsets are all whole minutes and less than a day.
 #[derive(Clone, Copy, Debug)]
 pub struct ZoneRule {
     pub rule: TimeZone,
@@ -22,7 +22,7 @@ pub struct ZoneRule {
 }
 
 impl ZoneRule {
-    /// The rule that a text is; None where it is none, or where an offset isn't of whole minutes or is a day or more.
+    /// Reads a rule; `None` if the text isn't one, or if an offset isn't a whole number of minutes or is a day or more.
     pub fn read(text: &[u8]) -> Option<ZoneRule>
         ensures some { IfSome result (λ zone. read_whole text.now ≡ Some (tz_view zone.rule)) }
         ensures none { IfNone result ((read : TzText) → read_whole text.now ≡ Some read → AreWhole read → ⊥) }
@@ -56,14 +56,14 @@ fn minutes_of(offset: Offset) -> i16
     (offset.seconds / 60) as i16
 }
 
-/// Whether an offset is of whole minutes and less than a day.
+/// Whether an offset is a whole number of minutes and less than a day.
 fn is_whole(offset: Offset) -> bool
     ensures { IsTrue result ↔ IsWhole offset.seconds }
 {
     -86_400 < offset.seconds && offset.seconds < 86_400 && offset.seconds % 60 == 0
 }
 
-/// Whether the offset of the rule's daylight saving time is so, if it has one.
+/// Whether this holds of the offset of the rule's daylight saving time, if it has one.
 fn has_whole_daylight(rule: &TimeZone) -> bool
     ensures { IsTrue result ↔ ForSome rule.now.dst (λ dst. IsWhole dst.offset.seconds) }
 {

@@ -16,7 +16,7 @@ pub struct Offset {
 /// The zone of a host.
 #[derive(Clone, Copy, Debug)]
 pub enum HostZone {
-    /// The same at each moment.
+    /// The same offset at each moment.
     Always(Offset),
     /// By a rule.
     ByRule(ZoneRule),
@@ -33,10 +33,10 @@ impl HostZone {
         HostZone::Always(Offset { minutes: 0 })
     }
 
-    /// The zone that a text is: `+hhmm`, `-hhmm`, or a rule as `CET-1CEST,M3.5.0,M10.5.0/3` (POSIX, Base Definitions, 8.3, TZ).
+    /// Reads a zone: `+hhmm`, `-hhmm`, or a rule such as `CET-1CEST,M3.5.0,M10.5.0/3` (POSIX, Base Definitions, 8.3, TZ).
     ///
-    /// None for anything else, for hours over 23 and minutes over 59, and for a rule with an offset that isn't of whole minutes or
-    /// is a day or more. Linear; takes no memory.
+    /// `None` for anything else, for hours over 23 and minutes over 59, and for a rule with an offset that isn't a whole number of
+    /// minutes or is a day or more. Linear; takes no memory.
     pub fn read(text: &[u8]) -> Option<HostZone>
         ensures some { IfSome result (IsZoneText text.now) }
         ensures none { IfNone result ((zone : HostZone) → IsZoneText text.now zone → ⊥) }

@@ -43,7 +43,7 @@ pub record IsTime (text : List ℕ) (hour minute second : ℕ) (rest : List ℕ)
   pub minute_is : Reads (two_digits 59) after_colon minute after_minute
   pub seconds : ((second ≡ 0) × (rest ≡ after_minute)) ⊎ IsSecond after_minute second rest
 
--- [ day-name "," ] date time zone, and nothing more
+-- [ day-name "," ] date time zone, and nothing else
 pub record IsDateText (text : List ℕ) (date : DateTime) : Type 0 where
   pub start : List ℕ
   pub after_date : List ℕ

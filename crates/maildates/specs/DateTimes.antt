@@ -1,4 +1,4 @@
--- What a date and time is, and which moment it tells.
+-- What a date and time is, and which moment it is.
 use Rattle.std.specs.Prelude.{◌≡◌, ℕ, ◌+◌, ◌*◌, ◌/◌, ◌%◌, ◌<◌, ◌≤◌, ℤ, pos, ◌+ℤ◌, ◌-ℤ◌, ◌*ℤ◌, neg_ℤ}
 use Rattle.jiff_core.specs.Calendar.{IsCivilDate, days_from_civil, IsBetween}
 use Rattle.maildates.specs.declared.date_time.DateTime.{DateTime}
@@ -15,11 +15,11 @@ pub record IsDateTime (date : DateTime) : Type 0 where
   pub second : date.second ≤ 60
   pub zone : IsZone date.zone
 
--- how many minutes after the start of 1 January 1970, both by the clock of its zone
+-- the number of minutes since the start of 1 January 1970, both by the clock of its zone
 unfoldable pub local_minutes : DateTime → ℤ
 local_minutes date = (days_from_civil (pos date.year) date.month date.day *ℤ pos 1440) +ℤ pos (date.hour * 60 + date.minute)
 
--- how many minutes after 1970-01-01T00:00Z
+-- the number of minutes since 1970-01-01T00:00Z
 abbrev pub utc_minutes : DateTime → ℤ
 utc_minutes date = local_minutes date -ℤ date.zone
 

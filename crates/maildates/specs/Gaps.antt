@@ -1,4 +1,4 @@
--- What may stand between the parts of a date's text: blanks, line ends and comments (RFC 5322, 3.2.2: CFWS).
+-- What may be between the parts of a date's text: blanks, line ends and comments (RFC 5322, 3.2.2: CFWS).
 use Rattle.std.specs.Prelude.{◌≡◌, ℕ, ◌==◌, ◌||◌, Bool, true, List, ◌∷◌}
 use Rattle.addrparts.specs.Pieces.{Notes, noted, AreNotes}
 
@@ -16,7 +16,7 @@ pub data Gap : Type 0 where
   Space : ℕ → Gap → Gap
   Remark : Notes → Gap → Gap
 
--- a gap, written in front of a text
+-- a gap, written before a text
 abbrev pub spaced : Gap → List ℕ → List ℕ
 spaced Nothing after = after
 spaced (Space octet more) after = octet ∷ spaced more after

@@ -6,7 +6,7 @@ use Rattle.maildates.specs.declared.part.DatePart.{DatePart}
 use Rattle.maildates.specs.declared.part.DatePart.TheVariants as P
 use Rattle.maildates.specs.Words.{is_named}
 
--- a part by its name, without ASCII case
+-- a part by its name, ignoring ASCII case
 unfoldable pub part_named : List ℕ → Option DatePart
 part_named name =
     cond (is_named name (codes "year")) (Some P.Year)
@@ -40,7 +40,7 @@ day_number date = days_from_civil (pos date.year) date.month date.day
 abbrev pub weekday : DateTime → ℕ
 weekday date = (weekday_number (day_number date) + 1) % 7
 
--- a number in decimal digits, behind a minus below 0
+-- a number in decimal digits, with a minus sign if it is below 0
 abbrev pub signed_decimal : ℤ → List ℕ
 signed_decimal (pos n) = decimal n
 signed_decimal (negsuc n) = 45 ∷ decimal (suc n)

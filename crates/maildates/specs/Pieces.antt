@@ -4,14 +4,14 @@ use Rattle.std.specs.List.{list_all}
 use Rattle.octets.specs.Ascii.{is_letter, is_digit}
 use Rattle.maildates.specs.Gaps.{Gap, spaced, IsGap, opens_gap}
 
--- the octet goes on the piece that begins with the first one: letters stand together, and digits do, also after a sign
+-- the octet continues the piece that begins with the first one: letters follow letters, and digits follow digits or a sign
 unfoldable pub goes_on : ℕ → ℕ → Bool
 goes_on first octet =
     if is_letter first then is_letter octet
     else (if is_digit first || first == 43 || first == 45 then is_digit octet
     else false)
 
--- no piece that begins with the octet goes on here
+-- no piece that begins with the first octet is continued here
 abbrev pub IsEnd : ℕ → List ℕ → Type 0
 IsEnd first [] = Unit {0}
 IsEnd first (octet ∷ _) = goes_on first octet ≡ false

@@ -19,14 +19,14 @@ next_state depth false octet =
     (cond (octet == 41) (depth - 1, false)
     (depth, false)))
 
--- what stands after a gap, with that many comments open in it
+-- what follows a gap, with that many comments open in it
 unfoldable pub after_gap : ℕ → Bool → List ℕ → Option (List ℕ)
 after_gap depth escaped [] = cond (depth == 0) (Some []) None
 after_gap depth escaped (octet ∷ more) =
     cond (depth == 0 && not (opens_gap octet)) (Some (octet ∷ more))
     (after_gap (next_state depth escaped octet).0 (next_state depth escaped octet).1 more)
 
--- the piece at the front of a text that begins with no gap
+-- the piece at the beginning of a text that doesn't begin with a gap
 unfoldable pub cut : List ℕ → List ℕ × List ℕ
 cut [] = ([], [])
 cut (first ∷ more) = (first ∷ take (prefix_len (goes_on first) more) more, drop (prefix_len (goes_on first) more) more)
@@ -39,7 +39,7 @@ piece text = option_map cut (after_gap 0 false text)
 unfoldable pub reads : {A : Type 0} → (List ℕ → Option A) → List ℕ → Option (A × List ℕ)
 reads means text = option_and_then (λ p. option_map (λ value. (value, p.1)) (means p.0)) (piece text)
 
--- what follows the comma after a day's name, or the text where it has no such name
+-- what follows the comma after a day's name, or the text if it has no such name
 abbrev pub name_then : List ℕ → Option (ℕ × List ℕ) → Option (List ℕ)
 name_then text None = Some text
 name_then text (Some name) = option_map (λ r. r.1) (reads (mark_of 44) name.1)
@@ -54,7 +54,7 @@ day_from text =
     option_and_then (λ d. option_and_then (λ m. option_map (λ y. (record { year = y.0; month = m.0; day = d.0 }, y.1))
     (reads year_of m.1)) (reads month_of d.1)) (reads day_of text)
 
--- the second after a colon, or 0 where there is no colon
+-- the second after a colon, or 0 if there is no colon
 abbrev pub colon_then : List ℕ → Option (ℕ × List ℕ) → Option (ℕ × List ℕ)
 colon_then text None = Some (0, text)
 colon_then text (Some colon) = reads (two_digits 60) colon.1
@@ -73,7 +73,7 @@ time_from text =
 abbrev pub joined : Day → Time → ℤ → DateTime
 joined day time zone = record { year = day.year; month = day.month; day = day.day; hour = time.hour; minute = time.minute; second = time.second; zone = zone }
 
--- what a text says, whether or not the day exists
+-- the date and time that a text gives, whether or not the day exists
 unfoldable pub parts_from : List ℕ → Option (DateTime × List ℕ)
 parts_from text =
     option_and_then (λ start. option_and_then (λ d. option_and_then (λ t. option_map (λ z. (joined d.0 t.0 z.0, z.1))

@@ -22,18 +22,18 @@ two_digits limit word = cond (length word == 2) (number_in limit word) None
 unfoldable pub day_of : List ℕ → Option ℕ
 day_of word = cond (nat_le (length word) 2) (number_in 31 word) None
 
--- 00 to 49 are of the third millennium, 50 to 99 of the second (4.3)
+-- 00 to 49 are in the third millennium, 50 to 99 in the second (4.3)
 abbrev pub in_century : ℕ → ℕ
 in_century year = if nat_lt year 50 then 2000 + year else 1900 + year
 
--- a year: of two digits, of three (from 1900 on: 4.3), or of four or more, up to 9999
+-- a year: of two digits, of three (added to 1900: 4.3), or of four or more, up to 9999
 unfoldable pub year_of : List ℕ → Option ℕ
 year_of word =
     cond (length word == 2) (option_map in_century (number_in 99 word))
     (cond (length word == 3) (option_map (λ year. 1900 + year) (number_in 999 word))
     (cond (nat_le 4 (length word)) (number_in 9999 word) None))
 
--- the word is this name, without ASCII case
+-- the word is this name, ignoring ASCII case
 unfoldable pub is_named : List ℕ → List ℕ → Bool
 is_named word name = str_eq_ignore_ascii_case word name
 
@@ -66,7 +66,7 @@ weekday_of word =
     (cond (is_named word (codes "sat")) (Some 6)
     None))))))
 
--- the mark itself, alone
+-- only the mark itself
 unfoldable pub mark_of : ℕ → List ℕ → Option ℕ
 mark_of mark [] = None
 mark_of mark (octet ∷ []) = cond (octet == mark) (Some mark) None

@@ -16,7 +16,7 @@ const EPOCH_JULIAN: i64 = 40_587;
 /// The last day, counted from -9999-01-01.
 const LAST_DAY: u64 = 7_304_483;
 
-/// How many minutes lie between the start of -9999-01-01 and that of 1970-01-01.
+/// The number of minutes from the start of -9999-01-01 to that of 1970-01-01.
 const EPOCH: i64 = 6_295_085_280;
 
 /// A date and time by the clock of its zone.
@@ -38,7 +38,7 @@ pub struct DateTime {
     pub zone: i16,
 }
 
-/// What the clock of another zone shows.
+/// What the clock of another zone shows at the same moment.
 fn moved(minutes: u64, from: i16, to: i16) -> u64
     requires early { 2880 ≤ minutes }
     requires late { minutes ≤ 10_518_456_960 }
@@ -49,14 +49,14 @@ fn moved(minutes: u64, from: i16, to: i16) -> u64
     (minutes as i64 - i64::from(from) + i64::from(to)) as u64
 }
 
-/// The year of a day, from 0 on.
+/// The year of a day, if it isn't before year 0.
 fn year_of(day: Date) -> Option<u16>
     ensures { MatchOption result (day.year <ℤ pos 0) (λ year. pos year ≡ day.year) }
 {
     u16::try_from(day.year).ok()
 }
 
-/// The date and time that many minutes after the start of -9999-01-01 by the clock of the zone, where its year is one of 0 to 9999.
+/// The date and time that many minutes after the start of -9999-01-01 by the clock of the zone, if its year is from 0 to 9999.
 fn at_minute(minutes: u64, second: u8, zone: i16) -> Option<DateTime>
     requires second_in { second ≤ 60 }
     requires zone_in { IsZone zone }
@@ -83,7 +83,7 @@ fn at_minute(minutes: u64, second: u8, zone: i16) -> Option<DateTime>
 impl DateTime {
     /// The date and time of a moment in a zone.
     ///
-    /// The moment is in seconds since 1 January 1970 in UTC, the zone in minutes east of UTC. None where the year there is past 9999.
+    /// The moment is in seconds since 1 January 1970 in UTC, the zone in minutes east of UTC. `None` if the year in that zone is past 9999.
     pub fn from_moment(seconds: u64, zone: i16) -> Option<DateTime>
         requires { IsZone zone }
         ensures { MatchOption result ((date : DateTime) → IsMoment seconds zone date → ⊥) (λ date. IsMoment seconds zone date) }
@@ -92,7 +92,7 @@ impl DateTime {
         at_minute(minutes as u64, (seconds % 60) as u8, zone)
     }
 
-    /// The same moment in another zone, in minutes east of UTC. None where the year there is none of 0 to 9999.
+    /// The same moment in another zone, in minutes east of UTC. `None` if the year in that zone isn't from 0 to 9999.
     pub fn in_zone(&self, zone: i16) -> Option<DateTime>
         requires date { IsDateTime self.now }
         requires zone_in { IsZone zone }
@@ -109,7 +109,7 @@ impl DateTime {
         Date::constrain(self.year as i16, self.month, self.day)
     }
 
-    /// How many minutes lie between the start of -9999-01-01 and this one, both by the clock of its zone.
+    /// The number of minutes from the start of -9999-01-01 to this one, both by the clock of its zone.
     fn clock(&self) -> u64
         requires { IsDateTime self.now }
         ensures is { local_minutes self.now +ℤ pos 6_295_085_280 ≡ pos result }
@@ -120,7 +120,7 @@ impl DateTime {
         u64::from(days) * DAY + u64::from(self.hour) * 60 + u64::from(self.minute)
     }
 
-    /// The Modified Julian Day by the clock of the zone: how many days after 17 November 1858.
+    /// The Modified Julian Day by the clock of the zone: the number of days since 17 November 1858.
     pub(crate) fn julian(&self) -> i64
         requires { IsDateTime self.now }
         ensures { result ≡ day_number self.now +ℤ pos 40587 }

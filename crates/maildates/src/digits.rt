@@ -43,7 +43,7 @@ pub(crate) fn day_of(word: &[u8]) -> Option<u8>
     Some(number as u8)
 }
 
-/// The year of two digits or three is of its century.
+/// Completes a year of two digits with its century (RFC 5322, 4.3).
 fn in_century(year: u16) -> u16
     requires { year ≤ 99 }
     ensures is { result ≡ words.in_century year }

@@ -6,7 +6,7 @@ ghost use Rattle.maildates.specs.DateTexts.{IsDateText};
 ghost use Rattle.maildates.specs.DateTimes.{IsMoment, IsSameMoment};
 ghost use Rattle.maildates.specs.Finding.{date_of};
 
-/// A text reads as one date at most.
+/// A text reads as at most one date.
 pub fn date_of_a_text()
     ensures { (text : List ℕ) (one two : DateTime) → IsDateText text one → IsDateText text two → one ≡ two }
 {}
@@ -16,12 +16,12 @@ pub fn zone_of_a_text()
     ensures { (text : List ℕ) (zone : ℤ) → (numeric_of text ≡ Some zone) ↔ IsOffset text zone }
 {}
 
-/// The date that is found in a text is the one that it reads as.
+/// The date that `date_of` finds in a text is the one that it reads as.
 pub fn date_found_in_a_text()
     ensures { (text : List ℕ) (date : DateTime) → (date_of text ≡ Some date) ↔ IsDateText text date }
 {}
 
-/// A moment has one date in a zone at most.
+/// A moment has at most one date in a zone.
 pub fn date_of_a_moment()
     ensures moment { (seconds : ℕ) (zone : ℤ) (one two : DateTime) → IsMoment seconds zone one → IsMoment seconds zone two → one ≡ two }
     ensures same { (date : DateTime) (zone : ℤ) (one two : DateTime) → IsSameMoment date zone one → IsSameMoment date zone two → one ≡ two }

@@ -1,4 +1,4 @@
-//! The dates of mail (RFC 5322, 3.3 and 4.3), the zones of scripts, and the same moment in another zone (RFC 5260, 4).
+//! The dates of mail (RFC 5322, 3.3 and 4.3), the zones that scripts give, and the same moment in another zone (RFC 5260, 4).
 #![tactic(auto)]
 
 pub mod date_time;

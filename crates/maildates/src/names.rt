@@ -3,7 +3,7 @@ ghost use Rattle.std.specs.Prelude.{◌≡◌, ◌≤◌, IfSome};
 ghost use Rattle.maildates.specs.Words as words;
 ghost use Rattle.maildates.specs.Zones as zones;
 
-/// The word is this name, without ASCII case.
+/// Whether the word is this name, ignoring ASCII case.
 #[tactic(auto, unfolding(crate::specs::Words::is_named))]
 pub(crate) fn is_named(word: &[u8], name: &[u8]) -> bool
     ensures { result ≡ words.is_named word.now name.now }

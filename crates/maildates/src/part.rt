@@ -15,7 +15,7 @@ pub enum DatePart {
     Day,
     /// `yyyy-mm-dd`.
     Date,
-    /// The Modified Julian Day: how many days after 17 November 1858, in decimal, behind a minus before it.
+    /// The Modified Julian Day: the number of days since 17 November 1858, in decimal, with a minus sign for earlier days.
     Julian,
     /// `00` to `23`.
     Hour,
@@ -25,7 +25,7 @@ pub enum DatePart {
     Second,
     /// `hh:mm:ss`.
     Time,
-    /// `yyyy-mm-ddThh:mm:ss` and `Z`, or `+hh:mm` or `-hh:mm` where the zone isn't UTC.
+    /// `yyyy-mm-ddThh:mm:ss` and `Z`, or `+hh:mm` or `-hh:mm` if the zone isn't UTC.
     Iso8601,
     /// `Mon, 05 Oct 2026 10:00:00 +0000`.
     Std11,
@@ -36,7 +36,7 @@ pub enum DatePart {
 }
 
 impl DatePart {
-    /// The part of this name, without ASCII case.
+    /// The part with this name, ignoring ASCII case.
     #[tactic(auto, unfolding(crate::specs::Parts::part_named))]
     pub fn named(name: &[u8]) -> Option<DatePart>
         ensures { result ≡ parts.part_named name.now }

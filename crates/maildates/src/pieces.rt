@@ -1,18 +1,18 @@
-//! The pieces of a date's text, from the front.
+//! The pieces of a date's text, from the beginning.
 ghost use Rattle.std.specs.Prelude.{◌≡◌, ◌≤◌, ◌<◌, ◌^◌, ◌+◌, false, None, Some, MatchOption, length};
 ghost use Rattle.std.specs.List.{prefix_len};
 ghost use Rattle.maildates.specs.Gaps as gaps;
 ghost use Rattle.maildates.specs.Pieces as spec;
 ghost use Rattle.maildates.specs.Reading as reading;
 
-/// The octet begins a gap: SP, TAB, CR, LF, or a comment's parenthesis.
+/// Whether the octet begins a gap: SP, TAB, CR, LF, or a comment's parenthesis.
 fn opens_gap(octet: u8) -> bool
     ensures { result ≡ gaps.opens_gap octet }
 {
     octet == b' ' || octet == b'\t' || octet == b'\r' || octet == b'\n' || octet == b'('
 }
 
-/// How many comments are open after an octet of a gap, and whether it is a backslash that takes the next one with it.
+/// How many comments are open after an octet of a gap, and whether it is a backslash that escapes the next one.
 #[tactic(auto, unfolding(crate::specs::Reading::next_state))]
 fn next_state(depth: usize, escaped: bool, octet: u8) -> (usize, bool)
     requires { depth < 2 ^ 63 }
@@ -30,7 +30,7 @@ fn next_state(depth: usize, escaped: bool, octet: u8) -> (usize, bool)
     }
 }
 
-/// What stands after the gap at the front; None where a comment isn't closed.
+/// What follows the gap at the beginning; `None` if a comment isn't closed.
 fn after_gap(text: &[u8]) -> Option<&[u8]>
     ensures { MatchOption result (reading.after_gap 0 false text.now ≡ None) (λ rest. reading.after_gap 0 false text.now ≡ Some rest.now) }
 {
@@ -51,7 +51,7 @@ fn after_gap(text: &[u8]) -> Option<&[u8]>
     }
 }
 
-/// The octet goes on the piece that begins with the first one.
+/// Whether the octet continues the piece that begins with the first one.
 #[tactic(auto, unfolding(crate::specs::Pieces::goes_on))]
 fn goes_on(first: u8, octet: u8) -> bool
     ensures { result ≡ spec.goes_on first octet }
@@ -63,7 +63,7 @@ fn goes_on(first: u8, octet: u8) -> bool
     }
 }
 
-/// How many octets go on the piece that begins with the first one.
+/// How many of the others continue the piece that begins with the first octet.
 fn piece_len(first: u8, others: &[u8]) -> usize
     ensures is { result ≡ prefix_len (spec.goes_on first) others.now }
     ensures within { result ≤ length others.now }
@@ -74,7 +74,7 @@ fn piece_len(first: u8, others: &[u8]) -> usize
         .count()
 }
 
-/// The piece at the front of a text that begins with no gap, and what follows it.
+/// The piece at the beginning of a text that doesn't begin with a gap, and what follows it.
 #[tactic(auto, unfolding(crate::specs::Reading::cut))]
 fn cut(text: &[u8]) -> (&[u8], &[u8])
     ensures piece { result.0.now ≡ (reading.cut text.now).0 }

@@ -1,4 +1,4 @@
-//! A date is read from a field's text.
+//! Reads a date from a field's text.
 ghost use Rattle.std.specs.Prelude.{◌≡◌, ◌≤◌, None, Some, MatchOption, IfSome, IsTrue, ◌↔◌, pos, []};
 ghost use Rattle.jiff_core.specs.Calendar.{IsCivilDate};
 ghost use Rattle.maildates.specs.declared.date_time.DateTime.{DateTime};
@@ -16,7 +16,7 @@ use crate::pieces::next_piece;
 use crate::zone::zone_of;
 use jiff_core::civil::Date;
 
-/// A day as a text has it, whether or not there is such a day.
+/// A day as a text gives it, whether or not there is such a day.
 #[derive(Clone, Copy)]
 pub(crate) struct Day {
     year: u16,
@@ -80,7 +80,7 @@ fn next_year(text: &[u8]) -> Option<(u16, &[u8])>
     Some((year_of(word)?, rest))
 }
 
-/// Two digits up to a limit, and what follows them.
+/// The number of two digits, up to a limit, and what follows them.
 #[tactic(auto, unfolding(crate::specs::Reading::reads))]
 fn next_two(text: &[u8], limit: u8) -> Option<(u8, &[u8])>
     ensures { MatchOption result (reads (words.two_digits limit) text.now ≡ None) (λ r. reads (words.two_digits limit) text.now ≡ Some (r.0, r.1.now)) }
@@ -98,7 +98,7 @@ fn next_zone(text: &[u8]) -> Option<(i16, &[u8])>
     Some((zone_of(word)?, rest))
 }
 
-/// What follows a day's name and its comma, or the text where it doesn't begin with one.
+/// What follows a day's name and its comma, or the text itself if it doesn't begin with a day's name.
 #[tactic(auto, unfolding(crate::specs::Reading::after_name))]
 fn skip_day_name(text: &[u8]) -> Option<&[u8]>
     ensures { MatchOption result (reading.after_name text.now ≡ None) (λ rest. reading.after_name text.now ≡ Some rest.now) }
@@ -120,7 +120,7 @@ fn next_date(text: &[u8]) -> Option<(Day, &[u8])>
     Some((Day { year, month, day }, rest))
 }
 
-/// A second after its colon, or 0 where there is none.
+/// The second after a colon, or 0 if there is no colon, and what follows.
 #[tactic(auto, unfolding(crate::specs::Reading::second_from))]
 fn next_second(text: &[u8]) -> Option<(u8, &[u8])>
     ensures { MatchOption result (reading.second_from text.now ≡ None) (λ r. reading.second_from text.now ≡ Some (r.0, r.1.now)) }
@@ -150,7 +150,7 @@ fn next_time(text: &[u8]) -> Option<(Time, &[u8])>
     ))
 }
 
-/// The same with its zone.
+/// The date and time of these parts.
 fn joined(day: Day, time: Time, zone: i16) -> DateTime
     ensures { result ≡ reading.joined day time zone }
 {
@@ -165,7 +165,7 @@ fn joined(day: Day, time: Time, zone: i16) -> DateTime
     }
 }
 
-/// What a text says, whether or not there is such a day, and what follows it.
+/// The date and time that a text gives, whether or not there is such a day, and what follows.
 #[tactic(auto, unfolding(crate::specs::Reading::parts_from))]
 fn next_parts(text: &[u8]) -> Option<(DateTime, &[u8])>
     ensures { MatchOption result (reading.parts_from text.now ≡ None) (λ r. reading.parts_from text.now ≡ Some (r.0, r.1.now)) }
@@ -177,7 +177,7 @@ fn next_parts(text: &[u8]) -> Option<(DateTime, &[u8])>
     Some((joined(day, time, zone), rest))
 }
 
-/// Nothing but a gap is left.
+/// Whether nothing but a gap is left.
 fn is_over(text: &[u8]) -> bool
     ensures { IsTrue result ↔ (reading.piece text.now ≡ Some ([], [])) }
 {
@@ -187,7 +187,7 @@ fn is_over(text: &[u8]) -> bool
     }
 }
 
-/// The calendar has this day.
+/// Whether the calendar has this day.
 fn is_civil(date: &DateTime) -> bool
     requires { date.now.year ≤ 9999 }
     ensures { IsTrue result ↔ IsCivilDate (pos date.now.year) date.now.month date.now.day }
@@ -197,10 +197,10 @@ fn is_civil(date: &DateTime) -> bool
         && Date::new(date.year as i16, date.month as i8, date.day as i8).is_ok()
 }
 
-/// The date and time of a field's text (RFC 5322, 3.3, with the obsolete forms of 4.3).
+/// Reads the date and time of a field's text (RFC 5322, 3.3, with the obsolete forms of 4.3).
 ///
-/// None where the text reads as none, where the day isn't in the calendar, and where an hour, a minute, a second or a zone is past
-/// its range. The name of the day is not held against the date. Linear time, no memory.
+/// `None` if the text isn't a date, the day isn't in the calendar, or an hour, a minute, a second or a zone is out of range. The name
+/// of the day isn't checked against the date. Linear time, no memory.
 pub fn read_date(text: &[u8]) -> Option<DateTime>
     ensures exact { MatchOption result ((date : DateTime) → IsDateText text.now date → ⊥) (λ date. IsDateText text.now date) }
     ensures valid { IfSome result IsDateTime }

@@ -23,7 +23,7 @@ fn offset_of(digits: &[u8]) -> Option<u16>
 
 /// The zone that a script gives: `+hhmm` or `-hhmm` (RFC 5260, 4.1), in minutes east of UTC.
 ///
-/// None where the text is anything else; hours over 23 and minutes over 59 are no zone.
+/// `None` if the text is anything else, also for hours over 23 and minutes over 59.
 #[tactic(auto, unfolding(crate::specs::Zones::numeric_of))]
 pub fn read_zone(text: &[u8]) -> Option<i16>
     ensures is { result ≡ zones.numeric_of text.now }
@@ -42,7 +42,7 @@ pub fn read_zone(text: &[u8]) -> Option<i16>
     }
 }
 
-/// The zone of this name. Each unknown name is UTC (RFC 5322, 4.3).
+/// The zone with this name. Each unknown name is UTC (RFC 5322, 4.3).
 #[tactic(auto, unfolding(crate::specs::Zones::named_of))]
 fn named_zone(word: &[u8]) -> i16
     ensures is { result ≡ zones.named_of word.now }

@@ -5,11 +5,11 @@ use Rattle.octets.specs.Ascii.{is_blank}
 use Rattle.mailflags.specs.Names.{are_same, is_flag}
 use Rattle.mailflags.specs.System.{all_system, name_of, letter_of}
 
--- how many flags a message has at most
+-- the most flags of a message
 abbrev pub max_flags : ℕ
 max_flags = 100
 
--- flags: names of flags, none twice, and not too many
+-- flags: names of flags, none twice, and no more than may be
 pub record AreFlags (flags : List (List ℕ)) : Type 0 where
   pub names : All (λ name. is_flag name ≡ true) flags
   pub distinct : IsDistinct are_same flags
@@ -19,26 +19,26 @@ pub record AreFlags (flags : List (List ℕ)) : Type 0 where
 abbrev pub has : List (List ℕ) → List ℕ → Bool
 has flags name = list_any (λ there. are_same there name) flags
 
--- one more at the end, where it is the name of a flag, isn't there yet, and there is room
+-- with one more at the end, if it is the name of a flag, isn't there yet, and there is room
 abbrev pub with_one : List (List ℕ) → List ℕ → List (List ℕ)
 with_one flags name = cond (nat_lt (length flags) max_flags && is_flag name && not (has flags name)) (flags ++ name ∷ []) flags
 
--- one less, where it is there
+-- without this one, if it is there
 abbrev pub without_one : List (List ℕ) → List ℕ → List (List ℕ)
 without_one flags name = filter (λ there. not (are_same there name)) flags
 
--- what stands between the blanks of a text
+-- what is between the blanks of a text
 abbrev pub between_blanks : List ℕ → List (List ℕ)
 between_blanks = slice_split is_blank
 
--- all that a text names are added, or go
+-- with or without all that a text names
 abbrev pub with_named : List (List ℕ) → List ℕ → List (List ℕ)
 with_named flags text = fold with_one flags (between_blanks text)
 
 abbrev pub without_named : List (List ℕ) → List ℕ → List (List ℕ)
 without_named flags text = fold without_one flags (between_blanks text)
 
--- and all that several texts name
+-- with or without all that several texts name
 abbrev pub added : List (List ℕ) → List (List ℕ) → List (List ℕ)
 added = fold with_named
 
@@ -49,7 +49,7 @@ removed = fold without_named
 abbrev pub named : List ℕ → List (List ℕ)
 named = with_named []
 
--- the text that names them, with a blank between two
+-- the text that names them, separated by single blanks
 abbrev pub written : List (List ℕ) → List ℕ
 written = join_with_byte 32
 

@@ -5,11 +5,11 @@ use Rattle.std.specs.Cmp.Lexicographic.{pointwise}
 use Rattle.octets.specs.Ascii.{lowered}
 use Rattle.mailflags.specs.System.{all_system, name_of}
 
--- the names are of one flag: the case of letters is no difference
+-- the names are of one flag: ASCII case makes no difference
 abbrev pub are_same : List ℕ → List ℕ → Bool
 are_same one other = pointwise nat_eq (lowered one) (lowered other)
 
--- what no atom has, beside blanks and control octets (RFC 3501, 9: atom-specials)
+-- what no atom has, besides blanks and control octets (RFC 3501, 9: atom-specials)
 abbrev pub specials : List ℕ
 specials = codes "(){%*\"\\]"
 
@@ -25,7 +25,7 @@ is_keyword name = not (length name == 0) && list_all is_of_atoms name
 abbrev pub is_system : List ℕ → Bool
 is_system name = list_any (λ system. are_same (name_of system) name) all_system
 
--- how many octets the name of a flag has at most
+-- the most octets of a flag's name
 abbrev pub max_flag_len : ℕ
 max_flag_len = 128
 

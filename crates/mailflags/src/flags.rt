@@ -11,7 +11,7 @@ use octets::{Octets, is_blank};
 use std::alloc::{AllocError, Global};
 use std::marker::Model;
 
-/// How many flags a message has at most.
+/// The most flags of a message.
 const MAX_FLAGS: usize = 100;
 
 /// The flags of a message: names in the order in which they were added, each as it was first written, and none twice. At most
@@ -39,8 +39,8 @@ impl Flags {
         }
     }
 
-    /// The flags that a text names, between blanks. What isn't the name of a flag is passed over, as is what comes behind a
-    /// hundred.
+    /// Reads the flags that a text names, separated by blanks. What isn't the name of a flag is skipped, as is what comes after a
+    /// hundred flags.
     pub fn read(alloc: Global, text: &[u8]) -> Result<Flags, AllocError>
         ensures { IfOk result (λ read. read ≡ flags.named text.now) }
     {
@@ -56,7 +56,7 @@ impl Flags {
         self.names.as_slice()
     }
 
-    /// A text that names them, with a blank between two.
+    /// Writes a text that names them, separated by single blanks.
     pub fn write(&self, alloc: Global) -> Result<Octets, AllocError>
         ensures { IfOk result (λ text. text ≡ flags.written self.now) }
     {
@@ -70,7 +70,7 @@ impl Flags {
         Ok(text)
     }
 
-    /// These and no others are the flags from now on (`setflag`, RFC 5232, 3.1). After an error they may be a part.
+    /// Sets the flags to those that the texts name (`setflag`, RFC 5232, 3.1). After an error the flags may be only some of these.
     pub fn set(&mut self, alloc: Global, texts: &[Octets]) -> Result<(), AllocError>
         ensures { OnOk result (self.new ≡ flags.added [] texts.now) }
     {
@@ -78,7 +78,7 @@ impl Flags {
         self.add(alloc, texts)
     }
 
-    /// Those that the texts name are added (`addflag`, RFC 5232, 3.2). After an error some of them may be.
+    /// Adds the flags that the texts name (`addflag`, RFC 5232, 3.2). After an error some of them may have been added.
     pub fn add(&mut self, alloc: Global, texts: &[Octets]) -> Result<(), AllocError>
         ensures { OnOk result (self.new ≡ flags.added self.old texts.now) }
     {
@@ -88,7 +88,7 @@ impl Flags {
         Ok(())
     }
 
-    /// Those that the texts name go (`removeflag`, RFC 5232, 3.3).
+    /// Removes the flags that the texts name (`removeflag`, RFC 5232, 3.3).
     pub fn remove(&mut self, texts: &[Octets])
         ensures { self.new ≡ flags.removed self.old texts.now }
     {
@@ -107,7 +107,7 @@ impl Flags {
             .any(|there| are_same(there.as_slice(), name))
     }
 
-    /// The letters of the system flags among them, as they stand in the name of a file of a Maildir; none where there are none.
+    /// The letters of the system flags among them, as in the name of a Maildir's file; empty if there are no system flags.
     pub fn letters(&self, alloc: Global) -> Result<Octets, AllocError>
         ensures { IfOk result (λ letters. letters ≡ flags.letters self.now) }
     {
@@ -120,7 +120,7 @@ impl Flags {
         Ok(letters)
     }
 
-    /// Those that one text names are added.
+    /// Adds the flags that one text names.
     fn add_named(&mut self, alloc: Global, text: &[u8]) -> Result<(), AllocError>
         ensures { OnOk result (self.new ≡ flags.with_named self.old text.now) }
     {
@@ -132,7 +132,7 @@ impl Flags {
         self.add_one(alloc, rest)
     }
 
-    /// One more, where it is the name of a flag, isn't there yet, and there is room.
+    /// Adds a flag, if this is the name of one, it isn't there yet, and there is room.
     fn add_one(&mut self, alloc: Global, name: &[u8]) -> Result<(), AllocError>
         ensures { OnOk result (self.new ≡ flags.with_one self.old name.now) }
     {
@@ -142,7 +142,7 @@ impl Flags {
         Ok(())
     }
 
-    /// Those that one text names go.
+    /// Removes the flags that one text names.
     fn remove_named(&mut self, text: &[u8])
         ensures { self.new ≡ flags.without_named self.old text.now }
     {
@@ -154,7 +154,7 @@ impl Flags {
         self.remove_one(rest);
     }
 
-    /// One goes, where it is there.
+    /// Removes a flag, if it is there.
     fn remove_one(&mut self, name: &[u8])
         ensures { self.new ≡ flags.without_one self.old name.now }
     {
@@ -170,7 +170,7 @@ fn push_name(text: &mut Octets, name: &[u8]) -> Result<(), AllocError>
     text.extend_from_slice(name)
 }
 
-/// What stands before the first blank of a text, and what stands behind it; none where there is no blank.
+/// What comes before the first blank of a text, and what comes after it; `None` if there is no blank.
 fn cut_at_blank(text: &[u8]) -> Option<(&[u8], &[u8])>
     ensures cut { MatchOption result (flags.between_blanks text.now ≡ text.now ∷ []) (λ cut. flags.between_blanks text.now ≡ cut.0.now ∷ flags.between_blanks cut.1.now) }
     ensures shorter { IfSome result (λ cut. length cut.1.now < length text.now) }

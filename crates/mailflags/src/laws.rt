@@ -3,19 +3,19 @@ ghost use Rattle.std.specs.Prelude.{◌≡◌, ◌↔◌, ◌⊎◌, ◌<◌, �
 ghost use Rattle.mailflags.specs.Names.{are_same, is_flag};
 ghost use Rattle.mailflags.specs.Flags.{AreFlags, added, has, max_flags, named, removed, with_one, without_one, written};
 
-/// Whatever the texts are: names of flags, none twice, and at most a hundred.
+/// Whatever texts are added or removed, the flags stay names of flags, none twice, and at most a hundred.
 pub fn flags_stay_flags()
     ensures none { AreFlags [] }
     ensures added { (flags texts : List (List ℕ)) → AreFlags flags → AreFlags (added flags texts) }
     ensures removed { (flags texts : List (List ℕ)) → AreFlags flags → AreFlags (removed flags texts) }
 {}
 
-/// What is written is read as the same flags.
+/// Flags that are written are read back as the same flags.
 pub fn written_and_read()
     ensures { (flags : List (List ℕ)) → AreFlags flags → named (written flags) ≡ flags }
 {}
 
-/// A flag that is added is there, and one that goes isn't; each other one is there as before.
+/// A flag that was added is there, and one that was removed isn't; each other one is there as before.
 pub fn one_more_one_less()
     ensures there { (flags : List (List ℕ)) (name : List ℕ) → is_flag name ≡ true → length flags < max_flags → has (with_one flags name) name ≡ true }
     ensures gone { (flags : List (List ℕ)) (name : List ℕ) → has (without_one flags name) name ≡ false }

@@ -1,4 +1,4 @@
-//! The flags of a message, as IMAP names them (RFC 3501, 2.3.2; RFC 5232), and the letters that a Maildir has for them.
+//! The flags of a message, as IMAP names them (RFC 3501, 2.3.2; RFC 5232), and their letters in a Maildir.
 #![tactic(auto)]
 
 mod flags;

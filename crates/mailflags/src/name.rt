@@ -5,7 +5,7 @@ ghost use Rattle.mailflags.specs.Names as names;
 
 use crate::system::SystemFlag;
 
-/// How many octets the name of a flag has at most.
+/// The most octets of a flag's name.
 pub const MAX_FLAG_LEN: usize = 128;
 
 /// Whether the text is the name of a flag that a user may set: one of the five system flags, or a keyword, which is an atom of
@@ -16,14 +16,14 @@ pub fn is_flag(name: &[u8]) -> bool
     name.len() <= MAX_FLAG_LEN && (is_keyword(name) || SystemFlag::is_one(name))
 }
 
-/// Whether two names are of one flag: the case of letters of ASCII is no difference (RFC 3501, 9).
+/// Whether two names are of one flag: ASCII case makes no difference (RFC 3501, 9).
 pub fn are_same(one: &[u8], other: &[u8]) -> bool
     ensures { result ≡ names.are_same one.now other.now }
 {
     one.eq_ignore_ascii_case(other)
 }
 
-/// An atom: octets of atoms, one or more.
+/// Whether the name is an atom: one or more octets that an atom may have.
 fn is_keyword(name: &[u8]) -> bool
     ensures { result ≡ names.is_keyword name.now }
 {
@@ -36,7 +36,7 @@ fn are_of_atoms(name: &[u8]) -> bool
     name.iter().all(|octet| is_of_atoms(*octet))
 }
 
-/// An octet that an atom may have: none of `(`, `)`, `{`, `%`, `*`, `"`, `\`, `]`, no blank and no control octet.
+/// Whether an atom may have the octet: it is none of `(`, `)`, `{`, `%`, `*`, `"`, `\`, `]`, no blank and no control octet.
 fn is_of_atoms(octet: u8) -> bool
     ensures { result ≡ names.is_of_atoms octet }
 {

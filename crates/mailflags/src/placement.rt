@@ -6,6 +6,6 @@ use octets::Octets;
 pub struct Placement {
     /// The name of the mailbox.
     pub mailbox: Octets,
-    /// The text that names the flags, with a blank between two; empty where there are none.
+    /// The text that names the flags, separated by single blanks; empty if there are none.
     pub flags: Octets,
 }

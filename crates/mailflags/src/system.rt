@@ -44,7 +44,7 @@ impl SystemFlag {
         }
     }
 
-    /// The letter that says it in the name of a file of a Maildir.
+    /// Its letter in the name of a Maildir's file.
     pub fn letter(self) -> u8
         ensures { result ≡ letter_of self }
     {
@@ -57,7 +57,7 @@ impl SystemFlag {
         }
     }
 
-    /// Whether the text is the name of a system flag, in letters of either case.
+    /// Whether the text is the name of a system flag, in any ASCII case.
     pub(crate) fn is_one(name: &[u8]) -> bool
         ensures { result ≡ is_system name.now }
     {

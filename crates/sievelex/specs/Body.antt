@@ -5,7 +5,7 @@ use Rattle.sievelex.specs.declared.multiline.Stage.{Stage}
 use Rattle.sievelex.specs.declared.multiline.Stage.TheVariants.{Opening, Comment, OpeningReturn, Start, Dot, DotReturn, Inside, Return, Done, Broken}
 use Rattle.sievelex.specs.Inside.{onto}
 
--- where the next octet stands
+-- where the next octet is
 abbrev pub stage_after : Stage → ℕ → Stage
 stage_after Opening b = cond (is_blank b) Opening (cond (b == 35) Comment (cond (b == 13) OpeningReturn (cond (b == 10) Start Broken)))
 stage_after Comment b = cond (b == 10) Start Comment
@@ -26,7 +26,7 @@ emitted Inside b = cond (b == 13) [] (cond (b == 10) (13 ∷ (10 ∷ [])) (b ∷
 emitted Return b = cond (b == 10) (13 ∷ (10 ∷ [])) []
 emitted _ b = []
 
--- what the string stands for and what follows it, from any place in it on
+-- what the string stands for and what follows it, from any position in it on
 abbrev pub body_from : Stage → List ℕ → Option (List ℕ × List ℕ)
 body_from Opening [] = None
 body_from Comment [] = None

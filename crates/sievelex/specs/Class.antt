@@ -9,11 +9,11 @@ use Rattle.sievelex.specs.declared.token.Mark.TheVariants.{Semicolon, OpenBrace,
 abbrev pub is_name_start : ℕ → Bool
 is_name_start b = is_letter b || b == 95
 
--- a letter, a digit or `_` goes on with it
+-- a letter, a digit or `_` continues it
 abbrev pub is_name_octet : ℕ → Bool
 is_name_octet b = is_name_start b || is_digit b
 
--- SP, TAB, and the octets of a line end, CR and LF (in a text each CR stands before an LF)
+-- SP, TAB, and the octets of a line end, CR and LF (in a text each CR precedes an LF)
 abbrev pub is_white : ℕ → Bool
 is_white b = is_blank b || (b == 13 || b == 10)
 

@@ -1,4 +1,4 @@
--- What tokens are and say, without their places.
+-- What tokens are and say, without their positions.
 use Rattle.std.specs.Prelude.{◌≡◌, ℕ, List, [], ◌∷◌, ◌++◌, Option, Some, None, map, slice_get}
 use Rattle.sievelex.specs.declared.token.Content.{Content}
 use Rattle.sievelex.specs.declared.token.Content.TheVariants.{Identifier, Tag, Number, Text, Mark}
@@ -25,16 +25,16 @@ content_of (R.Number n) = Number n
 content_of (R.Text value) = Text value.now
 content_of (R.Mark mark) = Mark mark
 
--- the line of this token, or the first line
+-- the line of this token, or 1
 abbrev pub line_or : Option Token → ℕ
 line_or None = 1
 line_or (Some token) = token.line
 
--- the line of the token of this index, or the first line
+-- the line of the token with this index, or 1
 abbrev pub line_at : ℕ → List Token → ℕ
 line_at index tokens = line_or (slice_get tokens index)
 
--- these tokens are packed so, whatever is packed after them
+-- these tokens are packed like this, whatever is packed after them
 pub record HoldsContents (packed : Packed) (tokens : List Content) : Type 0 where
   pub after : (kinds : List PackedKind) (numbers octets : List ℕ) → unpacked (packed.kinds.items ++ kinds) (packed.numbers.items ++ numbers) (packed.octets.items ++ octets) ≡ tokens ++ unpacked kinds numbers octets
 

@@ -2,7 +2,7 @@
 use Rattle.std.specs.Prelude.{ℕ, cond, is_some, List, [], ◌∷◌}
 use Rattle.sievelex.specs.Shape.{factor_of}
 
--- how many octets of the multiplier stand at the front: one or none
+-- how many octets of a multiplier the text begins with: one or none
 abbrev pub letter_len : List ℕ → ℕ
 letter_len [] = 0
 letter_len (b ∷ _) = cond (is_some (factor_of (b ∷ []))) 1 0

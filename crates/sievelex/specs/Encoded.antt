@@ -20,7 +20,7 @@ is_hex b = (nat_le 48 b && nat_le b 57) || ((nat_le 65 b && nat_le b 70) || (nat
 abbrev pub hex_value : ℕ → ℕ
 hex_value b = cond (nat_le b 57) (b - 48) (cond (nat_le b 70) (b - 55) (b - 87))
 
--- a number with one digit more at its end. Above 10FFFF there are no characters, and nothing is told apart
+-- a number with one more digit at its end. Above 10FFFF there are no characters, and all such numbers are taken as one
 abbrev pub with_hex : ℕ → ℕ → ℕ
 with_hex number b = min (number * 16 + hex_value b) 1114112
 
@@ -38,13 +38,13 @@ abbrev pub value_of : Coding → (digits number : ℕ) → Option (List ℕ)
 value_of Hex digits number = cond (nat_le digits 2 && nat_lt number 256) (Some (number ∷ [])) None
 value_of Unicode digits number = cond (is_character number) (Some (encode_utf8 number)) None
 
--- the same of a word that is read: no digits are no word
+-- the same of a word that was read: if there are no digits there is no word
 abbrev pub word_value : Coding → (digits number : ℕ) → Option (List ℕ)
 word_value coding digits number = cond (digits == 0) (Some []) (value_of coding digits number)
 
 -- ---- sequences
 
--- one text after another, where there are both
+-- one text after another, if both are there
 abbrev pub joined : Option (List ℕ) → Option (List ℕ) → Option (List ℕ)
 joined None rest = None
 joined (Some front) None = None
@@ -60,18 +60,18 @@ abbrev pub ended : List ℕ → List (List ℕ)
 ended [] = []
 ended (b ∷ word) = (b ∷ word) ∷ []
 
--- the words that white octets part, where `word` has begun before: blank = WSP / CRLF
+-- the words that white octets separate, if `word` has begun before: blank = WSP / CRLF
 abbrev pub words_from : List ℕ → List ℕ → List (List ℕ)
 words_from word [] = ended word
 words_from word (b ∷ s) = cond (is_white b) (ended word ++ words_from [] s) (words_from (word ++ b ∷ []) s)
 
 -- ---- in a text
 
--- this stands at the front, in any ASCII case
+-- the text begins with `front`, in any ASCII case
 abbrev pub begins_with : List ℕ → List ℕ → Bool
 begins_with front text = nat_le (length front) (length text) && pointwise nat_eq (lowered (take (length front) text)) (lowered front)
 
--- what the text begins with, and how many octets that is: "${hex:" or "${unicode:"
+-- the kind of sequence that the text opens, and how many octets that takes: "${hex:" or "${unicode:"
 abbrev pub opening_of : List ℕ → Option (Coding × ℕ)
 opening_of text =
     cond (begins_with (codes "${hex:") text) (Some (Hex, 6))
@@ -81,7 +81,7 @@ opening_of text =
 abbrev pub is_inner : ℕ → Bool
 is_inner b = is_hex b || is_white b
 
--- how many such octets stand at the front
+-- how many such octets the text begins with
 abbrev pub inner_len : List ℕ → ℕ
 inner_len text = prefix_len is_inner text
 
@@ -89,13 +89,13 @@ inner_len text = prefix_len is_inner text
 abbrev pub is_closed : List ℕ → Bool
 is_closed text = slice_index text (inner_len text) == 125 && list_any is_hex (take (inner_len text) text)
 
--- a sequence of that many octets with this value: none where a word is no hex-pair, and an error where one is no character
+-- a sequence of that many octets with this value: absent if a word isn't a hex-pair, and out of range if one isn't a character's number
 abbrev pub valued : Coding → ℕ → Option (List ℕ) → Sequence
 valued coding len (Some value) = Present value len
 valued Hex len None = Absent
 valued Unicode len None = OutOfRange
 
--- what begins so goes on so
+-- the sequence, given what it opens with
 abbrev pub closed_by : Option (Coding × ℕ) → List ℕ → Sequence
 closed_by None text = Absent
 closed_by (Some opening) text =
@@ -103,17 +103,17 @@ closed_by (Some opening) text =
     (valued opening.0 (opening.1 + inner_len (drop opening.1 text) + 1) (values_of opening.0 (words_from [] (take (inner_len (drop opening.1 text)) (drop opening.1 text)))))
     Absent
 
--- the sequence at the front: encoded-arb-octets = "${hex:" hex-pair-seq "}", encoded-unicode-char = "${unicode:" unicode-hex-seq "}"
+-- the sequence that the text begins with: encoded-arb-octets = "${hex:" hex-pair-seq "}", encoded-unicode-char = "${unicode:" unicode-hex-seq "}"
 abbrev pub sequence_at : List ℕ → Sequence
 sequence_at text = closed_by (opening_of text) text
 
--- a sequence has an octet or more, and none that the text hasn't
+-- a sequence has one or more octets, and no more than the text has
 abbrev pub IsWithin : Sequence → List ℕ → Type 0
 IsWithin Absent text = Unit {0}
 IsWithin OutOfRange text = Unit {0}
 IsWithin (Present value len) text = (0 < len) × (len ≤ length text)
 
--- what the text stands for from a place on, from which the first `taken` octets belong to a sequence before it: what is no sequence
+-- what the text stands for from a position on, if its first `taken` octets belong to a sequence before it: what isn't a sequence
 -- stays as it is written, and what has been decoded isn't decoded again
 abbrev pub decoded_after : (taken : ℕ) → List ℕ → Option (List ℕ)
 decoded_after taken [] = Some []
@@ -124,6 +124,6 @@ decoded_after zero (b ∷ s) = elim (sequence_at (b ∷ s)) [
   | Present value len ↦ joined (Some value) (decoded_after (len - 1) s)
 ]
 
--- what a string stands for where `encoded-character` is required; nothing where a sequence has a number that is no character's
+-- what a string stands for if `encoded-character` is required; nothing if a sequence has a number that isn't a character's
 abbrev pub decoded : List ℕ → Option (List ℕ)
 decoded text = decoded_after 0 text

@@ -1,4 +1,4 @@
--- The inside of a quoted string, read from the left.
+-- The inside of a quoted string, read from left to right.
 use Rattle.std.specs.Prelude.{ℕ, ◌==◌, ◌&&◌, ◌||◌, not, Bool, cond, Option, Some, None, List, [], ◌∷◌, ◌++◌}
 use Rattle.sievelex.specs.declared.quoted.Mode.{Mode}
 use Rattle.sievelex.specs.declared.quoted.Mode.TheVariants.{Inside, Escape, Return}
@@ -8,11 +8,11 @@ abbrev pub onto : List ℕ → Option (List ℕ × List ℕ) → Option (List �
 onto front None = None
 onto front (Some r) = Some (front ++ r.0, r.1)
 
--- an octet that stands for itself there, whatever is around it
+-- an octet that stands for itself, whatever is around it
 abbrev pub is_plain : ℕ → Bool
 is_plain octet = not (octet == 34) && (not (octet == 92) && (not (octet == 13) && not (octet == 10)))
 
--- what a string stands for and what follows its closing quotation mark, from any place inside it on
+-- what a string stands for and what follows its closing quotation mark, from any position inside it on
 abbrev pub string_from : Mode → List ℕ → Option (List ℕ × List ℕ)
 string_from mode [] = None
 string_from Inside (b ∷ s) =

@@ -4,7 +4,7 @@ use Rattle.std.specs.List.{list_all, flat_map}
 use Rattle.octets.specs.Ascii.{is_blank, lowered}
 use Rattle.sievelex.specs.Space.{IsLastComment}
 
--- a line ends by CRLF, or by a bare LF, which is read as CRLF
+-- a line ends with CRLF, or with a bare LF, which is read as CRLF
 abbrev pub line_end : Bool → List ℕ
 line_end true = 10 ∷ []
 line_end false = 13 ∷ (10 ∷ [])
@@ -18,7 +18,7 @@ pub record Line : Type 0 where
   pub content : List ℕ
   pub bare : Bool
 
--- a line that is not `.`, which would be the last
+-- a line that isn't `.`, which would end the string
 pub record IsLine (l : Line) : Type 0 where
   pub inside : IsTrue (list_all is_inside l.content)
   pub goes_on : l.content ≢ 46 ∷ []
@@ -27,7 +27,7 @@ abbrev pub AreLines : List Line → Type 0
 AreLines [] = Unit {0}
 AreLines (l ∷ more) = IsLine l × AreLines more
 
--- a dot before another dot at the start of a line is taken off
+-- without the dot before another dot at the start of a line
 abbrev pub unstuffed : List ℕ → List ℕ
 unstuffed [] = []
 unstuffed (b ∷ s) = cond (b == 46 && slice_index s 0 == 46) s (b ∷ s)
@@ -39,11 +39,11 @@ line_spelling l = l.content ++ line_end l.bare
 abbrev pub line_value : Line → List ℕ
 line_value l = unstuffed l.content ++ 13 ∷ (10 ∷ [])
 
--- what stands after the last dot: a line end, or nothing at the end of the text
+-- what follows the last dot: a line end, or nothing at the end of the text
 abbrev pub IsFinal : List ℕ → List ℕ → Type 0
 IsFinal final rest = ((bare : Bool) × (final ≡ line_end bare)) ⊎ ((final ≡ []) × (rest ≡ []))
 
--- `text:` of any case, blanks, perhaps a `#` comment, a line end, lines, and a line `.`
+-- `text:` in any case, blanks, perhaps a `#` comment, a line end, lines, and a line `.`
 pub record IsMultiline (s value rest : List ℕ) : Type 0 where
   pub word : List ℕ
   pub blanks : List ℕ

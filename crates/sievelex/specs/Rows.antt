@@ -50,11 +50,11 @@ pub record IsSequence (coding : Coding) (s : List ℕ) (words : List (List ℕ))
   pub some : words ≢ []
   pub spelled : s ≡ front ++ (row ++ 125 ∷ [])
 
--- it is read by its words and to its end, whatever follows it
+-- it is read as these words and to its end, whatever follows it
 abbrev pub IsRead : Coding → List ℕ → List (List ℕ) → List ℕ → Type 0
 IsRead coding s words rest = sequence_at (s ++ rest) ≡ valued coding (length s) (values_of coding words)
 
--- a sequence stands at the front
+-- the text begins with a sequence
 pub record BeginsWithSequence (text : List ℕ) : Type 0 where
   pub coding : Coding
   pub sequence : List ℕ

@@ -14,7 +14,7 @@ abbrev pub IsName : List ℕ → Type 0
 IsName [] = ⊥
 IsName (b ∷ more) = IsTrue (is_name_start b) × IsTrue (list_all is_name_octet more)
 
--- what the letter after a number multiplies it by, if one stands there: K, M or G, of either case
+-- what the letter after a number multiplies it by, if there is one: K, M or G, of either case
 abbrev pub factor_of : List ℕ → Option ℕ
 factor_of [] = Some 1
 factor_of (b ∷ []) =
@@ -41,7 +41,7 @@ pub data Piece : Type 0 where
   LineEnd : Piece
   BareLineEnd : Piece
 
--- `"`, `\`, CR and LF are no plain octets; a backslash stands before any octet but NUL, CR and LF
+-- `"`, `\`, CR and LF aren't plain octets; a backslash may precede any octet but NUL, CR and LF
 abbrev pub IsPiece : Piece → Type 0
 IsPiece (Plain b) = IsFalse (b == 34) × IsFalse (b == 92) × IsFalse (b == 13) × IsFalse (b == 10)
 IsPiece (Escaped b) = IsFalse (b == 0) × IsFalse (b == 13) × IsFalse (b == 10)
@@ -73,7 +73,7 @@ pub record IsQuotedString (s value : List ℕ) : Type 0 where
   pub spelled : s ≡ 34 ∷ (flat_map spelling_of pieces ++ 34 ∷ [])
   pub valued : value ≡ flat_map value_of pieces
 
--- s spells this token before the rest of the text
+-- s spells this token, and the rest of the text follows
 abbrev pub IsShape : Content → List ℕ → List ℕ → Type 0
 IsShape (Identifier name) s rest = (s ≡ name) × IsName name
 IsShape (Tag name) s rest = (s ≡ 58 ∷ name) × IsName name

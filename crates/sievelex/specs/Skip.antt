@@ -1,16 +1,16 @@
--- White space, read from the left.
+-- White space, read from left to right.
 use Rattle.std.specs.Prelude.{ℕ, Bool, false, ◌==◌, ◌||◌, ◌&&◌, cond, Option, Some, None, List, [], ◌∷◌, slice_index}
 use Rattle.sievelex.specs.declared.space.Place.{Place}
 use Rattle.sievelex.specs.declared.space.Place.TheVariants.{Between, Comment, Opening, Inner, Star}
 use Rattle.sievelex.specs.Class.{is_white}
 use Rattle.sievelex.specs.Text.{is_line_feed}
 
--- a white octet, `#` or `/*` stands first
+-- the text begins with a white octet, `#` or `/*`
 abbrev pub begins_space : List ℕ → Bool
 begins_space [] = false
 begins_space (b ∷ s) = is_white b || (b == 35 || (b == 47 && slice_index s 0 == 42))
 
--- where the next octet stands
+-- where the next octet is
 abbrev pub place_after : Place → ℕ → Place
 place_after Between b = cond (b == 35) Comment (cond (b == 47) Opening Between)
 place_after Comment b = cond (is_line_feed b) Between Comment
@@ -18,7 +18,7 @@ place_after Opening b = Inner
 place_after Inner b = cond (b == 42) Star Inner
 place_after Star b = cond (b == 47) Between (cond (b == 42) Star Inner)
 
--- what follows white space, from any place in it on: none where a comment in brackets is not closed
+-- what follows white space, from any position in it on: none if a comment in brackets is not closed
 abbrev pub space_from : Place → List ℕ → Option (List ℕ)
 space_from Between [] = Some []
 space_from Comment [] = Some []

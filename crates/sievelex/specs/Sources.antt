@@ -3,7 +3,7 @@ use Rattle.std.specs.Prelude.{ℕ, List}
 use Rattle.sievelex.specs.declared.said.Source.{Source}
 use Rattle.sievelex.specs.declared.said.Source.TheVariants as S
 
--- the octets that stand there
+-- these octets
 abbrev pub octets_at : Source → List ℕ
 octets_at (S.Text octets) = octets.now
 octets_at (S.Apart octets) = octets

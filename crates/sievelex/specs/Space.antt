@@ -11,16 +11,16 @@ pub data Space : Type 0 where
   Hash : List ℕ → Space
   Bracketed : List ℕ → Space
 
--- no octet ends a line
+-- no octet is a line feed
 abbrev pub IsInLine : List ℕ → Type 0
 IsInLine s = IsTrue (list_all (λ b. not (is_line_feed b)) s)
 
--- no `*/` stands in it
+-- it doesn't contain `*/`
 abbrev pub HasNoEnd : List ℕ → Type 0
 HasNoEnd [] = Unit {0}
 HasNoEnd (b ∷ s) = (b ≡ 42 → slice_index s 0 ≢ 47) × HasNoEnd s
 
--- a `#` comment goes on to the first line end, a comment in brackets to the first `*/`
+-- a `#` comment extends to the first line end, a comment in brackets to the first `*/`
 abbrev pub IsSpace : Space → Type 0
 IsSpace (White b) = IsTrue (is_white b)
 IsSpace (Hash body) = IsInLine body

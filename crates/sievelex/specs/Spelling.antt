@@ -14,12 +14,12 @@ abbrev pub IsInRange : Content → Type 0
 IsInRange (Number n) = n < 2 ^ 63
 IsInRange _ = Unit {0}
 
--- the identifier `text`, of any case, with a colon right after it, which begins a text of several lines
+-- the identifier `text`, in any case, with a colon right after it, which begins a string of several lines
 abbrev pub OpensText : Content → List ℕ → Type 0
 OpensText (Identifier name) rest = (lowered name ≡ codes "text") × (slice_get rest 0 ≡ Some 58)
 OpensText _ rest = ⊥
 
--- the first n octets are this token: they spell it, and no longer front spells any
+-- the first n octets are this token: they spell it, and no longer prefix spells any token
 pub record IsToken (octets : List ℕ) (content : Content) (n : ℕ) : Type 0 where
   pub within : n ≤ length octets
   pub shape : IsShape content (take n octets) (drop n octets)
@@ -27,7 +27,7 @@ pub record IsToken (octets : List ℕ) (content : Content) (n : ℕ) : Type 0 wh
   pub in_range : IsInRange content
   pub bare : OpensText content (drop n octets) → ⊥
 
--- after white space that begins at a place of the text, this token comes next
+-- after white space that begins at a position of the text, this token comes next
 pub record IsNext (text : List ℕ) (from : ℕ) (t : Token) : Type 0 where
   pub ahead : from ≤ t.start
   pub gap : IsGap (take (t.start - from) (drop from text))
@@ -35,7 +35,7 @@ pub record IsNext (text : List ℕ) (from : ℕ) (t : Token) : Type 0 where
   pub token : IsToken (drop t.start text) t.content (t.end - t.start)
   pub line : t.line ≡ 1 + line_ends (take t.start text)
 
--- a token stands at its place, within the text and on its line
+-- a token is at its position, within the text and on its line
 pub record IsPlaced (text : List ℕ) (t : Token) : Type 0 where
   pub forward : t.start ≤ t.end
   pub inside : t.end ≤ length text
@@ -45,7 +45,7 @@ pub record IsPlaced (text : List ℕ) (t : Token) : Type 0 where
 abbrev pub placed : List ℕ → Piece → Token
 placed text p = record { content = p.content; start = p.start; end = p.end; line = 1 + line_ends (take p.start text) }
 
--- from this place on the text is these tokens with white space between and around them
+-- from this position on the text is these tokens with white space between and around them
 abbrev pub SpellsFrom : List ℕ → ℕ → List Token → Type 0
 SpellsFrom text from [] = IsTail (drop from text)
 SpellsFrom text from (t ∷ ts) = IsNext text from t × SpellsFrom text t.end ts

@@ -1,4 +1,4 @@
--- Which texts may be scripts at all (RFC 5228, 2.1), and their lines.
+-- Which texts can be scripts at all (RFC 5228, 2.1), and their lines.
 use Rattle.std.specs.Prelude.{◌≡◌, ◌≢◌, ℕ, ◌+◌, ◌<◌, Bool, ◌==◌, List, length, count_by, slice_index}
 use Rattle.std.specs.Str.{IsUtf8}
 
@@ -16,6 +16,6 @@ pub record IsText (text : List ℕ) : Type 0 where
 abbrev pub is_line_feed : ℕ → Bool
 is_line_feed b = b == 10
 
--- how many lines end in these octets
+-- how many line ends there are in these octets
 abbrev pub line_ends : List ℕ → ℕ
 line_ends s = count_by is_line_feed s

@@ -1,4 +1,4 @@
--- Packed tokens: a row of kinds, and beside it the numbers and the octets that they say.
+-- Packed tokens: a row of kinds, and besides it the numbers and the octets that they say.
 use Rattle.std.specs.Prelude.{ℕ, List, [], ◌∷◌, take, drop, slice_index}
 use Rattle.sievelex.specs.declared.token.Content.{Content}
 use Rattle.sievelex.specs.declared.token.Content.TheVariants.{Identifier, Tag, Number, Text, Mark}

@@ -1,4 +1,4 @@
-//! What an octet begins, outside strings.
+//! The classes of octets outside strings: what an octet begins.
 ghost use Rattle.std.specs.Prelude.{◌≡◌};
 ghost use Rattle.sievelex.specs.Class.{class_of, is_name_start, is_name_octet, is_white};
 
@@ -18,7 +18,7 @@ pub(crate) enum Class {
     Colon,
     /// A quoted string.
     Quote,
-    /// The octet is one of the eight marks.
+    /// One of the eight marks, which the octet itself is.
     Mark(Mark),
     /// Nothing.
     Other,

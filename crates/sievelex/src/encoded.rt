@@ -18,22 +18,22 @@ pub(crate) enum Coding {
     Unicode,
 }
 
-/// What stands at the front of a text.
+/// What a text begins with.
 #[derive(Drop)]
 pub(crate) enum Sequence {
     /// No sequence.
     Absent,
-    /// One with a number that is no character's.
+    /// A sequence with a number that isn't a character's.
     OutOfRange,
-    /// One that stands for these octets, and how many octets it has itself.
+    /// A sequence that stands for these octets, and its own length in octets.
     Present(Octets, usize),
 }
 
-/// The greatest number that is counted: there is no such character.
+/// Numbers saturate here: there is no such character.
 const BEYOND: u32 = 0x11_0000;
 
-/// What a string stands for where `encoded-character` is required (RFC 5228, 2.4.2.4): each `${hex: ..}` and
-/// `${unicode: ..}` in place of what it encodes, once. None where a sequence has a number that is no character's.
+/// Decodes a string of a script that requires `encoded-character` (RFC 5228, 2.4.2.4): replaces each `${hex: ..}` and
+/// `${unicode: ..}` by what it encodes, once. `None` if a sequence has a number that isn't a character's.
 ///
 /// Time and memory are linear in the text's length; a text without `$` is copied as it is.
 pub fn decode(alloc: Global, text: &[u8]) -> Result<Option<Octets>, AllocError>
@@ -66,7 +66,7 @@ pub fn decode(alloc: Global, text: &[u8]) -> Result<Option<Octets>, AllocError>
     Ok(Some(value))
 }
 
-/// The sequence at the front of a text. Looks no further than to the octet that isn't of it.
+/// The sequence that a text begins with. Looks no further than the first octet that isn't part of it.
 fn sequence_at(alloc: Global, text: &[u8]) -> Result<Sequence, AllocError>
     ensures found { IfOk result (λ found. found ≡ spec.sequence_at text.now) }
     ensures within { IfOk result (λ found. spec.IsWithin found text.now) }
@@ -87,7 +87,7 @@ fn sequence_at(alloc: Global, text: &[u8]) -> Result<Sequence, AllocError>
     })
 }
 
-/// What kind of sequence begins here, and how many octets stand before its numbers.
+/// The kind of the sequence that begins here, and how many octets precede its numbers.
 fn opening(text: &[u8]) -> Option<(Coding, usize)>
     ensures value { result ≡ spec.opening_of text.now }
     ensures within { MatchOption result (Unit {0}) (λ found. found.1 ≤ length text.now) }
@@ -101,14 +101,14 @@ fn opening(text: &[u8]) -> Option<(Coding, usize)>
     }
 }
 
-/// Whether this stands at the front, in any ASCII case.
+/// Whether the text begins with `front`, in any ASCII case.
 fn begins_with(text: &[u8], front: &[u8]) -> bool
     ensures { result ≡ spec.begins_with front.now text.now }
 {
     front.len() <= text.len() && text.split_at(front.len()).0.eq_ignore_ascii_case(front)
 }
 
-/// How many octets at the front are of numbers or between them.
+/// How many octets at the beginning are part of numbers or between them.
 fn inner_len(text: &[u8]) -> usize
     ensures value { result ≡ spec.inner_len text.now }
     ensures within { result ≤ length text.now }
@@ -160,7 +160,7 @@ fn values(alloc: Global, coding: Coding, body: &[u8]) -> Result<Option<Octets>, 
     Ok(Some(value))
 }
 
-/// A number with one digit more, up to the greatest that is counted.
+/// A number with one more digit, saturating at `BEYOND`.
 fn with_hex(number: u32, octet: u8) -> u32
     requires { number ≤ 1114112 }
     ensures value { result ≡ spec.with_hex number octet }
@@ -181,7 +181,7 @@ fn hex_value(octet: u8) -> u8
     }
 }
 
-/// Appends what a number of that many digits stands for, nothing for none; false where it stands for nothing.
+/// Appends what a number of that many digits stands for; nothing if there are no digits. Returns false if it stands for nothing.
 fn append_value(
     value: &mut Octets,
     coding: Coding,

@@ -6,24 +6,24 @@ use std::alloc::{AllocError, AllocFailed, Global};
 use std::fmt;
 use thiserror::Error;
 
-/// Why a text is no valid script.
+/// Why a text isn't a valid script.
 #[derive(Clone, Copy, PartialEq, Eq)]
 pub enum FaultKind {
     /// The text is not UTF-8.
     NotUtf8 = 1,
-    /// An octet that may not stand where it does: NUL, a CR that no LF follows, one that begins no token.
+    /// An octet that isn't allowed where it is: NUL, a CR that no LF follows, or an octet that begins no token.
     BadByte = 2,
     /// A string without its end.
     OpenString = 3,
     /// A `/* */` comment without its end.
     OpenComment = 4,
-    /// A number above 2^63 - 1, its multiplier counted.
+    /// A number above 2^63 - 1, including its multiplier.
     NumberTooLarge = 5,
-    /// A token that may not stand where it does.
+    /// A token that isn't allowed where it is.
     Unexpected = 6,
-    /// An identifier that is no command's name.
+    /// An identifier that isn't the name of a command.
     UnknownCommand = 7,
-    /// An identifier that is no test's name.
+    /// An identifier that isn't the name of a test.
     UnknownTest = 8,
     /// A tag that the command or test does not have.
     UnknownTag = 9,
@@ -33,7 +33,7 @@ pub enum FaultKind {
     MissingArgument = 11,
     /// More arguments than the command or test has.
     ExtraArgument = 12,
-    /// An argument of another form or value than is wanted.
+    /// An argument of a form or a value other than expected.
     WrongArgument = 13,
     /// A command, test, tag or comparator whose capability is not required.
     NotRequired = 14,
@@ -41,19 +41,19 @@ pub enum FaultKind {
     UnknownCapability = 15,
     /// A `require` after another command.
     LateRequire = 16,
-    /// An `elsif` or `else` that stands directly after no `if` or `elsif`.
+    /// An `elsif` or `else` that isn't directly after an `if` or `elsif`.
     StrayElse = 17,
-    /// More levels of blocks, test lists or `not` than are taken.
+    /// More levels of blocks, test lists or `not` than are accepted.
     TooDeep = 18,
-    /// A mailbox name that is not taken.
+    /// A mailbox name that is not accepted.
     BadMailbox = 19,
-    /// An outbound address that is not taken.
+    /// An outbound address that is not accepted.
     BadAddress = 20,
-    /// A reason with `:mime` that is no MIME entity of the form wanted.
+    /// A reason with `:mime` that isn't a MIME entity of the expected form.
     BadMime = 21,
     /// A line of a vacation reason with more than 998 octets.
     LongReasonLine = 22,
-    /// A string with an encoded character that there isn't.
+    /// A string with an encoded character that doesn't exist.
     BadCharacter = 23,
 }
 
@@ -112,7 +112,7 @@ impl fmt::Debug for FaultKind {
     }
 }
 
-/// Why and where a text is no valid script. It is shown as `line 3: unknown test`.
+/// Why and where a text isn't a valid script. It is displayed as `line 3: unknown test`.
 #[derive(Clone, Copy, Debug, PartialEq, Eq, Error)]
 #[error("line {line}: {kind}")]
 pub struct ScriptFault {
@@ -123,7 +123,7 @@ pub struct ScriptFault {
 }
 
 impl ScriptFault {
-    /// The fault in words, as a script's author is told of it: `line 3: unknown test`.
+    /// The fault in words for the script's author: `line 3: unknown test`.
     pub fn told(&self, alloc: Global) -> Result<Octets, AllocError>
         ensures { IfOk result (λ text. text ≡ fault_line self.now.line self.now.kind) }
     {
@@ -135,13 +135,13 @@ impl ScriptFault {
     }
 }
 
-/// Why there is no answer for a script: no memory, or a fault of the script.
+/// Why a script couldn't be read: lack of memory, or a fault of the script.
 #[derive(Debug, Drop, PartialEq, Eq, Error)]
 pub enum ScriptError {
-    /// Memory that was asked for was refused.
+    /// An allocation failed.
     #[error("out of memory")]
     Memory,
-    /// The text is no valid script.
+    /// The text isn't a valid script.
     #[error("{0}")]
     Fault(ScriptFault),
 }

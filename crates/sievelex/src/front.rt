@@ -1,4 +1,4 @@
-//! The token at the front of a text.
+//! The token that a text begins with.
 ghost use Rattle.std.specs.Prelude.{◌≡◌, ◌∷◌, ◌↔◌, IsTrue, slice_index, take, codes};
 ghost use Rattle.sievelex.specs.Spelling.{OpensText};
 ghost use Rattle.std.specs.List.{prefix_len};
@@ -16,15 +16,15 @@ use crate::said::Said;
 use crate::token::Content;
 use std::alloc::Global;
 
-/// A token at the front of a text, and how many octets spell it.
+/// A token that a text begins with, and how many octets spell it.
 #[derive(Drop)]
 pub(crate) struct Front<'a> {
     pub(crate) content: Content<'a>,
     pub(crate) len: usize,
 }
 
-/// The token that begins with the text's first octet. Looks at its octets alone, and at those that make
-/// it no token.
+/// Reads the token that begins with the text's first octet. Looks only at its octets, and at those by which
+/// it isn't a token.
 #[inline(always)]
 pub(crate) fn read_front<'a>(
     alloc: Global,
@@ -62,7 +62,7 @@ pub(crate) fn read_front<'a>(
     }
 }
 
-/// The identifier that begins with the text's first octet.
+/// Reads the identifier that begins with the text's first octet.
 #[inline(always)]
 fn read_identifier<'a>(alloc: Global, octets: &'a [u8], line: u64) -> Result<Front<'a>, ScriptError>
     requires { IsTrue (is_name_start (slice_index octets.now 0)) }
@@ -79,7 +79,7 @@ fn read_identifier<'a>(alloc: Global, octets: &'a [u8], line: u64) -> Result<Fro
     })
 }
 
-/// The string of several lines that begins with the text's first octets, `text:`.
+/// Reads the string of several lines that begins with the text's first octets, `text:`.
 fn read_multiline<'a>(alloc: Global, octets: &'a [u8], line: u64) -> Result<Front<'a>, ScriptError>
     requires { lowered (take 5 octets.now) ≡ codes "text:" }
     ensures found { Finds (IsFront octets.now) result }
@@ -93,14 +93,14 @@ fn read_multiline<'a>(alloc: Global, octets: &'a [u8], line: u64) -> Result<Fron
     })
 }
 
-/// The name `text`, of any case, with a colon right after it: it begins a string of several lines.
+/// Whether this is the name `text`, in any case, with a colon right after it: it begins a string of several lines.
 fn opens_text(name: &[u8], rest: &[u8]) -> bool
     ensures { IsTrue result ↔ OpensText (Content.Identifier name.now) rest.now }
 {
     rest.first() == Some(&b':') && name.eq_ignore_ascii_case(b"text")
 }
 
-/// The tag after whose colon this text stands.
+/// Reads the tag whose colon precedes this text.
 #[inline(always)]
 fn read_tag<'a>(octets: &'a [u8], line: u64) -> Result<Front<'a>, ScriptError>
     ensures found { Finds (IsFront (58 ∷ octets.now)) result }
@@ -119,7 +119,7 @@ fn read_tag<'a>(octets: &'a [u8], line: u64) -> Result<Front<'a>, ScriptError>
     })
 }
 
-/// The number that begins with the text's first octet.
+/// Reads the number that begins with the text's first octet.
 #[inline(always)]
 fn read_number<'a>(octets: &'a [u8], line: u64) -> Result<Front<'a>, ScriptError>
     requires { IsTrue (is_digit (slice_index octets.now 0)) }
@@ -140,7 +140,7 @@ fn read_number<'a>(octets: &'a [u8], line: u64) -> Result<Front<'a>, ScriptError
     }
 }
 
-/// The quoted string after whose opening quotation mark this text stands.
+/// Reads the quoted string whose opening quotation mark precedes this text.
 #[inline(always)]
 fn read_string<'a>(alloc: Global, octets: &'a [u8], line: u64) -> Result<Front<'a>, ScriptError>
     ensures found { Finds (IsFront (34 ∷ octets.now)) result }
@@ -153,7 +153,7 @@ fn read_string<'a>(alloc: Global, octets: &'a [u8], line: u64) -> Result<Front<'
     })
 }
 
-/// Whether a letter or `_` stands at the front.
+/// Whether the text begins with a letter or `_`.
 fn begins_name(octets: &[u8]) -> bool
     ensures { result ≡ is_name_start (slice_index octets.now 0) }
 {
@@ -163,7 +163,7 @@ fn begins_name(octets: &[u8]) -> bool
     }
 }
 
-/// How many octets at the front go on with a name.
+/// How many octets at the beginning continue a name.
 fn name_len(octets: &[u8]) -> usize
     ensures { result ≡ prefix_len is_name_octet octets.now }
 {

@@ -8,12 +8,12 @@ ghost use Rattle.sievelex.specs.Encoded.{is_inner, words_from, sequence_at};
 ghost use Rattle.sievelex.specs.Rows.{IsRow, IsSequence, IsRead, BeginsWithSequence};
 ghost use Rattle.sievelex.specs.Spelling.{Spells};
 
-/// A text has one list of tokens at most.
+/// A text has at most one list of tokens.
 pub fn tokens_of_a_text()
     ensures { (text : List ℕ) (one two : List Token) → Spells text one → Spells text two → one ≡ two }
 {}
 
-/// The numbers that are read of digits and white octets are those that the grammar has there (RFC 5228, 2.4.2.4: hex-pair-seq,
+/// The numbers that are read from digits and white octets are those of the grammar (RFC 5228, 2.4.2.4: hex-pair-seq,
 /// unicode-hex-seq).
 pub fn numbers_of_a_sequence()
     ensures { (s : List ℕ) (words : List (List ℕ)) → IsTrue (list_all is_inner s) → (words_from [] s ≡ words) ↔ IsRow s words }

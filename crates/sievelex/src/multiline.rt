@@ -8,7 +8,7 @@ use crate::fault::{FaultKind, ScriptError, ScriptFault};
 use octets::{Octets, is_blank};
 use std::alloc::{AllocError, Global};
 
-/// Where in a string of several lines an octet stands.
+/// Where in a string of several lines an octet is.
 #[derive(Clone, Copy)]
 pub(crate) enum Stage {
     /// After `text:` and blanks.
@@ -29,12 +29,12 @@ pub(crate) enum Stage {
     Return,
     /// After the last line.
     Done,
-    /// After an octet that may not stand there.
+    /// After an octet that isn't allowed there.
     Broken,
 }
 
 impl Stage {
-    /// Where the octet after this one stands.
+    /// Where the octet after this one is.
     fn after(self, octet: u8) -> Stage
         ensures { result ≡ stage_after self octet }
     {
@@ -74,7 +74,7 @@ impl Stage {
     }
 }
 
-/// Where the octet after this one stands, which stands after `text:` and blanks.
+/// Where the octet after this one is, if this one is after `text:` and blanks.
 fn after_opening(octet: u8) -> Stage
     ensures { result ≡ stage_after Opening octet }
 {
@@ -117,7 +117,7 @@ fn emit(value: &mut Octets, stage: Stage, octet: u8) -> Result<(), AllocError>
     }
 }
 
-/// What the string after whose `text:` these octets stand stands for, each line with CRLF, and how many octets
+/// Reads the string whose `text:` precedes these octets: what it stands for, each line with CRLF, and how many octets
 /// there are up to its end.
 pub(crate) fn read_body(
     alloc: Global,

@@ -9,7 +9,7 @@ ghost use Rattle.sievelex.specs.Shape.{factor_of};
 /// The greatest number of a script.
 const MAX_NUMBER: u64 = 9_223_372_036_854_775_807;
 
-/// How many digits stand at the front.
+/// How many digits the text begins with.
 pub(crate) fn digit_count(octets: &[u8]) -> usize
     ensures { result ≡ prefix_len is_digit octets.now }
 {
@@ -19,7 +19,7 @@ pub(crate) fn digit_count(octets: &[u8]) -> usize
         .count()
 }
 
-/// What the letter at the front multiplies a number by, and how many octets it is: one, or none.
+/// What the letter at the beginning multiplies a number by, and how many octets it is: one, or none.
 pub(crate) fn multiplier(octets: &[u8]) -> (u64, usize)
     ensures len { result.1 ≡ letter_len octets.now }
     ensures within { result.1 ≤ length octets.now }
@@ -34,7 +34,7 @@ pub(crate) fn multiplier(octets: &[u8]) -> (u64, usize)
     }
 }
 
-/// The number that the digits and the multiplier give, unless it is above the greatest one.
+/// The product of the digits' number and the multiplier, unless it is above the greatest number.
 pub(crate) fn amount(digits: &[u8], factor: u64) -> Option<u64>
     requires { 0 < factor }
     ensures { MatchOption result (2 ^ 63 ≤ number_of digits.now * factor) (λ n. (n ≡ number_of digits.now * factor) × (n < 2 ^ 63)) }
@@ -46,7 +46,7 @@ pub(crate) fn amount(digits: &[u8], factor: u64) -> Option<u64>
     Some(value * factor)
 }
 
-/// The number that the digits write, unless it is above the greatest one.
+/// The number that the digits write, unless it is above the greatest number.
 fn decimal(digits: &[u8]) -> Option<u64>
     ensures { MatchOption result (2 ^ 63 ≤ number_of digits.now) (λ n. (n ≡ number_of digits.now) × (n < 2 ^ 63)) }
 {

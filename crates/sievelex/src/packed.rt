@@ -1,4 +1,4 @@
-//! The tokens of a text in little memory: what they are and what they say, without their places.
+//! The tokens of a text in little memory: what they are and what they say, without their positions.
 ghost use Rattle.std.specs.Prelude.{◌≡◌, ◌+◌, ◌^◌, ◌<◌, ◌≤◌, ℕ, List, [], ◌∷◌, ◌++◌, length, take, drop, slice_index, IfOk, OnOk, MatchOption};
 ghost use Rattle.sievelex.specs.declared.token.Token.{Token};
 ghost use Rattle.sievelex.specs.Finding.{IfFault, IfFaultLine};
@@ -13,24 +13,24 @@ use crate::token::{Content, Mark, Token};
 use std::alloc::{AllocError, Global};
 use std::marker::Model;
 
-/// What a packed token is. What it says stands in the rows of [`Packed`].
+/// What a packed token is. What it says is in the rows of [`Packed`].
 #[derive(Clone, Copy)]
 pub(crate) enum PackedKind {
-    /// Its name is the next of the octets, as many as the next of the numbers tells.
+    /// Its name is the next octets, as many as the next number says.
     Identifier,
-    /// Its name, as that of an identifier.
+    /// Its name is kept as that of an identifier.
     Tag,
-    /// Its value is the next of the numbers.
+    /// Its value is the next number.
     Number,
-    /// What it stands for, as the name of an identifier.
+    /// What it stands for is kept as the name of an identifier.
     Text,
     /// It says nothing more.
     Mark(Mark),
 }
 
-/// The tokens of a text, in order: what they are and what they say, without their places.
+/// The tokens of a text, in order: what they are and what they say, without their positions.
 ///
-/// A token takes a few octets for its kind, 8 where it is no mark, and the octets that it says.
+/// A token takes a few octets for its kind, 8 more if it isn't a mark, and the octets that it says.
 #[derive(Drop)]
 pub struct Packed {
     pub(crate) kinds: Vec<PackedKind>,
@@ -39,14 +39,14 @@ pub struct Packed {
 }
 
 impl Packed {
-    /// How many tokens.
+    /// The number of tokens.
     pub fn len(&self) -> usize
         ensures { result ≡ length (contents self.now) }
     {
         self.cursor().left()
     }
 
-    /// Before the first token.
+    /// A cursor before the first token.
     pub fn cursor(&self) -> Cursor<'_>
         ensures { result ≡ contents self.now }
     {
@@ -60,7 +60,7 @@ impl Packed {
     }
 }
 
-/// What a packed token is and says: a [`Content`] over the octets of [`Packed`].
+/// What a packed token is and says: a [`Content`] that borrows the octets of [`Packed`].
 #[derive(Clone, Copy)]
 pub enum ContentRef<'a> {
     /// A name, as it was written.
@@ -83,7 +83,7 @@ pub(crate) struct Rows<'a> {
 }
 
 impl<'a> Rows<'a> {
-    /// The first number, or 0 where there is none, and what follows it.
+    /// The first number, or 0 if there is none, and what follows it.
     fn split_number(self) -> (u64, Rows<'a>)
         ensures first { result.0 ≡ slice_index self.entry.numbers.now 0 }
         ensures numbers { result.1.numbers.now ≡ drop 1 self.entry.numbers.now }
@@ -95,7 +95,7 @@ impl<'a> Rows<'a> {
         }
     }
 
-    /// The first octets, as many as the first number tells or all that there are, and what follows them.
+    /// The first octets, as many as the first number says or all that there are, and what follows them.
     fn split_octets(self) -> (&'a [u8], Rows<'a>)
         ensures first { result.0.now ≡ take (slice_index self.entry.numbers.now 0) self.entry.octets.now }
         ensures numbers { result.1.numbers.now ≡ drop 1 self.entry.numbers.now }
@@ -126,7 +126,7 @@ impl<'a> Model for Cursor<'a> {
 }
 
 impl<'a> Cursor<'a> {
-    /// How many tokens are left.
+    /// The number of tokens that are left.
     pub fn left(&self) -> usize
         ensures left { result ≡ length self.now }
         ensures small { result < 2 ^ 63 }
@@ -134,7 +134,7 @@ impl<'a> Cursor<'a> {
         self.kinds.len()
     }
 
-    /// The next token, and what follows it; none at the end. Copies nothing.
+    /// The next token, and what follows it; `None` at the end. Copies nothing.
     #[inline(always)]
     pub fn split_first(&self) -> Option<(ContentRef<'a>, Cursor<'a>)>
         ensures { MatchOption result (self.now ≡ []) (λ found. self.now ≡ content_of found.0 ∷ found.1) }
@@ -163,9 +163,9 @@ impl<'a> Cursor<'a> {
     }
 }
 
-/// The tokens of a script, as [`tokens`](crate::tokens) tells them, packed: without their places and lines.
+/// The tokens of a script, as [`tokens`](crate::tokens) returns them, packed: without their positions and lines.
 ///
-/// It answers the same faults, in the same time. Beside what is answered it takes the memory of one token.
+/// It returns the same faults, in the same time. Besides the result it takes the memory of one token.
 pub fn pack(alloc: Global, text: &[u8]) -> Result<Packed, ScriptError>
     ensures found { IfOk result (λ packed. (ts : List Token) × (Spells text.now ts × (contents packed ≡ contents_of ts))) }
     ensures only { IfOk result (λ packed. (us : List Token) → Spells text.now us → contents_of us ≡ contents packed) }
@@ -232,9 +232,9 @@ fn append_octets(packed: &mut Packed, kind: PackedKind, octets: &[u8]) -> Result
     packed.octets.extend_from_slice(octets)
 }
 
-/// The line of the token of this index, from 0 on, of a script; 1 where it has no such token.
+/// The line of the token with this index, from 0, of a script; 1 if it has no such token.
 ///
-/// One pass up to that token. Beside what is answered it takes the memory of one token.
+/// One pass up to that token. Besides the result it takes the memory of one token.
 pub fn line_of(alloc: Global, text: &[u8], index: usize) -> Result<u64, ScriptError>
     ensures found { IfOk result (λ line. (ts : List Token) → Spells text.now ts → line ≡ line_at index ts) }
     ensures lines { IfOk result (λ n. (1 ≤ n) × (n ≤ 1 + line_ends text.now)) }

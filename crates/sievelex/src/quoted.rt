@@ -10,7 +10,7 @@ use crate::said::Said;
 use octets::Octets;
 use std::alloc::Global;
 
-/// Where in a quoted string an octet stands.
+/// Where in a quoted string an octet is.
 #[derive(Clone, Copy)]
 pub(crate) enum Mode {
     /// After whole pieces.
@@ -21,8 +21,8 @@ pub(crate) enum Mode {
     Return,
 }
 
-/// What the string after whose opening quotation mark this text stands stands for, each line end as CRLF,
-/// and how many octets there are up to its closing quotation mark and with it. One without line ends and backslashes isn't copied.
+/// Reads the string whose opening quotation mark precedes this text: what it stands for, each line end as CRLF, and how many
+/// octets there are up to and including its closing quotation mark. A string without line ends and backslashes isn't copied.
 #[inline(always)]
 pub(crate) fn read_quoted<'a>(
     alloc: Global,
@@ -42,21 +42,21 @@ pub(crate) fn read_quoted<'a>(
     Ok((Said::apart(value), len))
 }
 
-/// How many octets at the front stand for themselves.
+/// How many octets at the beginning stand for themselves.
 fn plain_len(octets: &[u8]) -> usize
     ensures { result ≡ prefix_len is_plain octets.now }
 {
     octets.iter().take_while(|octet| is_plain(**octet)).count()
 }
 
-/// Neither a quotation mark nor a backslash, and no part of a line end.
+/// Whether the octet is neither a quotation mark nor a backslash nor part of a line end.
 fn is_plain(octet: u8) -> bool
     ensures { result ≡ is_plain octet }
 {
     octet != b'"' && octet != b'\\' && octet != b'\r' && octet != b'\n'
 }
 
-/// The same of any string, octet by octet.
+/// Reads any such string, octet by octet.
 fn read_pieces(alloc: Global, octets: &[u8], line: u64) -> Result<(Octets, usize), ScriptError>
     ensures within { IfOk result (λ r. r.1 ≤ length octets.now) }
     ensures found { IfOk result (λ r. string_from Inside octets.now ≡ Some (r.0, drop r.1 octets.now)) }

@@ -5,16 +5,16 @@ use octets::Octets;
 use std::alloc::{AllocError, Global};
 use std::marker::Model;
 
-/// Where octets stand.
+/// Where octets are.
 #[derive(Drop)]
 pub(crate) enum Source<'a> {
     /// In a text that spells them as they are.
     Text(&'a [u8]),
-    /// Apart from it, where it spells them in another way.
+    /// Apart from it, if it spells them in another way.
     Apart(Octets),
 }
 
-/// What a name or a string says: octets of the text where it spells them as they are, and a copy where it doesn't. Contracts
+/// What a name or a string says: octets of the text if it spells them as they are, otherwise a copy. Contracts
 /// see the octets.
 #[derive(Drop)]
 pub struct Said<'a> {
@@ -40,7 +40,7 @@ impl<'a> Said<'a> {
         }
     }
 
-    /// The same octets, without a copy.
+    /// These octets, which aren't in the text as they are, without a copy.
     pub fn apart(octets: Octets) -> Said<'a>
         ensures { result ≡ octets }
     {
@@ -58,7 +58,7 @@ impl<'a> Said<'a> {
         }
     }
 
-    /// A copy of the octets.
+    /// Copies the octets.
     pub fn to_octets(&self, alloc: Global) -> Result<Octets, AllocError>
         ensures { IfOk result (λ octets. octets ≡ self.now) }
     {

@@ -12,12 +12,12 @@ use crate::text::{line_feeds, text_fault};
 use crate::token::{Content, Token};
 use std::alloc::Global;
 
-/// The tokens of a script, in order (RFC 5228, 8.1), each with its place and line.
+/// The tokens of a script, in order (RFC 5228, 8.1), each with its position and line.
 ///
-/// Unless memory runs out, a fault is answered exactly where the text is no list of tokens; it names the line of
-/// the octet at which what is no token or comment begins. After a look at the whole text for UTF-8,
-/// NUL and lone CRs one pass goes from the front to the end, in time linear in the text's length. Of the text only
-/// the values of strings are copied that aren't spelled as they are, each once.
+/// Unless memory runs out, a fault is returned exactly if the text isn't a list of tokens; it names the line of
+/// the octet at which something that is neither a token nor a comment begins. After a check of the whole text for UTF-8,
+/// NUL and lone CRs one pass goes from the beginning to the end, in time linear in the text's length. Only
+/// those values of strings are copied that aren't spelled as they are, each once.
 pub fn tokens<'a>(alloc: Global, text: &'a [u8]) -> Result<Vec<Token<'a>>, ScriptError>
     ensures found { IfOk result (λ ts. Spells text.now ts.items) }
     ensures only { IfOk result (λ ts. (us : List Token) → Spells text.now us → us ≡ ts.items) }
@@ -53,13 +53,13 @@ fn read_tokens<'a>(alloc: Global, text: &'a [u8]) -> Result<Vec<Token<'a>>, Scri
 pub(crate) struct Piece<'a> {
     /// What it is and says.
     pub(crate) content: Content<'a>,
-    /// The place of its first octet in the text, counted from 0.
+    /// The index of its first octet in the text, from 0.
     pub(crate) start: usize,
-    /// The place after its last octet.
+    /// The index after its last octet.
     pub(crate) end: usize,
 }
 
-/// The token that comes next from a place of the text on, or none where only white space is left.
+/// The next token from a position of the text on, or `None` if only white space is left.
 pub(crate) fn next<'a>(
     alloc: Global,
     text: &'a [u8],
@@ -92,7 +92,7 @@ pub(crate) fn next<'a>(
     }))
 }
 
-/// The same without its line: lines are counted where there is a fault, and not token by token.
+/// The same without its line: lines are counted when there is a fault, not token by token.
 #[inline(always)]
 pub(crate) fn next_piece<'a>(
     alloc: Global,
@@ -131,7 +131,7 @@ pub(crate) fn next_piece<'a>(
     }
 }
 
-/// The same error, on this line where it is a fault of the script.
+/// The same error; if it is a fault of the script, on this line.
 #[cold]
 fn at_line(error: ScriptError, line: u64) -> ScriptError
     ensures { result ≡ on_line line error }
@@ -145,7 +145,7 @@ fn at_line(error: ScriptError, line: u64) -> ScriptError
     }
 }
 
-/// The line of a place of the text.
+/// The line of a position of the text.
 #[cold]
 fn line_at(text: &[u8], place: usize) -> u64
     requires { place ≤ length text.now }

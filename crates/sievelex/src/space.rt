@@ -6,7 +6,7 @@ ghost use Rattle.sievelex.specs.declared.space.Place.TheVariants.{Between, Comme
 use crate::class::is_white;
 use memchr::memchr;
 
-/// Where in white space an octet stands.
+/// Where in white space an octet is.
 #[derive(Clone, Copy)]
 pub(crate) enum Place {
     /// After whole pieces.
@@ -24,7 +24,7 @@ pub(crate) enum Place {
 impl Place {
     ghost use Rattle.sievelex.specs.Skip.{place_after};
 
-    /// Where the octet after this one stands.
+    /// Where the octet after this one is.
     fn after(self, octet: u8) -> Place
         ensures { result ≡ place_after self octet }
     {
@@ -52,7 +52,7 @@ impl Place {
     }
 }
 
-/// A white octet, `#` or `/*` stands first.
+/// Whether the text begins with a white octet, `#` or `/*`.
 fn begins_space(octets: &[u8]) -> bool
     ensures { result ≡ begins_space octets.now }
 {
@@ -64,7 +64,7 @@ fn begins_space(octets: &[u8]) -> bool
     }
 }
 
-/// How many octets of a `#` comment are left, its line end among them.
+/// How many octets of a `#` comment are left, including its line end.
 fn comment_len(octets: &[u8]) -> usize
     ensures within { result ≤ length octets.now }
     ensures some { 0 < length octets.now → 0 < result }
@@ -76,7 +76,7 @@ fn comment_len(octets: &[u8]) -> usize
     }
 }
 
-/// How many octets of white space stand at the front, or where the comment begins that is not closed.
+/// How many octets of white space the text begins with, or where the comment begins that is not closed.
 #[inline(always)]
 pub(crate) fn space_len(octets: &[u8]) -> Result<usize, usize>
     ensures { MatchResult result

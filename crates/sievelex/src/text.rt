@@ -1,4 +1,4 @@
-//! Which texts may be scripts at all, and lines.
+//! Which texts can be scripts at all, and lines.
 ghost use Rattle.std.specs.Prelude.{◌≡◌, ◌+◌, ◌<◌, ◌≤◌, length, take, MatchOption, IfSome};
 ghost use Rattle.std.specs.Char.{is_ascii};
 ghost use Rattle.std.specs.List.{list_all};
@@ -9,7 +9,7 @@ use crate::fault::{FaultKind, ScriptFault};
 use memchr::memchr2;
 use std::str;
 
-/// Why the text can be no script, whatever its tokens: it is not UTF-8, or has a NUL or a lone CR.
+/// Why the text can't be a script, whatever its tokens: it is not UTF-8, or has a NUL or a lone CR.
 pub(crate) fn text_fault(text: &[u8]) -> Option<ScriptFault>
     ensures fault { MatchOption result (IsText text.now) (λ _. IsText text.now → ⊥) }
     ensures lines { IfSome result (λ f. (1 ≤ f.line) × (f.line ≤ 1 + line_ends text.now)) }
@@ -38,7 +38,7 @@ fn broken_at(text: &[u8]) -> Option<usize>
     }
 }
 
-/// Whether all octets are ASCII: such a text is UTF-8, and most scripts are. It has no early end, so it becomes vector code.
+/// Whether all octets are ASCII: such a text is UTF-8, and most scripts are ASCII. It has no early exit, so it becomes vector code.
 fn is_ascii(text: &[u8]) -> bool
     ensures { result ≡ list_all is_ascii text.now }
 {

@@ -5,9 +5,9 @@ use crate::said::Said;
 pub enum Content<'a> {
     /// A name as it was written: a letter or `_`, then letters, digits and `_`.
     Identifier(Said<'a>),
-    /// The name after a `:`, as it was written and without the colon.
+    /// The name after a `:`, as it was written, without the colon.
     Tag(Said<'a>),
-    /// The value of a number, its multiplier `K`, `M` or `G` counted: at most 2^63 - 1.
+    /// The value of a number, including its multiplier `K`, `M` or `G`: at most 2^63 - 1.
     Number(u64),
     /// What a string, quoted or of several lines, stands for.
     Text(Said<'a>),
@@ -36,14 +36,14 @@ pub enum Mark {
     Comma,
 }
 
-/// A token of a script and where it stands.
+/// A token of a script and where it is.
 #[derive(Drop)]
 pub struct Token<'a> {
     /// What it is and says.
     pub content: Content<'a>,
-    /// The place of its first octet in the text, counted from 0.
+    /// The index of its first octet in the text, from 0.
     pub start: usize,
-    /// The place after its last octet.
+    /// The index after its last octet.
     pub end: usize,
     /// The line of its first octet, counted from 1: a line ends at its LF.
     pub line: u64,
