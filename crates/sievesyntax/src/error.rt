@@ -1,14 +1,14 @@
-//! Why a part of a script was not read.
+//! Why a part of a script couldn't be read.
 ghost use Rattle.std.specs.Prelude.{◌≡◌};
 ghost use Rattle.sievesyntax.specs.declared.error.ReadError.TheVariants.{Memory};
 
 use sievelex::FaultKind;
 use std::alloc::{AllocError, AllocFailed};
 
-/// Why a part of a script was not read. The line of a fault is that of the token that was read last.
+/// Why a part of a script couldn't be read. The line of a fault is that of the last token that was read.
 #[derive(Debug, Drop)]
 pub enum ReadError {
-    /// Memory that was asked for was refused.
+    /// An allocation failed.
     Memory,
     /// The script is not valid.
     Fault(FaultKind),

@@ -19,7 +19,7 @@ use crate::tree::command::Command;
 use sievelex::{FaultKind, Packed, ScriptError, ScriptFault, line_of, pack};
 use std::alloc::Global;
 
-/// A script that was checked: its tree is valid.
+/// A script that has been checked: its tree is valid.
 #[derive(Drop)]
 pub struct Script {
     commands: Vec<Command>,
@@ -39,15 +39,15 @@ impl Script {
 ghost use Rattle.sievesyntax.specs.View.{script_tree};
 ghost use Rattle.sievesyntax.specs.Means.{Means};
 
-/// Checks a script: the one tree that the text means, or the fault that was met first, where it means none
-/// (RFC 5228, 8.2). Any octets are taken as text.
+/// Checks a script: returns the only tree that the text means, or if it means none, the first fault (RFC 5228, 8.2). The text may
+/// have any octets.
 ///
 /// Time and memory are linear in the text's length, and the stack that it takes is bounded: blocks, test lists and
-/// `not`s stand in their like no deeper than 32 levels each.
+/// `not`s are nested no deeper than 32 levels each.
 ///
 /// # Errors
 ///
-/// [`ScriptError::Fault`] where the text is no valid script, and [`ScriptError::Memory`] where memory was refused.
+/// [`ScriptError::Fault`] if the text isn't a valid script, and [`ScriptError::Memory`] if an allocation failed.
 pub fn check(alloc: Global, text: &[u8]) -> Result<Script, ScriptError>
     ensures found { IfOk result (λ script. Means text.now (script_tree script)) }
     ensures only { IfOk result (λ script. (tree : Commands) → Means text.now tree → tree ≡ script_tree script) }
@@ -62,7 +62,7 @@ pub fn check(alloc: Global, text: &[u8]) -> Result<Script, ScriptError>
     }
 }
 
-/// The script of these tokens, or why they aren't one, and how many of them were read.
+/// The script of these tokens, or why they aren't one, with how many of them were read.
 fn check_tokens(alloc: Global, tokens: &Packed) -> Result<Script, (ReadError, usize)>
     ensures found { IfOk result (λ script. ReadsScript (script_tree script) (as_read (lexemes_of (contents tokens.now))) × IsValid (script_tree script)) }
     ensures only { IfOk result (λ script. (tree : Commands) → ReadsScript tree (as_read (lexemes_of (contents tokens.now))) → IsValid tree → tree ≡ script_tree script) }
@@ -75,7 +75,7 @@ fn check_tokens(alloc: Global, tokens: &Packed) -> Result<Script, (ReadError, us
     }
 }
 
-/// The fault of a script that was met when that many of its tokens were read: its line is that of the last of them.
+/// The fault of a script that was found after that many of its tokens: its line is that of the last of them.
 fn fault_after(alloc: Global, text: &[u8], read: usize, kind: FaultKind) -> ScriptError
     ensures exact { (ts : List Token) → Spells text.now ts → OnFaultLine result (λ n. n ≡ line_at (read - 1) ts) }
     ensures lines { OnFaultLine result (λ n. (1 ≤ n) × (n ≤ 1 + line_ends text.now)) }

@@ -1,4 +1,4 @@
-//! Arguments, by the grammar alone (RFC 5228, 8.2).
+//! Arguments, as the grammar alone has them (RFC 5228, 8.2).
 ghost use Rattle.std.specs.Prelude.{◌≡◌, ℕ, List, [], ◌∷◌, ◌++◌, Result, Ok, Some, None, MatchBool, MatchOption, IfOk, true, false};
 ghost use Rattle.sievelex.specs.declared.token.Mark.TheVariants as K;
 ghost use Rattle.sievelex.specs.Encoded.{decoded};
@@ -14,25 +14,25 @@ use octets::{List, Octets};
 use sievelex::{FaultKind, Mark, Said, decode};
 use std::alloc::Global;
 
-/// Room for so many strings is made when a list begins: most have no more, and the room is given back with the argument.
+/// Room for this many strings is reserved when a list begins: most lists have no more, and the room is freed with the argument.
 const LIST_ROOM: usize = 4;
 
-/// An argument of a command or a test. What a string says isn't copied where the script spells it as it is.
+/// An argument of a command or a test. What a string says isn't copied if the script spells it as it is.
 #[derive(Drop)]
 pub enum Argument<'a> {
     /// A tag.
     Tag(Tag),
-    /// A number, its multiplier counted.
+    /// A number, including its multiplier.
     Number(u64),
     /// One string without brackets.
     Text(Said<'a>),
-    /// Strings in brackets, one or more.
+    /// One or more strings in brackets.
     Strings(List<Said<'a>>),
 }
 
 ghost use Rattle.sievesyntax.specs.Arguments.{IsOther, AreStrings, IsArgument, IsEnd, AreArguments};
 
-/// All the arguments at the front. Their room is the reader's, which has it back by [`Reader::keep_room`].
+/// Reads all the arguments that come next. Their room is the reader's, which gets it back by [`Reader::keep_room`].
 pub(crate) fn read_arguments<'a>(
     alloc: Global,
     reader: &mut Reader<'a>,
@@ -46,7 +46,7 @@ pub(crate) fn read_arguments<'a>(
     Ok(arguments)
 }
 
-/// The argument at the front, or none where no argument begins.
+/// Reads the next argument, or `None` if no argument begins here.
 fn read_argument<'a>(
     alloc: Global,
     reader: &mut Reader<'a>,
@@ -87,7 +87,7 @@ fn begins_argument(reader: &Reader<'_>) -> bool
     }
 }
 
-/// The strings of a list, after its open bracket.
+/// Reads the strings of a list, after its open bracket.
 fn read_strings<'a>(alloc: Global, reader: &mut Reader<'a>) -> Result<List<Said<'a>>, ReadError>
     ensures { Parses (λ strings. strings) AreStrings reader.old reader.new result }
 {
@@ -96,7 +96,7 @@ fn read_strings<'a>(alloc: Global, reader: &mut Reader<'a>) -> Result<List<Said<
     read_others(alloc, reader, strings)
 }
 
-/// The other strings of a list, and its close bracket.
+/// Reads the other strings of a list, and its close bracket.
 fn read_others<'a>(
     alloc: Global,
     reader: &mut Reader<'a>,
@@ -111,7 +111,7 @@ fn read_others<'a>(
     Ok(strings)
 }
 
-/// Whether a comma stands at the front, and not this closing mark.
+/// Reads a separator: whether it is a comma, or this closing mark.
 pub(crate) fn read_separator(reader: &mut Reader<'_>, close: Mark) -> Result<bool, ReadError>
     ensures comma { result ≡ Ok true → reader.old ≡ mark K.Comma ∷ reader.new }
     ensures closed { result ≡ Ok false → reader.old ≡ mark close ∷ reader.new }
@@ -128,7 +128,7 @@ pub(crate) fn read_separator(reader: &mut Reader<'_>, close: Mark) -> Result<boo
     }
 }
 
-/// A string without brackets.
+/// Reads a string without brackets.
 fn read_text<'a>(alloc: Global, reader: &mut Reader<'a>) -> Result<Said<'a>, ReadError>
     ensures found { IfOk result (λ string. reader.old ≡ text string ∷ reader.new) }
     ensures fault { IfFault result ((string : List ℕ) (to : Lexemes) → reader.old ≡ text string ∷ to → ⊥) }
@@ -143,7 +143,7 @@ fn read_text<'a>(alloc: Global, reader: &mut Reader<'a>) -> Result<Said<'a>, Rea
     }
 }
 
-/// What a string stands for that is to be decoded (RFC 5228, 2.4.2.4).
+/// Decodes a string (RFC 5228, 2.4.2.4).
 fn read_encoded(alloc: Global, written: &[u8]) -> Result<Octets, ReadError>
     ensures found { IfOk result (λ string. decoded written.now ≡ Some string) }
     ensures fault { IfFault result (decoded written.now ≡ None) }

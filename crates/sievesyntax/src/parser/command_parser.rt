@@ -1,4 +1,4 @@
-//! Commands and blocks, by recursive descent: one pass, and no deeper than blocks may stand.
+//! Commands and blocks, by recursive descent: one pass, and no deeper than blocks may be nested.
 ghost use Rattle.std.specs.Prelude.{◌≡◌, ◌↔◌, ◌++◌, ◌∷◌, [], ℕ, List, IfOk, IsTrue, MatchBool, map};
 ghost use Rattle.sievesyntax.specs.declared.table.keyword.Keyword.TheVariants as W;
 ghost use Rattle.sievesyntax.specs.Lexemes.{Lexemes, keyword};
@@ -21,13 +21,13 @@ use crate::tree::test::Test;
 use sievelex::{FaultKind, Mark};
 use std::alloc::{AllocError, Global};
 
-/// How many test lists may enclose a test at most: it bounds the stack of the check.
+/// At most this many test lists may enclose a test: it bounds the stack of the check.
 const MAX_LISTS: usize = 32;
 
-/// How many `not`s may enclose a test at most, counted apart: it bounds the stack of the check.
+/// At most this many `not`s, counted separately, may enclose a test: it bounds the stack of the check.
 const MAX_NOTS: usize = 32;
 
-/// Commands after those read so far, up to the close of a block or the end.
+/// Reads commands after those read so far, up to the close of a block or the end.
 #[cycle(parse)]
 pub(crate) fn read_commands(
     alloc: Global,
@@ -45,7 +45,7 @@ pub(crate) fn read_commands(
     Ok(commands)
 }
 
-/// A command that may stand here. Its blocks go no deeper than `room`.
+/// Reads a command that is permitted here. Its blocks are nested no deeper than `room`.
 #[cycle(parse)]
 fn read_command(
     alloc: Global,
@@ -62,7 +62,7 @@ fn read_command(
     }
 }
 
-/// `if`, after its name: a test and a block, each `elsif`, and an `else`.
+/// Reads an `if`, after its name: a test and a block, each `elsif`, and an `else`.
 #[cycle(parse)]
 fn read_if(
     alloc: Global,
@@ -79,7 +79,7 @@ fn read_if(
     Ok(Command::If(branches))
 }
 
-/// A test and a block.
+/// Reads a test and a block.
 #[cycle(parse)]
 fn read_branch(
     alloc: Global,
@@ -94,7 +94,7 @@ fn read_branch(
     Ok(Branch { test, block })
 }
 
-/// Each `elsif` after the branches read so far.
+/// Reads each `elsif` after the branches read so far.
 #[cycle(parse)]
 fn read_elsifs(
     alloc: Global,
@@ -112,7 +112,7 @@ fn read_elsifs(
     Ok(branches)
 }
 
-/// The `else` after the branches read so far, if one stands there.
+/// Reads the `else` after the branches read so far, if there is one.
 #[cycle(parse)]
 fn read_else(
     alloc: Global,
@@ -135,7 +135,7 @@ fn read_else(
     Ok(branches)
 }
 
-/// A block that may stand here.
+/// Reads a block that is permitted here.
 #[cycle(parse)]
 fn read_block(
     alloc: Global,
@@ -155,7 +155,7 @@ fn read_block(
     Ok(block)
 }
 
-/// No commands yet, and a place for one where one follows: most blocks have no other.
+/// No commands yet, with room for one if one follows: most blocks have only one.
 fn no_commands(alloc: Global, reader: &Reader<'_>) -> Result<Vec<Command>, AllocError>
     ensures { IfOk result (λ none. none.items ≡ []) }
 {
@@ -166,7 +166,7 @@ fn no_commands(alloc: Global, reader: &Reader<'_>) -> Result<Vec<Command>, Alloc
     }
 }
 
-/// A command without a block, after its name.
+/// Reads a command without a block, after its name.
 fn read_statement(
     alloc: Global,
     reader: &mut Reader<'_>,
@@ -195,7 +195,7 @@ fn is_stop(reader: &Reader<'_>) -> bool
     }
 }
 
-/// Passes the word `elsif`, if it stands first.
+/// Takes the word `elsif`, if it is next.
 fn take_elsif(reader: &mut Reader<'_>) -> bool
     ensures { MatchBool result (reader.old ≡ keyword W.Elsif ∷ reader.new) (IsPastElsif reader.old × (reader.new ≡ reader.old)) }
 {
@@ -205,7 +205,7 @@ fn take_elsif(reader: &mut Reader<'_>) -> bool
     }
 }
 
-/// Passes the word `else`, if it stands first.
+/// Takes the word `else`, if it is next.
 fn take_else(reader: &mut Reader<'_>) -> bool
     ensures { MatchBool result (reader.old ≡ keyword W.Else ∷ reader.new) (IsPastElse reader.old × (reader.new ≡ reader.old)) }
 {

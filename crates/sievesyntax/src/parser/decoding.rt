@@ -12,9 +12,9 @@ use sievelex::{ContentRef, Mark};
 /// How the strings that come next are read.
 #[derive(Clone, Copy)]
 pub(crate) enum Decoding {
-    /// As they are written: only requires stand before, and none names `encoded-character`.
+    /// As they are written: only requires precede, and none names `encoded-character`.
     Open,
-    /// As they are written: the `require` that names it isn't at its end.
+    /// As they are written: the `require` that names it hasn't ended yet.
     Named,
     /// Decoded.
     On,
@@ -23,7 +23,7 @@ pub(crate) enum Decoding {
 }
 
 impl Decoding {
-    /// How the strings after this token are read. Time by the length of a name, no memory.
+    /// How the strings after this token are read. Time is linear in the length of a name; takes no memory.
     pub(crate) fn after(self, content: ContentRef<'_>) -> Decoding
         ensures { result ≡ decoding_after self (lexeme_of (content_of content.entry)) }
     {
@@ -39,7 +39,7 @@ impl Decoding {
     }
 }
 
-/// How the strings after this token are read, before which only requires stand.
+/// How the strings after this token are read, if only requires precede it.
 fn after_open(content: ContentRef<'_>) -> Decoding
     ensures { result ≡ decoding_after Open (lexeme_of (content_of content.entry)) }
 {
@@ -53,7 +53,7 @@ fn after_open(content: ContentRef<'_>) -> Decoding
     }
 }
 
-/// What is read of this token. Time by the length of a name, no memory.
+/// What this token is read as. Time is linear in the length of a name; takes no memory.
 #[inline(always)]
 pub(crate) fn seen_of<'a>(content: ContentRef<'a>, decoding: Decoding) -> Lexeme<'a>
     ensures { lexeme_view result ≡ seen decoding (lexeme_of (content_of content.entry)) }

@@ -1,4 +1,4 @@
-//! What the grammar sees of a token: keywords in place of names.
+//! What the grammar sees of a token: keywords instead of names.
 ghost use Rattle.std.specs.Prelude.{◌≡◌};
 ghost use Rattle.sievelex.specs.Contents.{content_of};
 ghost use Rattle.sievesyntax.specs.Lexemes.{lexeme_of, lexeme_view};
@@ -7,19 +7,19 @@ use crate::table::keyword::{Keyword, keyword_named};
 use crate::table::tag::{Tag, tag_named};
 use sievelex::{ContentRef, Mark};
 
-/// What the grammar sees of a token, over the octets that it says.
+/// What the grammar sees of a token, borrowing the octets that it says.
 #[derive(Clone, Copy)]
 pub enum Lexeme<'a> {
     Keyword(Keyword),
     Tag(Tag),
     Number(u64),
     Text(&'a [u8]),
-    /// A string as it is written, which is to be decoded.
+    /// A string as it is written, to be decoded.
     Encoded(&'a [u8]),
     Mark(Mark),
 }
 
-/// What the grammar sees of this token. Time by the length of a name, no memory.
+/// What the grammar sees of this token. Time is linear in the length of a name; takes no memory.
 #[inline(always)]
 pub(crate) fn lexeme_of<'a>(content: ContentRef<'a>) -> Lexeme<'a>
     ensures { lexeme_view result ≡ lexeme_of (content_of content.entry) }

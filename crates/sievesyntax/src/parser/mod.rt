@@ -1,4 +1,4 @@
-//! Tokens to a tree, by the grammar (RFC 5228, 8.2).
+//! From tokens to a tree, by the grammar (RFC 5228, 8.2).
 pub mod argument;
 pub mod command_parser;
 pub mod decoding;

@@ -16,16 +16,16 @@ use std::alloc::Global;
 use std::marker::Model;
 use std::mem;
 
-/// The tokens that are still to be read. Contracts see what is read of their lexemes.
+/// The tokens that are still to be read. Contracts see what they are read as.
 #[derive(Drop)]
 pub struct Reader<'a> {
-    /// What is read of the first of them, so that each name is looked up once, however often it is looked at.
+    /// What the first of them is read as, so that each name is looked up once, however often it is looked at.
     first: Option<Lexeme<'a>>,
-    /// The tokens behind the first one.
+    /// The tokens after the first one.
     rest: Cursor<'a>,
     /// How their strings are read.
     decoding: Decoding,
-    /// Room for the arguments of the next command or test, asked for once and not at each of them.
+    /// Room for the arguments of the next command or test, which is reserved once and reused.
     room: Vec<Argument<'a>>,
 }
 
@@ -40,7 +40,7 @@ impl<'a> Model for Reader<'a> {
 }
 
 impl<'a> Reader<'a> {
-    /// Before the first of these tokens.
+    /// A reader before the first of these tokens.
     pub(crate) fn new(alloc: Global, tokens: &'a Packed) -> Reader<'a>
         ensures { result ≡ as_read (lexemes_of (contents tokens.now)) }
     {
@@ -61,7 +61,7 @@ impl<'a> Reader<'a> {
         }
     }
 
-    /// How many tokens are left.
+    /// The number of tokens that are left.
     pub(crate) fn left(&self) -> usize
         ensures { result ≡ length self.now }
     {
@@ -71,14 +71,14 @@ impl<'a> Reader<'a> {
         }
     }
 
-    /// The next lexeme; none at the end. Constant time.
+    /// The next lexeme; `None` at the end. Constant time.
     pub(crate) fn first(&self) -> Option<Lexeme<'a>>
         ensures { IsFirst result self.now }
     {
         self.first
     }
 
-    /// Passes the next lexeme, and tells it; none at the end.
+    /// Takes the next lexeme; `None` at the end.
     pub(crate) fn next(&mut self) -> Option<Lexeme<'a>>
         ensures { MatchOption result ((self.old ≡ []) × (self.new ≡ self.old)) (λ first. self.old ≡ lexeme_view first ∷ self.new) }
     {
@@ -94,7 +94,7 @@ impl<'a> Reader<'a> {
         Some(first)
     }
 
-    /// Room for arguments, with none in it: what was given back last, if some was.
+    /// Takes empty room for arguments: that which was given back last, if there is any.
     pub(crate) fn take_room(&mut self, alloc: Global) -> Vec<Argument<'a>>
         ensures none { result.items ≡ [] }
         ensures kept { self.new ≡ self.old }
@@ -104,7 +104,7 @@ impl<'a> Reader<'a> {
         room
     }
 
-    /// Keeps the room of arguments that were read for the next ones.
+    /// Keeps the room of arguments that have been read for the next ones.
     pub(crate) fn keep_room(&mut self, room: Vec<Argument<'a>>)
         ensures { self.new ≡ self.old }
     {
@@ -133,7 +133,7 @@ impl<'a> Reader<'a> {
         }
     }
 
-    /// Nothing is left.
+    /// Reads the end: a fault if anything is left.
     pub(crate) fn read_end(&mut self) -> Result<(), ReadError>
         ensures found { OnOk result (self.old ≡ []) }
         ensures fault { IfFault result (self.old ≡ [] → ⊥) }

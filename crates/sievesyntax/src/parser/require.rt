@@ -1,4 +1,4 @@
-//! The requires at the front of a script, and a whole script (RFC 5228, 3.2).
+//! The requires at the beginning of a script, and a whole script (RFC 5228, 3.2).
 ghost use Rattle.std.specs.Prelude.{◌≡◌, ℕ, List, ◌∷◌, IfOk, MatchBool, map};
 ghost use Rattle.sievesyntax.specs.declared.table.keyword.Keyword.TheVariants as W;
 ghost use Rattle.sievesyntax.specs.Lexemes.{Lexemes, keyword};
@@ -22,10 +22,10 @@ use octets::Texts;
 use sievelex::Mark;
 use std::alloc::Global;
 
-/// How deep blocks may stand in blocks at most: it bounds the stack of the check.
+/// How deep blocks may be nested: it bounds the stack of the check.
 const MAX_BLOCKS: usize = 32;
 
-/// The commands of a whole script.
+/// Reads the commands of a whole script.
 pub(crate) fn read_script(alloc: Global, reader: &mut Reader<'_>) -> Result<Vec<Command>, ReadError>
     ensures found { IfOk result (λ all. ReadsScript (commands_view all.items) reader.old × IsValid (commands_view all.items)) }
     ensures only { IfOk result (λ all. (tree : Commands) → ReadsScript tree reader.old → IsValid tree → tree ≡ commands_view all.items) }
@@ -37,7 +37,7 @@ pub(crate) fn read_script(alloc: Global, reader: &mut Reader<'_>) -> Result<Vec<
     Ok(commands)
 }
 
-/// The requires at the front, and what they grant.
+/// Reads the requires that come next, and returns what they grant.
 fn read_requires(
     alloc: Global,
     reader: &mut Reader<'_>,
@@ -68,7 +68,7 @@ fn read_requires(
     Ok((found, granted))
 }
 
-/// Passes the word `require`, if it stands first.
+/// Takes the word `require`, if it is next.
 fn take_require(reader: &mut Reader<'_>) -> bool
     ensures { MatchBool result (reader.old ≡ keyword W.Require ∷ reader.new) (IsPastRequires reader.old × (reader.new ≡ reader.old)) }
 {
@@ -78,7 +78,7 @@ fn take_require(reader: &mut Reader<'_>) -> bool
     }
 }
 
-/// The names of a `require`, after its word.
+/// Reads the names of a `require`, after its word.
 fn read_names(alloc: Global, reader: &mut Reader<'_>) -> Result<Texts, ReadError>
     ensures { Parses (λ names. names) (λ names from to. IsStatement (require names) W.Require from to) reader.old reader.new result }
 {

@@ -19,7 +19,7 @@ use crate::tree::test::Test;
 use sievelex::{FaultKind, Mark};
 use std::alloc::Global;
 
-/// A test that may stand here: that many test lists and that many `not`s may enclose the tests within it.
+/// Reads a test that is permitted here: that many test lists and that many `not`s may enclose the tests within it.
 #[cycle(ask)]
 pub(crate) fn read_test(
     alloc: Global,
@@ -39,7 +39,7 @@ pub(crate) fn read_test(
     }
 }
 
-/// `not`, after its name.
+/// Reads a `not`, after its name.
 #[cycle(ask)]
 fn read_not(
     alloc: Global,
@@ -57,7 +57,7 @@ fn read_not(
     Ok(Test::Not(Box::new(alloc, inner)?))
 }
 
-/// A test list.
+/// Reads a test list.
 #[cycle(ask)]
 fn read_tests(
     alloc: Global,
@@ -77,7 +77,7 @@ fn read_tests(
     read_more_tests(alloc, reader, granted, lists - 1, nots, one)
 }
 
-/// The tests of a list after those read so far, and its close parenthesis.
+/// Reads the tests of a list after those read so far, and its close parenthesis.
 #[cycle(ask)]
 fn read_more_tests(
     alloc: Global,
@@ -96,7 +96,7 @@ fn read_more_tests(
     Ok(tests)
 }
 
-/// A test without tests in it, after its name.
+/// Reads a test without tests in it, after its name.
 fn read_plain(
     alloc: Global,
     reader: &mut Reader<'_>,

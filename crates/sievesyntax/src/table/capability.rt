@@ -10,7 +10,7 @@ use crate::error::ReadError;
 use octets::Octets;
 use sievelex::FaultKind;
 
-/// What a script may use besides the language without extensions.
+/// What a script may use besides the base language.
 #[derive(Clone, Copy)]
 pub struct Capabilities {
     /// `fileinto` (RFC 5228, 4.1).
@@ -38,7 +38,7 @@ pub struct Capabilities {
 }
 
 impl Capabilities {
-    /// Whether `vacation` may be used: `vacation-seconds` stands for it too (RFC 6131, 2).
+    /// Whether `vacation` may be used: `vacation-seconds` implies it (RFC 6131, 2).
     pub(crate) fn may_answer(&self) -> bool
         ensures { result ≡ spec.may_answer self.now }
     {
@@ -46,7 +46,7 @@ impl Capabilities {
     }
 }
 
-/// A fault where something is used that isn't granted.
+/// Returns a fault if something is used that isn't granted.
 pub(crate) fn require(is_granted: bool, is_used: bool) -> Result<(), ReadError>
     ensures granted { OnOk result (Permits is_granted is_used) }
     ensures fault { IfFault result (Permits is_granted is_used → ⊥) }
@@ -57,7 +57,7 @@ pub(crate) fn require(is_granted: bool, is_used: bool) -> Result<(), ReadError>
     Ok(())
 }
 
-/// What is granted with these capabilities besides.
+/// Grants these capabilities besides those that are granted.
 pub(crate) fn grant(granted: Capabilities, names: &[Octets]) -> Result<Capabilities, ReadError>
     ensures known { OnOk result (All IsCapability names.now) }
     ensures made { IfOk result (λ more. more ≡ granted_too granted names.now) }

@@ -1,4 +1,4 @@
-//! The table of commands without a block: what may stand after each name (RFC 5228, 3 and 4; RFC 5230; RFC 5232).
+//! The table of commands without a block: what may follow each name (RFC 5228, 3 and 4; RFC 5230; RFC 5232).
 ghost use Rattle.std.specs.Prelude.{◌≡◌, ◌↔◌, true, IsTrue, IfOk};
 ghost use Rattle.sievesyntax.specs.Parsing.{IfFault, FindsFit};
 ghost use Rattle.sievesyntax.specs.Tree.{CommandTree};
@@ -29,7 +29,7 @@ use std::alloc::Global;
 /// The most octets of a mailbox's name.
 const MAX_MAILBOX: usize = 255;
 
-/// The command of this word and these arguments, where it may stand.
+/// The command of this word and these arguments, if it is permitted.
 pub(crate) fn plain_command(
     alloc: Global,
     keyword: Keyword,
@@ -46,7 +46,7 @@ pub(crate) fn plain_command(
             no_arguments(args)?;
             Ok(Command::Stop)
         }
-        // Syntax: keep [":flags" <list-of-flags: string-list>], where `imap4flags` is required with it (RFC 5228, 4.3; RFC 5232, 5)
+        // Syntax: keep [":flags" <list-of-flags: string-list>]; `:flags` requires `imap4flags` (RFC 5228, 4.3; RFC 5232, 5)
         Keyword::Keep => {
             let given = permitted_keep(alloc, args, granted)?;
             Ok(Command::Act(Action::Keep(given)))
@@ -56,34 +56,34 @@ pub(crate) fn plain_command(
             no_arguments(args)?;
             Ok(Command::Act(Action::Discard))
         }
-        // Syntax: fileinto [":copy"] [":create"] [":flags" <list-of-flags: string-list>] <mailbox: string>, where `fileinto` is required,
-        // and `copy`, `mailbox` and `imap4flags` with their tags (RFC 5228, 4.1; RFC 3894; RFC 5490, 3.2; RFC 5232, 5)
+        // Syntax: fileinto [":copy"] [":create"] [":flags" <list-of-flags: string-list>] <mailbox: string>; requires `fileinto`,
+        // and its tags require `copy`, `mailbox` and `imap4flags` (RFC 5228, 4.1; RFC 3894; RFC 5490, 3.2; RFC 5232, 5)
         Keyword::FileInto => {
             let filing = permitted_filing(alloc, args, granted)?;
             Ok(Command::Act(Action::FileInto(filing)))
         }
-        // Syntax: redirect [":copy"] <address: string>, where `copy` is required with it (RFC 5228, 4.2; RFC 3894)
+        // Syntax: redirect [":copy"] <address: string>; `:copy` requires `copy` (RFC 5228, 4.2; RFC 3894)
         Keyword::Redirect => {
             let redirect = permitted_redirect(alloc, args, granted)?;
             Ok(Command::Act(Action::Redirect(redirect)))
         }
         // Syntax: vacation [":days" number / ":seconds" number] [":subject" string] [":from" string] [":addresses" string-list] [":mime"]
-        // [":handle" string] <reason: string>, where `vacation` is required, and `vacation-seconds` with its tag (RFC 5230, 4; RFC 6131)
+        // [":handle" string] <reason: string>; requires `vacation`, and `:seconds` requires `vacation-seconds` (RFC 5230, 4; RFC 6131)
         Keyword::Vacation => {
             let vacation = permitted_vacation(alloc, args, granted)?;
             Ok(Command::Act(Action::Vacation(vacation)))
         }
-        // Syntax: setflag <list-of-flags: string-list>, where `imap4flags` is required (RFC 5232, 3.1)
+        // Syntax: setflag <list-of-flags: string-list>; requires `imap4flags` (RFC 5232, 3.1)
         Keyword::SetFlag => {
             let texts = permitted_flags(alloc, args, granted)?;
             Ok(Command::Act(Action::SetFlag(texts)))
         }
-        // Syntax: addflag <list-of-flags: string-list>, where `imap4flags` is required (RFC 5232, 3.2)
+        // Syntax: addflag <list-of-flags: string-list>; requires `imap4flags` (RFC 5232, 3.2)
         Keyword::AddFlag => {
             let texts = permitted_flags(alloc, args, granted)?;
             Ok(Command::Act(Action::AddFlag(texts)))
         }
-        // Syntax: removeflag <list-of-flags: string-list>, where `imap4flags` is required (RFC 5232, 3.3)
+        // Syntax: removeflag <list-of-flags: string-list>; requires `imap4flags` (RFC 5232, 3.3)
         Keyword::RemoveFlag => {
             let texts = permitted_flags(alloc, args, granted)?;
             Ok(Command::Act(Action::RemoveFlag(texts)))
@@ -95,7 +95,7 @@ pub(crate) fn plain_command(
     }
 }
 
-/// The texts of the `:flags` of `keep`, where it may stand.
+/// The texts of the `:flags` of `keep`, if it is permitted.
 fn permitted_keep(
     alloc: Global,
     args: &[Argument<'_>],
@@ -108,7 +108,7 @@ fn permitted_keep(
     Ok(given)
 }
 
-/// The texts of `setflag`, `addflag` or `removeflag`, where it may stand.
+/// The texts of `setflag`, `addflag` or `removeflag`, if it is permitted.
 fn permitted_flags(
     alloc: Global,
     args: &[Argument<'_>],
@@ -121,7 +121,7 @@ fn permitted_flags(
     Ok(texts)
 }
 
-/// The arguments of `fileinto`, where it may stand.
+/// The arguments of `fileinto`, if it is permitted.
 fn permitted_filing(
     alloc: Global,
     args: &[Argument<'_>],
@@ -140,7 +140,7 @@ fn permitted_filing(
     Ok(filing)
 }
 
-/// The arguments of `redirect`, where it may stand.
+/// The arguments of `redirect`, if it is permitted.
 fn permitted_redirect(
     alloc: Global,
     args: &[Argument<'_>],
@@ -153,7 +153,7 @@ fn permitted_redirect(
     Ok(redirect)
 }
 
-/// The arguments of `vacation`, where it may stand.
+/// The arguments of `vacation`, if it is permitted.
 fn permitted_vacation(
     alloc: Global,
     args: &[Argument<'_>],

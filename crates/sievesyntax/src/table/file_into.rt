@@ -10,7 +10,7 @@ use crate::table::tag_values::{given_copy, given_create, given_flags};
 use crate::tree::action::FileInto;
 use std::alloc::Global;
 
-/// The arguments of `fileinto`.
+/// Reads the arguments of `fileinto`.
 pub(crate) fn read_file_into(alloc: Global, args: &[Argument<'_>]) -> Result<FileInto, ReadError>
     ensures { Finds (IsFileInto args.now) result }
 {

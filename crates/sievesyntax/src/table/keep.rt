@@ -10,7 +10,7 @@ use crate::table::tag_values::given_flags;
 use octets::Texts;
 use std::alloc::Global;
 
-/// The texts of its `:flags`, if they are given.
+/// Reads the texts of `keep`'s `:flags`, if they are given.
 pub(crate) fn read_keep(alloc: Global, args: &[Argument<'_>]) -> Result<Option<Texts>, ReadError>
     ensures { Finds (IsKeep args.now) result }
 {

@@ -36,7 +36,7 @@ pub enum Keyword {
     Other,
 }
 
-/// Names are compared without ASCII case (RFC 5228, 2.1). Those of another length aren't looked at.
+/// Whether the name is this keyword, ignoring ASCII case (RFC 5228, 2.1). Names of another length aren't looked at.
 #[inline(always)]
 pub(crate) fn is_name(name: &[u8], keyword: &[u8]) -> bool
     ensures { result ≡ same_name name.now keyword.now }
@@ -44,7 +44,7 @@ pub(crate) fn is_name(name: &[u8], keyword: &[u8]) -> bool
     name.len() == keyword.len() && name.eq_ignore_ascii_case(keyword)
 }
 
-/// The command or the test of this name.
+/// The command or the test with this name.
 pub(crate) fn keyword_named(name: &[u8]) -> Keyword
     ensures { result ≡ keyword_of name.now }
 {

@@ -1,4 +1,4 @@
-//! The table of the language: a file for each of its tables, or for what one element of it takes.
+//! The tables of the language: a file for each table, or for the arguments of one of its elements.
 pub mod capability;
 pub mod command;
 pub mod file_into;

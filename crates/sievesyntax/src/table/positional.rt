@@ -63,7 +63,7 @@ pub(crate) fn list(alloc: Global, args: &[Argument<'_>]) -> Result<Texts, ReadEr
     }
 }
 
-/// The names of `require`, the fields of `exists`, or the flags of `setflag`.
+/// Reads the names of `require`, the fields of `exists`, or the flags of `setflag`.
 pub(crate) fn read_list(alloc: Global, args: &[Argument<'_>]) -> Result<Texts, ReadError>
     ensures { Finds (IsList args.now) result }
 {
@@ -134,7 +134,7 @@ fn text_in(alloc: Global, value: &Argument<'_>) -> Result<Octets, ReadError>
     }
 }
 
-/// Why these positional arguments are not those wanted: their number, or else their form.
+/// Why these positional arguments are not those expected: their number, or otherwise their form.
 fn count_fault(args: &[Argument<'_>], wanted: usize) -> FaultKind {
     if args.len() < wanted {
         FaultKind::MissingArgument

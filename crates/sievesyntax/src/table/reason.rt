@@ -15,7 +15,7 @@ use sievelex::FaultKind;
 /// The most octets of a line, without its line end (RFC 5322, 2.1.1).
 const MAX_LINE: usize = 998;
 
-/// A reason that may stand.
+/// Checks whether a reason is permitted.
 pub(crate) fn check_reason(args: &VacArgs) -> Result<(), ReadError>
     ensures found { OnOk result (spec.IsReason args.now) }
     ensures fault { IfFault result (spec.IsReason args.now → ⊥) }
@@ -35,7 +35,7 @@ pub(crate) fn check_reason(args: &VacArgs) -> Result<(), ReadError>
     Ok(())
 }
 
-/// CR and LF stand as line ends alone, and no octet is NUL.
+/// Whether CR and LF occur only as line ends, and no octet is NUL.
 fn has_whole_lines(text: &[u8]) -> bool
     ensures { result ≡ spec.has_whole_lines false text.now }
 {
@@ -49,7 +49,7 @@ fn has_whole_lines(text: &[u8]) -> bool
     !after_cr
 }
 
-/// No line is too long.
+/// Whether no line is too long.
 fn is_narrow_text(text: &[u8]) -> bool
     ensures { result ≡ spec.is_narrow_text text.now }
 {
@@ -64,7 +64,7 @@ fn is_narrow_text(text: &[u8]) -> bool
     true
 }
 
-/// A header of MIME fields alone, an empty line, and anything.
+/// Whether the text is a header of only MIME fields, an empty line, and anything.
 fn is_entity(text: &[u8]) -> bool
     ensures { result ≡ spec.is_entity text.now }
 {

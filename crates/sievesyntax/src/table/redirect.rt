@@ -17,7 +17,7 @@ use octets::Octets;
 use sievelex::FaultKind;
 use std::alloc::{AllocError, Global};
 
-/// The arguments of `redirect`.
+/// Reads the arguments of `redirect`.
 pub(crate) fn read_redirect(alloc: Global, args: &[Argument<'_>]) -> Result<Redirect, ReadError>
     ensures { Finds (IsRedirect args.now) result }
 {
@@ -40,7 +40,7 @@ fn redirect_from(
     })
 }
 
-/// The display and the address that a text names.
+/// The display name and the address that a text names; a fault if it names none.
 pub(crate) fn outbound(alloc: Global, text: &[u8]) -> Result<(Octets, Addr), ReadError>
     ensures found { IfOk result (λ r. IsNamedAs text.now r.0 r.1) }
     ensures fault { IfFault result ((display : List ℕ) (address : Addr) → IsNamedAs text.now display address → ⊥) }
@@ -51,7 +51,7 @@ pub(crate) fn outbound(alloc: Global, text: &[u8]) -> Result<(Octets, Addr), Rea
     }
 }
 
-/// The display and the address that a text names, if it names one.
+/// The display name and the address that a text names, if it names one.
 pub(crate) fn named_address(
     alloc: Global,
     text: &[u8],

@@ -36,7 +36,7 @@ pub enum Tag {
     Other,
 }
 
-/// The tag of this name.
+/// The tag with this name.
 pub(crate) fn tag_named(name: &[u8]) -> Tag
     ensures { result ≡ tag_of name.now }
 {

@@ -14,7 +14,7 @@ use octets::{Octets, Texts};
 use sievelex::FaultKind;
 use std::alloc::Global;
 
-/// What a tag, with its value, says.
+/// What a tag with its value says.
 #[derive(Drop)]
 pub enum TagValue {
     /// `:over`, `:under`.
@@ -95,7 +95,7 @@ impl TagValue {
     }
 }
 
-/// The tags at the front, each of an allowed group and none twice, and the positional arguments after them.
+/// Splits arguments into the tags at the beginning, each of an allowed group and no group twice, and the positional arguments after them.
 pub(crate) fn split_tags<'a, 't>(
     alloc: Global,
     args: &'a [Argument<'t>],
@@ -119,7 +119,7 @@ pub(crate) fn split_tags<'a, 't>(
     Ok((tag_values, args.split_at(at).1))
 }
 
-/// The tag at the front, and how many arguments it and its value are, or none where no tag stands there.
+/// The first tag, and how many arguments it and its value are, or `None` if no tag is first.
 fn next_tag(
     alloc: Global,
     args: &[Argument<'_>],
@@ -160,7 +160,7 @@ fn is_settled(tag_values: &[TagValue], group: TagGroup) -> bool
     false
 }
 
-/// The tag that begins with this tag, and what follows it.
+/// What this tag, with the value in the arguments after it, says, and what follows it.
 fn tag_value_at<'a, 't>(
     alloc: Global,
     tag: Tag,

@@ -55,7 +55,7 @@ pub(crate) fn given_part(tag_values: &[TagValue]) -> AddressPart
     AddressPart::All
 }
 
-/// The days of a `vacation`, if they are given.
+/// The days of `vacation`, if they are given.
 pub(crate) fn given_days(tag_values: &[TagValue]) -> Option<u64>
     ensures { result ≡ days_in tag_values.now }
 {
@@ -133,7 +133,7 @@ pub(crate) fn given_copy(tag_values: &[TagValue]) -> bool
     false
 }
 
-/// Whether a mailbox that isn't there is to be made.
+/// Whether a mailbox that doesn't exist is to be created.
 pub(crate) fn given_create(tag_values: &[TagValue]) -> bool
     ensures { result ≡ create_in tag_values.now }
 {
@@ -145,7 +145,7 @@ pub(crate) fn given_create(tag_values: &[TagValue]) -> bool
     false
 }
 
-/// The zone that a date is looked at in, or the default.
+/// The zone in which a date is looked at, or the default.
 pub(crate) fn given_zone(tag_values: &[TagValue]) -> DateZone
     ensures { result ≡ zone_in tag_values.now }
 {

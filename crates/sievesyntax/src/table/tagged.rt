@@ -16,7 +16,7 @@ use octets::{Octets, Texts};
 use sievelex::{FaultKind, Said};
 use std::alloc::{AllocError, Global};
 
-/// The argument at the front, and what follows it.
+/// The first argument, and what follows it.
 fn value_at<'a, 't>(
     args: &'a [Argument<'t>],
 ) -> Result<(&'a Argument<'t>, &'a [Argument<'t>]), ReadError>
@@ -70,7 +70,7 @@ pub(crate) fn texts_at<'a, 't>(
     Ok((strings(alloc, value)?, rest))
 }
 
-/// The comparator of this name, compared by octets.
+/// The comparator with this name, compared by octets.
 pub(crate) fn collation_at<'a, 't>(
     args: &'a [Argument<'t>],
 ) -> Result<(Collation, &'a [Argument<'t>]), ReadError>
@@ -99,7 +99,7 @@ fn collation_named(name: &[u8]) -> Result<Collation, ReadError>
     }
 }
 
-/// The relation of this name, compared by octets.
+/// The relation with this name, compared by octets.
 pub(crate) fn relation_at<'a, 't>(
     args: &'a [Argument<'t>],
 ) -> Result<(Relation, &'a [Argument<'t>]), ReadError>
@@ -158,7 +158,7 @@ fn offset_in(text: &[u8]) -> Result<i16, ReadError>
     }
 }
 
-/// The strings of an argument: a string stands for the list of it alone (RFC 5228, 2.4.2.1).
+/// The strings of an argument: a string stands for the list that has only it (RFC 5228, 2.4.2.1).
 pub(crate) fn strings(alloc: Global, value: &Argument<'_>) -> Result<Texts, ReadError>
     ensures found { IfOk result (λ xs. strings_of value.now ≡ Some xs) }
     ensures fault { IfFault result (strings_of value.now ≡ None) }
@@ -174,7 +174,7 @@ pub(crate) fn strings(alloc: Global, value: &Argument<'_>) -> Result<Texts, Read
     }
 }
 
-/// A copy of each string, in order.
+/// Copies each string, in order.
 fn copies(alloc: Global, strings: &[Said<'_>]) -> Result<Texts, AllocError>
     ensures { IfOk result (λ copies. copies ≡ strings.now) }
 {

@@ -1,4 +1,4 @@
-//! The table of tests without a test in them: what may stand after each name (RFC 5228, 5).
+//! The table of tests without a test in them: what may follow each name (RFC 5228, 5).
 ghost use Rattle.std.specs.Prelude.{◌≡◌, IfOk, OnOk};
 ghost use Rattle.sievesyntax.specs.Parsing.{IfFault, FindsFit};
 ghost use Rattle.sievesyntax.specs.declared.tree.checks.Check.TheVariants as C;
@@ -24,7 +24,7 @@ use octets::Texts;
 use sievelex::FaultKind;
 use std::alloc::Global;
 
-/// The test of this word and these arguments.
+/// The test of this word and these arguments, if it is permitted.
 pub(crate) fn plain_test(
     alloc: Global,
     keyword: Keyword,
@@ -55,36 +55,36 @@ pub(crate) fn plain_test(
             let header = permitted_header(alloc, args, granted)?;
             Ok(Test::Check(Check::Header(header)))
         }
-        // Syntax: address [COMPARATOR] [ADDRESS-PART] [MATCH-TYPE] <header-list: string-list> <key-list: string-list>, where `subaddress`
-        // is required for its parts (RFC 5228, 5.1; RFC 5233)
+        // Syntax: address [COMPARATOR] [ADDRESS-PART] [MATCH-TYPE] <header-list: string-list> <key-list: string-list>; `:user` and `:detail`
+        // require `subaddress` (RFC 5228, 5.1; RFC 5233)
         Keyword::Address => {
             let address = permitted_address(alloc, args, granted)?;
             Ok(Test::Check(Check::Address(address)))
         }
-        // Syntax: envelope [COMPARATOR] [ADDRESS-PART] [MATCH-TYPE] <envelope-part: string-list> <key-list: string-list>,
-        // where `envelope` is required, and `subaddress` for its parts (RFC 5228, 5.4; RFC 5233)
+        // Syntax: envelope [COMPARATOR] [ADDRESS-PART] [MATCH-TYPE] <envelope-part: string-list> <key-list: string-list>;
+        // requires `envelope`, and `:user` and `:detail` require `subaddress` (RFC 5228, 5.4; RFC 5233)
         Keyword::Envelope => {
             let envelope = permitted_envelope(alloc, args, granted)?;
             Ok(Test::Check(Check::Envelope(envelope)))
         }
-        // Syntax: mailboxexists <mailbox-names: string-list>, where `mailbox` is required (RFC 5490, 3.1)
+        // Syntax: mailboxexists <mailbox-names: string-list>; requires `mailbox` (RFC 5490, 3.1)
         Keyword::MailboxExists => {
             let names = permitted_names(alloc, args, granted)?;
             Ok(Test::Check(Check::MailboxExists(names)))
         }
         // Syntax: date [<":zone" <time-zone: string>> / ":originalzone"] [COMPARATOR] [MATCH-TYPE] <header-name: string>
-        // <date-part: string> <key-list: string-list>, where `date` is required (RFC 5260, 4)
+        // <date-part: string> <key-list: string-list>; requires `date` (RFC 5260, 4)
         Keyword::Date => {
             let date = permitted_date(alloc, args, granted)?;
             Ok(Test::Check(Check::Date(date)))
         }
-        // Syntax: currentdate [":zone" <time-zone: string>] [COMPARATOR] [MATCH-TYPE] <date-part: string> <key-list: string-list>,
-        // where `date` is required (RFC 5260, 5)
+        // Syntax: currentdate [":zone" <time-zone: string>] [COMPARATOR] [MATCH-TYPE] <date-part: string> <key-list: string-list>;
+        // requires `date` (RFC 5260, 5)
         Keyword::CurrentDate => {
             let current = permitted_current(alloc, args, granted)?;
             Ok(Test::Check(Check::CurrentDate(current)))
         }
-        // Syntax: hasflag [MATCH-TYPE] [COMPARATOR] <list-of-flags: string-list>, where `imap4flags` is required (RFC 5232, 4)
+        // Syntax: hasflag [MATCH-TYPE] [COMPARATOR] <list-of-flags: string-list>; requires `imap4flags` (RFC 5232, 4)
         Keyword::HasFlag => {
             let flag = permitted_has_flag(alloc, args, granted)?;
             Ok(Test::Check(Check::HasFlag(flag)))
@@ -93,8 +93,8 @@ pub(crate) fn plain_test(
     }
 }
 
-/// A fault where values may not be matched so: `relational` and `comparator-i;ascii-numeric` have to be required where they are used
-/// (RFC 5231; RFC 5228, 2.7.3), and a number has no parts (RFC 4790, 9.1).
+/// Returns a fault if values may not be matched like this: `relational` and `comparator-i;ascii-numeric` have to be required if they
+/// are used (RFC 5231; RFC 5228, 2.7.3), and a number has no parts (RFC 4790, 9.1).
 fn require_match(
     granted: Capabilities,
     comparator: Collation,
@@ -111,7 +111,7 @@ fn require_match(
     Ok(())
 }
 
-/// The arguments of `header`, where it may stand.
+/// The arguments of `header`, if it is permitted.
 fn permitted_header(
     alloc: Global,
     args: &[Argument<'_>],
@@ -124,7 +124,7 @@ fn permitted_header(
     Ok(header)
 }
 
-/// The arguments of `address`, where it may stand.
+/// The arguments of `address`, if it is permitted.
 fn permitted_address(
     alloc: Global,
     args: &[Argument<'_>],
@@ -138,7 +138,7 @@ fn permitted_address(
     Ok(address)
 }
 
-/// The arguments of `envelope`, where it may stand.
+/// The arguments of `envelope`, if it is permitted.
 fn permitted_envelope(
     alloc: Global,
     args: &[Argument<'_>],
@@ -153,7 +153,7 @@ fn permitted_envelope(
     Ok(envelope)
 }
 
-/// The names of `mailboxexists`, where it may stand.
+/// The names of `mailboxexists`, if it is permitted.
 fn permitted_names(
     alloc: Global,
     args: &[Argument<'_>],
@@ -166,7 +166,7 @@ fn permitted_names(
     Ok(names)
 }
 
-/// The arguments of `date`, where it may stand.
+/// The arguments of `date`, if it is permitted.
 fn permitted_date(
     alloc: Global,
     args: &[Argument<'_>],
@@ -180,7 +180,7 @@ fn permitted_date(
     Ok(date)
 }
 
-/// The arguments of `currentdate`, where it may stand.
+/// The arguments of `currentdate`, if it is permitted.
 fn permitted_current(
     alloc: Global,
     args: &[Argument<'_>],
@@ -194,7 +194,7 @@ fn permitted_current(
     Ok(current)
 }
 
-/// The arguments of `hasflag`, where it may stand.
+/// The arguments of `hasflag`, if it is permitted.
 fn permitted_has_flag(
     alloc: Global,
     args: &[Argument<'_>],

@@ -23,7 +23,7 @@ use octets::Octets;
 use sievelex::FaultKind;
 use std::alloc::Global;
 
-/// The arguments of `size`.
+/// Reads the arguments of `size`.
 pub(crate) fn read_size(alloc: Global, args: &[Argument<'_>]) -> Result<Size, ReadError>
     ensures { Finds (IsSize args.now) result }
 {
@@ -41,7 +41,7 @@ fn size_from(tag_values: &[TagValue], positional: &[Argument<'_>]) -> Result<Siz
     Ok(Size { bound, limit })
 }
 
-/// The arguments of `header`.
+/// Reads the arguments of `header`.
 pub(crate) fn read_header(alloc: Global, args: &[Argument<'_>]) -> Result<Header, ReadError>
     ensures { Finds (IsHeader args.now) result }
 {
@@ -69,7 +69,7 @@ fn header_from(
     })
 }
 
-/// The arguments of `address`.
+/// Reads the arguments of `address`.
 pub(crate) fn read_address(alloc: Global, args: &[Argument<'_>]) -> Result<Address, ReadError>
     ensures { Finds (IsAddress args.now) result }
 {
@@ -95,7 +95,7 @@ fn address_from(
     })
 }
 
-/// The arguments of `envelope`.
+/// Reads the arguments of `envelope`.
 pub(crate) fn read_envelope(alloc: Global, args: &[Argument<'_>]) -> Result<EnvelopeTest, ReadError>
     ensures { Finds (IsEnvelope args.now) result }
 {
@@ -122,7 +122,7 @@ fn envelope_from(
     })
 }
 
-/// The arguments of `date`.
+/// Reads the arguments of `date`.
 pub(crate) fn read_date_test(alloc: Global, args: &[Argument<'_>]) -> Result<DateTest, ReadError>
     ensures { Finds (IsDate args.now) result }
 {
@@ -150,7 +150,7 @@ fn date_from(
     })
 }
 
-/// The arguments of `currentdate`.
+/// Reads the arguments of `currentdate`.
 pub(crate) fn read_current_date(
     alloc: Global,
     args: &[Argument<'_>],
@@ -181,7 +181,7 @@ fn current_date_from(
     })
 }
 
-/// The arguments of `hasflag`.
+/// Reads the arguments of `hasflag`.
 pub(crate) fn read_has_flag(alloc: Global, args: &[Argument<'_>]) -> Result<HasFlag, ReadError>
     ensures { Finds (IsHasFlag args.now) result }
 {
@@ -220,7 +220,7 @@ fn zone_without_original(zone: DateZone) -> Result<Option<i16>, ReadError>
     }
 }
 
-/// The part of a date of this name (RFC 5260, 4.2).
+/// The part of a date with this name (RFC 5260, 4.2).
 fn date_part(name: &[u8]) -> Result<DatePart, ReadError>
     ensures found { IfOk result (λ part. part_named name.now ≡ Some part) }
     ensures fault { IfFault result (part_named name.now ≡ None) }
@@ -231,7 +231,7 @@ fn date_part(name: &[u8]) -> Result<DatePart, ReadError>
     }
 }
 
-/// The parts of the envelope that these name.
+/// The parts of the envelope that these names name.
 fn envelope_parts(names: &[Octets]) -> Result<EnvelopeParts, ReadError>
     ensures { Finds (NamesParts names.now) result }
 {

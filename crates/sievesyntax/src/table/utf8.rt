@@ -1,4 +1,4 @@
-//! Texts in UTF-8: a decoded string may be none (RFC 5228, 2.4.2.4).
+//! Texts in UTF-8: a decoded string needn't be one (RFC 5228, 2.4.2.4).
 ghost use Rattle.std.specs.Prelude.{◌≡◌, ◌↔◌, IsTrue};
 ghost use Rattle.std.specs.Char.{is_ascii};
 ghost use Rattle.std.specs.List.{list_all};

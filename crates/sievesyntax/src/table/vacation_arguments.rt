@@ -19,7 +19,7 @@ use addrparts::Addr;
 use octets::{List, Octets};
 use std::alloc::{AllocError, Global};
 
-/// The arguments of `vacation`.
+/// Reads the arguments of `vacation`.
 pub(crate) fn read_vacation(alloc: Global, args: &[Argument<'_>]) -> Result<VacArgs, ReadError>
     ensures { Finds (IsVacation args.now) result }
 {
@@ -106,7 +106,7 @@ fn reply_from(alloc: Global, text: &Octets) -> Result<ReplyFrom, ReadError>
     })
 }
 
-/// The addresses of the texts of `:addresses`: none where it isn't given.
+/// The addresses that the texts of `:addresses` name; none if it isn't given.
 fn given_addresses(alloc: Global, tag_values: &[TagValue]) -> Result<List<Addr>, AllocError>
     ensures { IfOk result (λ addresses. AreNamed (addresses_in tag_values.now) addresses) }
 {

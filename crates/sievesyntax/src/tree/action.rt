@@ -6,7 +6,7 @@ use octets::{Octets, Texts};
 /// What a script does with the message (RFC 5228, 4; RFC 5230), and with the flags that its copies get (RFC 5232).
 #[derive(Drop)]
 pub enum Action {
-    /// `keep`: file into `INBOX` (RFC 5228, 4.3), with the texts of its `:flags`: which flags the copy has, in place of those that
+    /// `keep`: file into `INBOX` (RFC 5228, 4.3), with the texts of its `:flags`: which flags the copy has, instead of those that
     /// are set (RFC 5232, 5).
     Keep(Option<Texts>),
     /// `discard`: cancel the implicit keep (RFC 5228, 4.4).
@@ -17,11 +17,11 @@ pub enum Action {
     Redirect(Redirect),
     /// `vacation`: answer the sender (RFC 5230).
     Vacation(Vacation),
-    /// `setflag`: the flags that these texts name, and no others (RFC 5232, 3.1).
+    /// `setflag`: set the flags that these texts name, and no others (RFC 5232, 3.1).
     SetFlag(Texts),
-    /// `addflag`: those besides (RFC 5232, 3.2).
+    /// `addflag`: set these besides (RFC 5232, 3.2).
     AddFlag(Texts),
-    /// `removeflag`: those no longer (RFC 5232, 3.3).
+    /// `removeflag`: unset these (RFC 5232, 3.3).
     RemoveFlag(Texts),
 }
 
@@ -32,9 +32,9 @@ pub struct FileInto {
     pub mailbox: Octets,
     /// `:copy`: the implicit keep isn't cancelled (RFC 3894, 3.1).
     pub copy: bool,
-    /// `:create`: the mailbox is made where it isn't there, which is so without it too (RFC 5490, 3.2).
+    /// `:create`: the mailbox is created if it doesn't exist, which is also done without it (RFC 5490, 3.2).
     pub create: bool,
-    /// The texts of `:flags`: which flags the copy has, in place of those that are set (RFC 5232, 5).
+    /// The texts of `:flags`: which flags the copy has, instead of those that are set (RFC 5232, 5).
     pub flags: Option<Texts>,
 }
 

@@ -10,7 +10,7 @@ use octets::{Octets, Texts};
 pub enum Check {
     /// `size` (RFC 5228, 5.9).
     Size(Size),
-    /// `exists`, with the names of the fields that have to be there, each of them (RFC 5228, 5.5).
+    /// `exists`, with the names of the fields that all have to be there (RFC 5228, 5.5).
     Exists(Texts),
     /// `header` (RFC 5228, 5.7).
     Header(Header),
@@ -18,7 +18,7 @@ pub enum Check {
     Address(Address),
     /// `envelope` (RFC 5228, 5.4).
     Envelope(EnvelopeTest),
-    /// `mailboxexists`, with the names that have to be those of mailboxes, each of them (RFC 5490, 3.1).
+    /// `mailboxexists`, with the names that all have to be names of mailboxes (RFC 5490, 3.1).
     MailboxExists(Texts),
     /// `date` (RFC 5260, 4).
     Date(DateTest),
@@ -28,7 +28,7 @@ pub enum Check {
     HasFlag(HasFlag),
 }
 
-/// The arguments of `size`: how the message's size has to stand to the limit, in octets.
+/// The arguments of `size`: how the message's size has to compare with the limit.
 #[derive(Clone, Copy, Debug, PartialEq, Eq)]
 pub struct Size {
     /// Over or under.
@@ -80,10 +80,10 @@ pub struct EnvelopeTest {
     pub keys: Texts,
 }
 
-/// The arguments of `date`: a part of the date in the first field of a name has to match one of the keys.
+/// The arguments of `date`: a part of the date in the first field with a name has to match one of the keys.
 #[derive(Drop)]
 pub struct DateTest {
-    /// The zone that the date is looked at in.
+    /// The zone in which the date is looked at.
     pub zone: DateZone,
     /// How octets are compared.
     pub comparator: Collation,
@@ -97,10 +97,10 @@ pub struct DateTest {
     pub keys: Texts,
 }
 
-/// The arguments of `currentdate`: a part of the delivery's moment has to match one of the keys.
+/// The arguments of `currentdate`: a part of the moment of delivery has to match one of the keys.
 #[derive(Drop)]
 pub struct CurrentDate {
-    /// The zone that the moment is looked at in, in minutes east of UTC; the host's where there is none.
+    /// The zone in which the moment is looked at, in minutes east of UTC; `None` for the host's.
     pub zone: Option<i16>,
     /// How octets are compared.
     pub comparator: Collation,
@@ -123,14 +123,14 @@ pub struct HasFlag {
     pub keys: Texts,
 }
 
-/// The zone that a date is looked at in (RFC 5260, 4.1).
+/// The zone in which a date is looked at (RFC 5260, 4.1).
 #[derive(Clone, Copy, Debug, PartialEq, Eq)]
 pub enum DateZone {
     /// The host's.
     Host,
     /// `:zone`: this one, in minutes east of UTC.
     Given(i16),
-    /// `:originalzone`: the one that the date was written in.
+    /// `:originalzone`: the one in which the date was written.
     Original,
 }
 
@@ -143,7 +143,7 @@ pub struct EnvelopeParts {
     pub to: bool,
 }
 
-/// A side of a limit. A size that is the limit is neither over nor under it.
+/// A side of a limit. A size equal to the limit is neither over nor under it.
 #[derive(Clone, Copy, Debug, PartialEq, Eq)]
 pub enum Bound {
     /// `:over`: strictly more.
@@ -155,9 +155,9 @@ pub enum Bound {
 /// A comparator (RFC 4790).
 #[derive(Clone, Copy, Debug, PartialEq, Eq)]
 pub enum Collation {
-    /// `i;octet`: octets are equal where they are the same (RFC 4790, 9.3).
+    /// `i;octet`: octets are equal if they are the same (RFC 4790, 9.3).
     Octet,
-    /// `i;ascii-casemap`: the same, without ASCII case (RFC 4790, 9.2).
+    /// `i;ascii-casemap`: the same, ignoring ASCII case (RFC 4790, 9.2).
     AsciiCasemap,
     /// `i;ascii-numeric`: texts are compared by the numbers that they begin with (RFC 4790, 9.1).
     AsciiNumeric,
@@ -177,13 +177,13 @@ impl Collation {
 pub enum Matching {
     /// `:is`: the value is the key.
     Is,
-    /// `:contains`: the key stands in the value.
+    /// `:contains`: the value contains the key.
     Contains,
     /// `:matches`: the key is a pattern, with `*` and `?`.
     Matches,
-    /// `:value`: the value stands in a relation to the key.
+    /// `:value`: the value is in this relation to the key.
     Value(Relation),
-    /// `:count`: the number of the values stands in a relation to the key.
+    /// `:count`: the number of values is in this relation to the key.
     Count(Relation),
 }
 
@@ -203,7 +203,7 @@ impl Matching {
     }
 }
 
-/// How the left side has to stand to the right side in a comparator's order (RFC 5231, 4).
+/// The relation that the left side has to have to the right side in a comparator's order (RFC 5231, 4).
 #[derive(Clone, Copy, Debug, PartialEq, Eq)]
 pub enum Relation {
     /// `gt`: greater.
@@ -229,9 +229,9 @@ pub enum AddressPart {
     LocalPart,
     /// `:domain`.
     Domain,
-    /// `:user`: what stands before the first `+` of the local part, or all of it where it has none.
+    /// `:user`: what precedes the first `+` of the local part, or all of it if it has none.
     User,
-    /// `:detail`: what stands after the first `+` of the local part. A local part without one has no detail.
+    /// `:detail`: what follows the first `+` of the local part. A local part without one has no detail.
     Detail,
 }
 

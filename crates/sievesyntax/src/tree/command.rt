@@ -18,7 +18,7 @@ pub enum Command {
     Act(Action),
 }
 
-/// A test and the block that is run where it holds.
+/// A test and the block that is run if it holds.
 #[cycle(command)]
 #[derive(Drop)]
 pub struct Branch {

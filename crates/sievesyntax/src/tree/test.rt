@@ -11,10 +11,10 @@ pub enum Test {
     False,
     /// A test that looks at the message or its envelope.
     Check(Check),
-    /// `not`: holds where this test doesn't (RFC 5228, 5.8).
+    /// `not`: holds if this test doesn't (RFC 5228, 5.8).
     Not(Box<Test>),
-    /// `allof`: holds where each of these tests does (RFC 5228, 5.2).
+    /// `allof`: holds if each of these tests does (RFC 5228, 5.2).
     AllOf(Vec<Test>),
-    /// `anyof`: holds where some of these tests does (RFC 5228, 5.3).
+    /// `anyof`: holds if some of these tests does (RFC 5228, 5.3).
     AnyOf(Vec<Test>),
 }

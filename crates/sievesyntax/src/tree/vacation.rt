@@ -6,7 +6,7 @@ use octets::{List, Octets};
 use std::alloc::{AllocError, Global};
 use std::marker::Model;
 
-/// The arguments of `vacation` in a place of their own, so that the other actions take no memory for them. Contracts
+/// The arguments of `vacation`, boxed so that the other actions take no memory for them. Contracts
 /// see the arguments.
 #[derive(Drop)]
 pub struct Vacation {
@@ -22,7 +22,7 @@ impl Model for Vacation {
 }
 
 impl Vacation {
-    /// These arguments, without a copy; without memory they are dropped.
+    /// Boxes these arguments, without a copy; if there is no memory they are dropped.
     pub(crate) fn new(alloc: Global, args: VacArgs) -> Result<Vacation, AllocError>
         ensures { IfOk result (λ reply. reply ≡ args) }
     {
@@ -39,25 +39,25 @@ impl Vacation {
     }
 }
 
-/// The arguments of `vacation`, as they were written (RFC 5230, 4). A tag that isn't there is none.
+/// The arguments of `vacation`, as they were written (RFC 5230, 4). A tag that isn't given is `None`.
 #[derive(Drop)]
 pub struct VacArgs {
     /// `:days`: for how many days the same sender gets no second answer, in any range (RFC 5230, 4.1).
     pub days: Option<u64>,
-    /// `:seconds`: for how many seconds, in place of `:days`, in any range (RFC 6131).
+    /// `:seconds`: for how many seconds, instead of `:days`, in any range (RFC 6131).
     pub seconds: Option<u64>,
     /// `:subject` (RFC 5230, 4.3).
     pub subject: Option<Octets>,
     /// `:from` (RFC 5230, 4.3).
     pub from: Option<ReplyFrom>,
     /// `:addresses`: the addresses of the user besides those known already (RFC 5230, 4.5), in order. A text that
-    /// is no address has none here.
+    /// isn't an address adds none.
     pub addresses: List<Addr>,
     /// `:mime`: the reason is a MIME entity, a header and a body (RFC 5230, 4.4).
     pub mime: bool,
-    /// `:handle`: the name of the answer, under which it is known whether the sender has got it (RFC 5230, 4.2).
+    /// `:handle`: the name of the answer, under which it is remembered whether the sender has received it (RFC 5230, 4.2).
     pub handle: Option<Octets>,
-    /// The reason: what is answered.
+    /// The reason: the text of the answer.
     pub reason: Octets,
 }
 
@@ -66,7 +66,7 @@ pub struct VacArgs {
 pub struct ReplyFrom {
     /// The text as it was written.
     pub text: Octets,
-    /// Its display: the words before an address in angle brackets, or nothing.
+    /// Its display name: the words before an address in angle brackets, or nothing.
     pub display: Octets,
     /// Its address.
     pub address: Addr,
