@@ -1,4 +1,4 @@
--- Arguments, by the grammar alone (RFC 5228, 8.2).
+-- Arguments, as the grammar alone has them (RFC 5228, 8.2).
 use Rattle.std.specs.Prelude.{◌≡◌, ℕ, List, [], ◌∷◌}
 use Rattle.sievelex.specs.declared.token.Mark.TheVariants as K
 use Rattle.sievesyntax.specs.declared.parser.argument.Argument.{Argument}
@@ -10,12 +10,12 @@ use Rattle.sievesyntax.specs.Lexemes.{Lexeme, keyword, tag, number, text, mark, 
 abbrev pub IsOther : List ℕ → List Lexeme → List Lexeme → Type 0
 IsOther string from to = from ≡ mark K.Comma ∷ (text string ∷ to)
 
--- the strings of a list in brackets, after the open bracket: one or more
+-- the one or more strings of a list in brackets, after the open bracket
 abbrev pub AreStrings : List (List ℕ) → List Lexeme → List Lexeme → Type 0
 AreStrings [] from to = ⊥
 AreStrings (first ∷ more) from to = (rest : List Lexeme) × ((from ≡ text first ∷ rest) × Chain IsOther more rest (mark K.CloseBracket ∷ to))
 
--- an argument stands at the front: argument = string-list / number / tag
+-- an argument comes first: argument = string-list / number / tag
 abbrev pub IsArgument : Argument → List Lexeme → List Lexeme → Type 0
 IsArgument (A.Tag t) from to = from ≡ tag t ∷ to
 IsArgument (A.Number n) from to = from ≡ number n ∷ to
@@ -33,7 +33,7 @@ IsEnd (misfit ∷ _) = ⊥
 IsEnd (mark K.OpenBracket ∷ _) = ⊥
 IsEnd (mark _ ∷ _) = Unit {0}
 
--- all the arguments at the front
+-- all the arguments that come first
 pub record AreArguments (args : List Argument) (from to : List Lexeme) : Type 0 where
   pub spelled : Chain IsArgument args from to
   pub all : IsEnd to

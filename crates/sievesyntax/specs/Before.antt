@@ -1,4 +1,4 @@
--- What a script comes to in a language, and that the scripts of the language before keep their meaning.
+-- The outcome of a script in a language, and that the scripts of earlier languages keep their meaning.
 use Rattle.std.specs.Prelude.{◌≡◌, ℕ, Bool, false, ◌||◌, List, None}
 use Rattle.sievesyntax.specs.declared.tree.action.Action.{Action}
 use Rattle.sievesyntax.specs.declared.tree.action.Action.TheVariants.{Keep, Discard, FileInto, Redirect, Vacation, SetFlag, AddFlag, RemoveFlag}
@@ -14,17 +14,17 @@ use Rattle.sievesyntax.specs.Trace.{actions_run_by, in_turn_by, OnDone, FilesWit
 use Rattle.sievesyntax.specs.Tree.{TestTree, yes, no, looks, not_of, all_of, any_of, Tests, no_tests, test, CommandTree, require, choose, stop, act, Branches, no_branches, branch, Commands, no_commands, command}
 use Rattle.sievesyntax.specs.Valid.{is_subaddress, is_relational, is_numeric}
 
--- the same run with the implicit keep cancelled or not
+-- the same run, with the implicit keep cancelled or not
 abbrev pub with_cancelled : Bool → Flow → Flow
 with_cancelled cancelled (Going so_far) = Going (record so_far { cancelled = cancelled })
 with_cancelled cancelled (Stopped so_far) = Stopped (record so_far { cancelled = cancelled })
 with_cancelled cancelled (Failed failure) = Failed failure
 
--- what an action does in a language: the implicit keep is cancelled where it was, or where the action cancels it there
+-- what an action does in a language: the implicit keep is cancelled if it was before, or if the action cancels it in this language
 abbrev pub performed_in : Language → Action → RunState → Flow
 performed_in language action so_far = with_cancelled (so_far.cancelled || language.cancels action) (performed action so_far)
 
--- the outcome of a script in a language: what the actions that it runs come to there, in turn
+-- the outcome of a script in a language: that of the actions that it runs, in turn
 abbrev pub outcome_in : Language → (RunState → Check → Bool) → Commands → Outcome
 outcome_in language truth tree = ended (in_turn_by (performed_in language) (actions_run_by (performed_in language) truth tree) at_first)
 
@@ -39,7 +39,7 @@ IsOfBefore (SetFlag texts) = ⊥
 IsOfBefore (AddFlag texts) = ⊥
 IsOfBefore (RemoveFlag texts) = ⊥
 
--- each action in a tree is so
+-- this holds of each action in a tree
 abbrev mutual
   pub EachAction : (Action → Type 0) → CommandTree → Type 0
   EachAction P (require names) = Unit {0}
@@ -55,11 +55,11 @@ abbrev mutual
   EachIn P no_commands = Unit {0}
   EachIn P (command first more) = EachAction P first × EachIn P more
 
--- a way to match that the former language had: no relation (RFC 5231), and no numbers (RFC 4790, 9.1)
+-- a match type that the former language had: no relation (RFC 5231), and no numbers (RFC 4790, 9.1)
 abbrev pub IsFormerMatch : Collation → Matching → Type 0
 IsFormerMatch comparator matching = (is_relational matching ≡ false) × (is_numeric comparator ≡ false)
 
--- a test that it had: it looks at no part of a local part (RFC 5233, 4), and asks for no mailbox (RFC 5490, 3.1),
+-- a test that it had: it doesn't look at a part of a local part (RFC 5233, 4), and asks for no mailbox (RFC 5490, 3.1),
 -- no date (RFC 5260) and no flag (RFC 5232)
 abbrev pub IsFormerCheck : Check → Type 0
 IsFormerCheck (Header header) = IsFormerMatch header.comparator header.matching
@@ -97,7 +97,7 @@ abbrev pub IsFormerAction : Action → Type 0
 IsFormerAction (FileInto filing) = (filing.create ≡ false) × (filing.flags ≡ None)
 IsFormerAction other = IsUnflaggedAction other
 
--- each test in a tree that looks at a message or its envelope is so
+-- this holds of each test in a tree that looks at a message or its envelope
 abbrev mutual
   pub EachCheck : (Check → Type 0) → TestTree → Type 0
   EachCheck P yes = Unit {0}
@@ -126,29 +126,29 @@ abbrev mutual
   EachAsksIn P no_commands = Unit {0}
   EachAsksIn P (command first more) = EachAsks P first × EachAsksIn P more
 
--- the text means this tree, which has neither `:copy` nor seconds nor flags, and on every mail it comes to what it came to before
+-- the text means this tree, which has neither `:copy` nor seconds nor flags, and on every mail its outcome is what it was before
 pub record StillMeans (text : List ℕ) (tree : Commands) : Type 0 where
   pub means : Means text tree
   pub actions : EachIn IsOfBefore tree
   pub same : (truth : RunState → Check → Bool) → outcome truth tree ≡ outcome_in before truth tree
 
--- the text means this tree, which has former tests and actions alone, and on every mail it comes to what it came to before
+-- the text means this tree, which has only former tests and actions, and on every mail its outcome is what it was before
 pub record MeansFormerly (text : List ℕ) (tree : Commands) : Type 0 where
   pub means : Means text tree
   pub checks : EachAsksIn IsFormerCheck tree
   pub actions : EachIn IsFormerAction tree
   pub same : (truth : RunState → Check → Bool) → outcome truth tree ≡ outcome_in former truth tree
 
--- the text means this tree, which asks for no date and no flag, and gives and sets no flags, and on every mail it comes to what it
--- came to before
+-- the text means this tree, which asks for no date and no flag, and gives and sets no flags, and on every mail its outcome is what it
+-- was before
 pub record MeansUndated (text : List ℕ) (tree : Commands) : Type 0 where
   pub means : Means text tree
   pub checks : EachAsksIn IsUndatedCheck tree
   pub actions : EachIn IsUnflaggedAction tree
   pub same : (truth : RunState → Check → Bool) → outcome truth tree ≡ outcome_in undated truth tree
 
--- the text means this tree, which asks for no flag, and gives and sets no flags, and on every mail it comes to what it came to before,
--- where no copy has flags
+-- the text means this tree, which asks for no flag, and gives and sets no flags, and on every mail its outcome is what it was before,
+-- and no copy has flags
 pub record MeansUnflagged (text : List ℕ) (tree : Commands) : Type 0 where
   pub means : Means text tree
   pub checks : EachAsksIn IsUnflaggedCheck tree

@@ -1,7 +1,7 @@
 -- Things one after another.
 use Rattle.std.specs.Prelude.{◌≡◌, List, [], ◌∷◌}
 
--- these things stand at the front, in turn, and `to` follows: `one x from to` says it of one of them
+-- `from` is these things in turn, and then `to`: `one x from to` says it of one of them
 abbrev pub Chain : {X L : Type 0} → (X → List L → List L → Type 0) → List X → List L → List L → Type 0
 Chain one [] from to = from ≡ to
 Chain {X} {L} one (x ∷ more) from to = (middle : List L) × (one x from middle × Chain one more middle to)

@@ -1,4 +1,4 @@
--- Which strings of a script are decoded (RFC 5228, 2.4.2.4 and 3.2): those behind the `require` that names `encoded-character`.
+-- Which strings of a script are decoded (RFC 5228, 2.4.2.4 and 3.2): those after the `require` that names `encoded-character`.
 use Rattle.std.specs.Prelude.{ℕ, Bool, cond, nat_eq, List, [], ◌∷◌, codes}
 use Rattle.std.specs.Cmp.Lexicographic.{pointwise}
 use Rattle.sievelex.specs.declared.token.Mark.TheVariants as K
@@ -22,18 +22,18 @@ decoding_after Named _ = Named
 decoding_after On lexeme = On
 decoding_after Off lexeme = Off
 
--- what is read of a lexeme
+-- what a lexeme is read as
 abbrev pub seen : Decoding → Lexeme → Lexeme
 seen Open lexeme = lexeme
 seen Named lexeme = lexeme
 seen On lexeme = decoded_lexeme lexeme
 seen Off lexeme = lexeme
 
--- what is read of lexemes in a row
+-- what a list of lexemes is read as
 abbrev pub seen_from : Decoding → List Lexeme → List Lexeme
 seen_from decoding [] = []
 seen_from decoding (lexeme ∷ more) = seen decoding lexeme ∷ seen_from (decoding_after decoding lexeme) more
 
--- what is read of the lexemes of a script
+-- what the lexemes of a script are read as
 abbrev pub as_read : List Lexeme → List Lexeme
 as_read lexemes = seen_from Open lexemes

@@ -10,17 +10,17 @@ use Rattle.sievesyntax.specs.Table.{IsPlainCommand}
 use Rattle.sievesyntax.specs.Tests.{Headed, ReadsTest}
 use Rattle.sievesyntax.specs.Tree.{TestTree, yes, CommandTree, require, choose, stop, act, Branches, no_branches, branch, Commands, no_commands, command}
 
--- this stands at the front, in braces
+-- this comes first, in braces
 abbrev pub Braced : (List Lexeme → List Lexeme → Type 0) → List Lexeme → List Lexeme → Type 0
 Braced P from to = (inside : List Lexeme) × ((from ≡ mark K.OpenBrace ∷ inside) × P inside (mark K.CloseBrace ∷ to))
 
--- neither `elsif` nor `else` stands first
+-- neither `elsif` nor `else` comes first
 abbrev pub IsPastBranches : List Lexeme → Type 0
 IsPastBranches (keyword W.Elsif ∷ _) = ⊥
 IsPastBranches (keyword W.Else ∷ _) = ⊥
 IsPastBranches _ = Unit {0}
 
--- a test and a block stand at the front
+-- a test and a block come first
 abbrev pub Tested : TestTree → (List Lexeme → List Lexeme → Type 0) → List Lexeme → List Lexeme → Type 0
 Tested condition block from to = (start : List Lexeme) × (ReadsTest condition from start × Braced block start to)
 
@@ -42,8 +42,8 @@ abbrev mutual
   IsChoice (branch condition block more) name after to =
       (name ≡ W.If) × ((next : List Lexeme) × (Tested condition (AreCommands block) after next × AreBranches more next to))
 
-  -- each `elsif` with a test and a block, and at the end an `else` with a block, whose branch has the test
-  -- `true`: all that stand there
+  -- each `elsif` with a test and a block, and at the end perhaps an `else` with a block, whose branch has the test
+  -- `true`: all of them that are there
   pub AreBranches : Branches → List Lexeme → List Lexeme → Type 0
   AreBranches no_branches from to = (from ≡ to) × IsPastBranches to
   AreBranches (branch condition block more) from to =
@@ -55,7 +55,7 @@ abbrev mutual
   AreCommands no_commands from to = from ≡ to
   AreCommands (command first more) from to = (middle : List Lexeme) × (Headed (λ name after. IsCommand first name after middle) from × AreCommands more middle to)
 
--- a command at the front
+-- a command comes first
 abbrev pub ReadsCommand : CommandTree → List Lexeme → List Lexeme → Type 0
 ReadsCommand tree from to = Headed (λ name after. IsCommand tree name after to) from
 

@@ -11,14 +11,14 @@ use Rattle.sievesyntax.specs.Lexemes.{keyword_of, tag_of, Lexeme, keyword, tag, 
 use Rattle.sievesyntax.specs.Valid.{is_named, is_capability}
 
 -- which tags a language has, which capabilities its `require` knows, whether it decodes strings, and which actions cancel the
--- implicit keep in it
+-- implicit keep
 pub record Language : Type 0 where
   pub has : Tag → Bool
   pub knows : List ℕ → Bool
   pub decodes : Bool
   pub cancels : Action → Bool
 
--- a tag that the language hasn't is none that the grammar knows
+-- a tag that the language doesn't have is one that the grammar doesn't know
 abbrev pub tag_in : Language → Tag → Tag
 tag_in language t = cond (language.has t) t T.Other
 
@@ -30,18 +30,18 @@ lexeme_in language (C.Number n) = number n
 lexeme_in language (C.Text value) = text value
 lexeme_in language (C.Mark m) = mark m
 
--- the same of tokens in a row
+-- the same of a list of tokens
 abbrev pub lexemes_in : Language → List Content → List Lexeme
 lexemes_in language contents = map (lexeme_in language) contents
 
--- what is read of them
+-- what they are read as
 abbrev pub read_in : Language → List Content → List Lexeme
 read_in language contents = cond language.decodes (as_read (lexemes_in language contents)) (lexemes_in language contents)
 
 -- ---- the language as it is
 
--- all but `vacation` and what sets flags cancel the implicit keep (RFC 5228, 2.10.2; RFC 5230, 4.7; RFC 5232, 3), and no `:copy`
--- does (RFC 3894, 3)
+-- all but `vacation` and what sets flags cancel the implicit keep (RFC 5228, 2.10.2; RFC 5230, 4.7; RFC 5232, 3), unless they have
+-- `:copy` (RFC 3894, 3)
 abbrev pub cancels_today : Action → Bool
 cancels_today (D.Keep given) = true
 cancels_today D.Discard = true
@@ -52,7 +52,7 @@ cancels_today (D.SetFlag texts) = false
 cancels_today (D.AddFlag texts) = false
 cancels_today (D.RemoveFlag texts) = false
 
--- all tags and all capabilities, and strings are decoded behind the `require` that asks for it (RFC 5228, 2.4.2.4)
+-- all tags and all capabilities, and strings are decoded after the `require` that asks for it (RFC 5228, 2.4.2.4)
 abbrev pub today : Language
 today = record { has = λ t. true; knows = is_capability; decodes = true; cancels = cancels_today }
 
@@ -84,7 +84,7 @@ is_capability_before name =
     || (is_named (codes "comparator-i;octet") name
     || is_named (codes "comparator-i;ascii-casemap") name)))
 
--- all but `vacation` cancelled the implicit keep (RFC 5228, 2.10.2); what sets flags is no action of that language
+-- all but `vacation` cancelled the implicit keep (RFC 5228, 2.10.2); what sets flags isn't an action of that language
 abbrev pub cancels_before : Action → Bool
 cancels_before (D.Keep given) = true
 cancels_before D.Discard = true

@@ -1,4 +1,4 @@
--- What the grammar sees of a token: keywords in place of names.
+-- What the grammar sees of a token: keywords instead of names.
 use Rattle.std.specs.Prelude.{◌≡◌, ℕ, Bool, cond, nat_eq, Option, Some, None, List, [], ◌∷◌, map, codes}
 use Rattle.std.specs.Cmp.Lexicographic.{pointwise}
 use Rattle.octets.specs.Ascii.{lowered}
@@ -13,11 +13,11 @@ use Rattle.sievesyntax.specs.declared.table.tag.Tag.TheVariants as T
 use Rattle.sievesyntax.specs.declared.parser.lexeme.Lexeme.{Lexeme as BorrowedLexeme}
 use Rattle.sievesyntax.specs.declared.parser.lexeme.Lexeme.TheVariants as S
 
--- names are compared without ASCII case (RFC 5228, 2.1)
+-- names are compared ignoring ASCII case (RFC 5228, 2.1)
 abbrev pub same_name : List ℕ → List ℕ → Bool
 same_name name other = pointwise nat_eq (lowered name) (lowered other)
 
--- the command or test of this name
+-- the command or test with this name
 abbrev pub keyword_of : List ℕ → Keyword
 keyword_of name =
     cond (same_name name (codes "require")) W.Require
@@ -49,7 +49,7 @@ keyword_of name =
     (cond (same_name name (codes "hasflag")) W.HasFlag
     W.Other))))))))))))))))))))))))))
 
--- the tag of this name
+-- the tag with this name
 abbrev pub tag_of : List ℕ → Tag
 tag_of name =
     cond (same_name name (codes "over")) T.Over
@@ -86,14 +86,14 @@ pub data Lexeme : Type 0 where
   number : ℕ → Lexeme
   text : List ℕ → Lexeme
   mark : Mark → Lexeme
-  -- a string with a character that there isn't: it has no place in the grammar
+  -- a string with a character that doesn't exist: the grammar has no place for it
   misfit : Lexeme
 
--- lexemes in a row
+-- a list of lexemes
 abbrev pub Lexemes : Type 0
 Lexemes = List Lexeme
 
--- what the grammar sees of a token: not the case of its name
+-- what the grammar sees of a token: the case of its name is lost
 abbrev pub lexeme_of : Content → Lexeme
 lexeme_of (C.Identifier name) = keyword (keyword_of name)
 lexeme_of (C.Tag name) = tag (tag_of name)
@@ -101,7 +101,7 @@ lexeme_of (C.Number n) = number n
 lexeme_of (C.Text value) = text value
 lexeme_of (C.Mark m) = mark m
 
--- the same of tokens in a row
+-- the same of a list of tokens
 abbrev pub lexemes_of : List Content → List Lexeme
 lexemes_of contents = map lexeme_of contents
 
@@ -128,12 +128,12 @@ lexeme_view (S.Text value) = text value.now
 lexeme_view (S.Encoded written) = text_of (decoded written.now)
 lexeme_view (S.Mark m) = mark m
 
--- what stands first, as a borrowed lexeme tells it; none where nothing does
+-- the first lexeme, as a borrowed one; none if there are no lexemes
 abbrev pub IsFirst : Option BorrowedLexeme → List Lexeme → Type 0
 IsFirst None lexemes = lexemes ≡ []
 IsFirst (Some first) lexemes = (more : List Lexeme) × (lexemes ≡ lexeme_view first ∷ more)
 
--- what is read, where the first of it was read apart; nothing where nothing was
+-- these lexemes after one that was read before them; nothing if none was
 abbrev pub with_first : Option BorrowedLexeme → List Lexeme → List Lexeme
 with_first None more = []
 with_first (Some first) more = lexeme_view first ∷ more

@@ -1,4 +1,4 @@
--- What commands do, over any truth of the tests that look at the message and at what was done so far (RFC 5228, 2.10, 3; RFC 5232, 4).
+-- What commands do, for any truth of the tests that look at the message and at what has been done so far (RFC 5228, 2.10, 3; RFC 5232, 4).
 use Rattle.std.specs.Prelude.{Bool, true, false, not, cond, ◌&&◌, ◌||◌, List, Option}
 use Rattle.mailflags.specs.declared.placement.Placement.{Placement}
 use Rattle.addrparts.specs.declared.address.Addr.{Addr}
@@ -36,7 +36,7 @@ abbrev mutual
   does truth stop so_far = F.Stopped so_far
   does truth (act action) so_far = performed action so_far
 
-  -- the first block whose test holds is run, and no other: a test changes nothing, so all are asked of one state
+  -- the first block whose test holds is run, and no other: a test changes nothing, so all are evaluated in one state
   pub chooses : (RunState → Check → Bool) → Branches → RunState → Flow
   chooses truth no_branches so_far = F.Going so_far
   chooses truth (branch condition block more) so_far = cond (holds (truth so_far) condition) (does_all truth block so_far) (chooses truth more so_far)
@@ -46,13 +46,13 @@ abbrev mutual
   does_all truth (command first more) so_far = and_then (does truth first so_far) (does_all truth more)
 
 -- what is done in the end: the mailboxes, each with the flags of its copy, and the addresses, in order, and the answer to the
--- sender if there is one
+-- sender, if there is one
 pub record Actions : Type 0 where
   pub filed : List Placement
   pub sent : List Addr
   pub reply : Option VacArgs
 
--- what a script comes to: where it failed, nothing of it is done
+-- the outcome of a script: if it failed, nothing of it is done
 pub data Outcome : Type 0 where
   Done : Actions → Outcome
   Failed : Failure → Outcome
@@ -71,6 +71,6 @@ ended (F.Going so_far) = done_by (kept_implicitly so_far)
 ended (F.Stopped so_far) = done_by (kept_implicitly so_far)
 ended (F.Failed failure) = Failed failure
 
--- the outcome of a script, where the tests that look at the message and at what was done so far have this truth
+-- the outcome of a script, if the tests that look at the message and at what has been done so far have this truth
 abbrev pub outcome : (RunState → Check → Bool) → Commands → Outcome
 outcome truth commands = ended (does_all truth commands at_first)

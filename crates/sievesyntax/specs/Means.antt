@@ -8,7 +8,7 @@ use Rattle.sievesyntax.specs.Tree.{Commands}
 use Rattle.sievesyntax.specs.Grammar.{ReadsScript}
 use Rattle.sievesyntax.specs.Valid.{IsValidIn}
 
--- some tokens spell the text, read in this language as this tree, and the tree is valid with what its `require` knows
+-- some tokens spell the text, are read in this language as this tree, and the tree is valid with what the language's `require` knows
 pub record MeansIn (language : Language) (text : List ℕ) (tree : Commands) : Type 0 where
   pub tokens : List Token
   pub spelled : Spells text tokens

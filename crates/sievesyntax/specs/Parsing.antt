@@ -1,57 +1,57 @@
--- What a part of the parser answers.
+-- What a part of the parser returns.
 use Rattle.std.specs.Prelude.{◌≡◌, List, ◌∷◌, ◌++◌, Result, Ok, Err}
 use Rattle.sievesyntax.specs.declared.error.ReadError.{ReadError}
 use Rattle.sievesyntax.specs.declared.error.ReadError.TheVariants.{Memory, Fault}
 use Rattle.sievelex.specs.declared.token.Mark.{Mark}
 use Rattle.sievesyntax.specs.Lexemes.{Lexeme, mark}
 
--- this holds where the error is a fault of the script; lack of memory says nothing
+-- this holds if the error is a fault of the script; lack of memory says nothing
 abbrev pub OnFault : ReadError → Type 0 → Type 0
 OnFault Memory p = Unit {0}
 OnFault (Fault _) p = p
 
--- this holds where a fault is answered
+-- this holds if a fault is returned
 abbrev pub IfFault : {X : Type 0} → Result X ReadError → Type 0 → Type 0
 IfFault (Ok _) p = Unit {0}
 IfFault (Err e) p = OnFault e p
 
--- the one x with P, or a fault where there is none
+-- the only x with P, or a fault if there is none
 abbrev pub Finds : {X : Type 0} → (X → Type 0) → Result X ReadError → Type 0
 Finds {X} P (Ok x) = P x × ((y : X) → P y → y ≡ x)
 Finds {X} P (Err e) = OnFault e ((y : X) → P y → ⊥)
 
--- the one x with P, which fits, or a fault where no x with P fits
+-- the only x with P, which fits, or a fault if no x with P fits
 abbrev pub FindsFit : {X : Type 0} → (X → Type 0) → (X → Type 0) → Result X ReadError → Type 0
 FindsFit {X} P Fit (Ok x) = P x × Fit x × ((y : X) → P y → y ≡ x)
 FindsFit {X} P Fit (Err e) = OnFault e ((y : X) → P y → Fit y → ⊥)
 
--- the one y with P at the front of `from`, seen of what was read, and what follows it, or a fault where there is none
+-- the only y with P that `from` begins with, as the view of what was read, and what follows it, or a fault if there is none
 abbrev pub Parses : {X Y : Type 0} → (X → Y) → (Y → List Lexeme → List Lexeme → Type 0) → List Lexeme → List Lexeme → Result X ReadError → Type 0
 Parses {X} {Y} view P from to (Ok x) = P (view x) from to × ((y : Y) (end : List Lexeme) → P y from end → (y ≡ view x) × (end ≡ to))
 Parses {X} {Y} view P from to (Err e) = OnFault e ((y : Y) (end : List Lexeme) → P y from end → ⊥)
 
--- nothing with P stands at the front of `from` but this, up to `to`
+-- `from` begins with nothing with P but this, up to `to`
 abbrev pub StandsAlone : {Y : Type 0} → (Y → List Lexeme → List Lexeme → Type 0) → Y → List Lexeme → List Lexeme → Type 0
 StandsAlone {Y} P y from to = (other : Y) (end : List Lexeme) → P other from end → (other ≡ y) × (end ≡ to)
 
--- nothing with P stands at the front of `from`
+-- `from` begins with nothing with P
 abbrev pub StandsNowhere : {Y : Type 0} → (Y → List Lexeme → List Lexeme → Type 0) → List Lexeme → Type 0
 StandsNowhere {Y} P from = (y : Y) (end : List Lexeme) → P y from end → ⊥
 
--- those with P at the front of `from`, up to `to`, were added after the old ones
+-- those with P that `from` begins with, up to `to`, were added after the old ones
 abbrev pub Extends : {Y : Type 0} → (List Y → List Lexeme → List Lexeme → Type 0) → List Y → List Y → List Lexeme → List Lexeme → Type 0
 Extends {Y} P old new from to = (more : List Y) × ((new ≡ old ++ more) × P more from to)
 
--- none but those that were added stand there
+-- `from` begins with none but those that were added
 abbrev pub ExtendsAlone : {Y : Type 0} → (List Y → List Lexeme → List Lexeme → Type 0) → List Y → List Y → List Lexeme → List Lexeme → Type 0
 ExtendsAlone {Y} P old new from to = (more : List Y) (end : List Lexeme) → P more from end → (new ≡ old ++ more) × (end ≡ to)
 
--- those with P at the front of `from` are added after the old ones, up to `to`, and no others stand there; or a
--- fault where none do
+-- those with P that `from` begins with are added after the old ones, up to `to`, and it begins with no others; or a
+-- fault if it begins with none
 abbrev pub ParsesMore : {X Y : Type 0} → (X → List Y) → (List Y → List Lexeme → List Lexeme → Type 0) → List Y → List Lexeme → List Lexeme → Result X ReadError → Type 0
 ParsesMore view P old from to (Ok all) = Extends P old (view all) from to × ExtendsAlone P old (view all) from to
 ParsesMore view P old from to (Err e) = OnFault e (StandsNowhere P from)
 
--- what stands there up to a mark, and the mark
+-- what comes first up to a mark, and the mark
 abbrev pub Closed : {Y : Type 0} → Mark → (Y → List Lexeme → List Lexeme → Type 0) → Y → List Lexeme → List Lexeme → Type 0
 Closed kind P y from to = P y from (mark kind ∷ to)

@@ -4,7 +4,7 @@ use Rattle.sievesyntax.specs.declared.parser.argument.Argument.{Argument}
 use Rattle.sievesyntax.specs.declared.parser.argument.Argument.TheVariants as A
 use Rattle.sievesyntax.specs.Tags.{strings_of}
 
--- both, where both are there
+-- both, if both are there
 abbrev pub pair : {X Y : Type 0} → Option X → Option Y → Option (X × Y)
 pair (Some x) (Some y) = Some (x, y)
 pair _ _ = None

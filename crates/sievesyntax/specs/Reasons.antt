@@ -11,15 +11,15 @@ use Rattle.sievesyntax.specs.declared.tree.vacation.VacArgs.{VacArgs}
 abbrev pub is_narrow : List ℕ → Bool
 is_narrow line = nat_le (length (without_end line)) 998
 
--- each line of the text is that short
+-- no line of the text is longer
 abbrev pub is_narrow_text : List ℕ → Bool
 is_narrow_text text = list_all is_narrow (lines_of text)
 
--- the name of a MIME field, in any ASCII case (RFC 2045, 3): it begins with `Content-` or is `MIME-Version`
+-- the name of a MIME field, ignoring ASCII case (RFC 2045, 3): it begins with `Content-` or is `MIME-Version`
 abbrev pub is_mime_name : List ℕ → Bool
 is_mime_name name = (nat_le 8 (length name) && same_name (take 8 name) (codes "content-")) || same_name name (codes "mime-version")
 
--- a field, and it has such a name
+-- there is a field and it has such a name
 abbrev pub has_mime_name : Option FieldText → Bool
 has_mime_name None = false
 has_mime_name (Some field) = is_mime_name field.name
@@ -28,15 +28,15 @@ has_mime_name (Some field) = is_mime_name field.name
 abbrev pub is_header_octet : ℕ → Bool
 is_header_octet octet = octet == 9 || (octet == 10 || (octet == 13 || (nat_le 32 octet && nat_le octet 126)))
 
--- a logical line of that name and of those octets
+-- a logical line that has such a name and only such octets
 abbrev pub is_mime_line : List ℕ → Bool
 is_mime_line line = list_all is_header_octet line && has_mime_name (field_of line)
 
--- a MIME entity: a header of such logical lines alone, an empty line, and anything
+-- a MIME entity: a header of only such logical lines, an empty line, and anything
 abbrev pub is_entity : List ℕ → Bool
 is_entity text = list_any is_empty_line (lines_of text) && list_all is_mime_line (logical_lines (header_lines (lines_of text)))
 
--- a line of a header is that of a MIME field: a field of such a name, in those octets
+-- a line of a header is that of a MIME field: a field with such a name, and only such octets
 pub record IsMimeLine (line : List ℕ) : Type 0 where
   pub octets : All (λ octet. is_header_octet octet ≡ true) line
   pub field : FieldText
@@ -54,13 +54,13 @@ pub record IsEntity (text : List ℕ) : Type 0 where
   pub ends : is_empty_line empty ≡ true
   pub fields : All IsMimeLine (logical_lines header)
 
--- CR and LF stand as line ends alone, and no octet is NUL (RFC 5322, 2.3). A CR may stand before the text
+-- CR and LF occur only as line ends, and no octet is NUL (RFC 5322, 2.3). A CR may precede the text
 abbrev pub has_whole_lines : (after_cr : Bool) → List ℕ → Bool
 has_whole_lines after_cr [] = not after_cr
 has_whole_lines true (octet ∷ rest) = octet == 10 && has_whole_lines false rest
 has_whole_lines false (octet ∷ rest) = not (octet == 0) && (not (octet == 10) && has_whole_lines (octet == 13) rest)
 
--- a reason that may stand: it is UTF-8 of whole lines, none of them too long, and with `:mime` it is a MIME entity (RFC 5230, 4.4)
+-- a reason that is permitted: it is UTF-8 in whole lines, none of them too long, and with `:mime` it is a MIME entity (RFC 5230, 4.4)
 pub record IsReason (args : VacArgs) : Type 0 where
   pub utf8 : IsUtf8 args.reason
   pub whole : has_whole_lines false args.reason ≡ true

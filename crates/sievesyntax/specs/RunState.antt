@@ -12,7 +12,7 @@ use Rattle.sievesyntax.specs.declared.tree.vacation.VacArgs.{VacArgs}
 
 -- what a script has done so far: the mailboxes that the message goes into, each with the flags that the last command gives
 -- its copy, and the addresses that it is sent to, each in the order of the first command that says so; the flags that are
--- set, which a copy gets that has none of its own (RFC 5232, 3); the answer to the sender, if there is one; and whether the
+-- set, which a copy gets that isn't given its own (RFC 5232, 3); the answer to the sender, if there is one; and whether the
 -- implicit keep is cancelled (RFC 5228, 2.10.2)
 pub record RunState : Type 0 where
   pub filed : List Placement
@@ -33,13 +33,13 @@ pub data Failure : Type 0 where
   TooManyMailboxes : Failure
   TooMuchWork : Failure
 
--- how a run stands: it goes on, `stop` was run, or it failed
+-- the state of a run: it goes on, `stop` was run, or it failed
 pub data Flow : Type 0 where
   Going : RunState → Flow
   Stopped : RunState → Flow
   Failed : Failure → Flow
 
--- what comes next is run where the run goes on
+-- what comes next is run if the run goes on
 abbrev pub and_then : Flow → (RunState → Flow) → Flow
 and_then (Going so_far) next = next so_far
 and_then (Stopped so_far) next = Stopped so_far
@@ -49,11 +49,11 @@ and_then (Failed failure) next = Failed failure
 abbrev pub inbox : List ℕ
 inbox = codes "INBOX"
 
--- the mailbox that a name means: INBOX in any ASCII case is INBOX, others are compared by octets
+-- the mailbox that a name means: INBOX in any ASCII case is INBOX, other names are compared by octets
 abbrev pub mailbox_named : List ℕ → List ℕ
 mailbox_named name = cond (pointwise nat_eq (lowered name) (codes "inbox")) inbox name
 
--- into how many mailboxes a message goes at most, that of the implicit keep among them
+-- the most mailboxes that a message goes into, including that of the implicit keep
 abbrev pub max_mailboxes : ℕ
 max_mailboxes = 100
 
@@ -61,17 +61,17 @@ max_mailboxes = 100
 abbrev pub is_filed : List Placement → List ℕ → Bool
 is_filed filed mailbox = list_any (λ there. pointwise nat_eq there.mailbox mailbox) filed
 
--- whether a message may go into a mailbox: one more may be, or it goes there already
+-- whether a message may go into a mailbox: one more is allowed, or it goes there already
 abbrev pub has_room : List Placement → List ℕ → Bool
 has_room filed mailbox = nat_lt (length filed) max_mailboxes || is_filed filed mailbox
 
--- one copy more, behind the others; a message goes into a mailbox once (RFC 5228, 2.10.3), and so the last one's flags are
--- those of the copy that is there, where it stands (RFC 5232: the last flags win)
+-- one more copy, after the others; a message goes into a mailbox only once (RFC 5228, 2.10.3), so if a copy is there already, it
+-- keeps its place and gets the new one's flags (RFC 5232: the last flags win)
 abbrev pub with_filed : List Placement → Placement → List Placement
 with_filed [] new = new ∷ []
 with_filed (there ∷ more) new = cond (pointwise nat_eq there.mailbox new.mailbox) (new ∷ more) (there ∷ with_filed more new)
 
--- the text that names a copy's flags: those that its `:flags` names, or without one those that are set (RFC 5232, 5)
+-- the text that names a copy's flags: those that its `:flags` names, or without `:flags` those that are set (RFC 5232, 5)
 abbrev pub flags_given : Option (List (List ℕ)) → RunState → List ℕ
 flags_given None so_far = written so_far.flags
 flags_given (Some texts) so_far = written (added [] texts)
@@ -80,7 +80,7 @@ flags_given (Some texts) so_far = written (added [] texts)
 abbrev pub cancelled_after : (copy : Bool) → RunState → Bool
 cancelled_after copy so_far = cond copy so_far.cancelled true
 
--- filed into a mailbox, with these flags, and into no more than may be
+-- filed into a mailbox, with these flags, unless the message goes into too many
 abbrev pub filed_into : List ℕ → List ℕ → (copy : Bool) → RunState → Flow
 filed_into mailbox flags copy so_far =
     cond (has_room so_far.filed mailbox)
@@ -95,11 +95,11 @@ kept_implicitly so_far = cond so_far.cancelled (Going so_far) (filed_into inbox 
 abbrev pub same_target : Addr → Addr → Bool
 same_target a b = pointwise nat_eq a.local b.local && pointwise nat_eq a.domain b.domain
 
--- to how many addresses a run sends the message at most
+-- the most addresses to which a run sends the message
 abbrev pub max_targets : ℕ
 max_targets = 16
 
--- sent to an address: to the same one once, and to no more than may be
+-- sent to an address: to each only once, and not to too many
 abbrev pub sent_to : Addr → (copy : Bool) → RunState → Flow
 sent_to target copy so_far =
     cond (list_any (λ there. same_target there target) so_far.sent) (Going (record so_far { cancelled = cancelled_after copy so_far }))

@@ -1,4 +1,4 @@
--- The table of commands and tests without a block or a test in them: for each word, what its arguments say.
+-- The table of commands and tests without a block or a test in them: what the arguments of each word say.
 use Rattle.std.specs.Prelude.{◌≡◌, ℕ, ℤ, Bool, true, ◌||◌, List, [], ◌∷◌, Option, Some, None, codes}
 use Rattle.std.specs.List.{list_all, list_any}
 use Rattle.sievesyntax.specs.declared.table.keyword.Keyword.{Keyword}
@@ -57,11 +57,11 @@ pub record SaysAddress (tag_values : List TagValue) (positional : List Argument)
 abbrev pub IsAddress : List Argument → Address → Type 0
 IsAddress = IsCall (P.Comparator ∷ (P.Part ∷ (P.Matching ∷ []))) SaysAddress
 
--- the name of a part of the envelope, without ASCII case
+-- the name of a part of the envelope, ignoring ASCII case
 abbrev pub is_part : List ℕ → Bool
 is_part name = same_name name (codes "from") || same_name name (codes "to")
 
--- these names are `from` and `to` alone, and these are the parts of the envelope that they name (RFC 5228, 5.4)
+-- these names are only `from` and `to`, and these are the parts of the envelope that they name (RFC 5228, 5.4)
 pub record NamesParts (names : List (List ℕ)) (parts : EnvelopeParts) : Type 0 where
   pub each : list_all is_part names ≡ true
   pub from : parts.from ≡ list_any (λ name. same_name name (codes "from")) names
@@ -92,7 +92,7 @@ pub record SaysDate (tag_values : List TagValue) (positional : List Argument) (d
 abbrev pub IsDate : List Argument → DateTest → Type 0
 IsDate = IsCall (P.Zone ∷ (P.Comparator ∷ (P.Matching ∷ []))) SaysDate
 
--- the zone that the moment is looked at in, of which there is no original one
+-- the zone in which the moment is looked at; a moment has no original one
 abbrev pub without_original : DateZone → Option (Option ℤ)
 without_original Z.Host = Some None
 without_original (Z.Given zone) = Some (Some zone)
@@ -155,7 +155,7 @@ IsRedirect = IsCall (P.Copy ∷ []) SaysRedirect
 
 -- ---- the rows
 
--- a word with arguments that say this stands for a tree with it
+-- a word whose arguments say this value stands for the tree made of it
 pub record IsRow {X T : Type 0} (Is : List Argument → X → Type 0) (make : X → T) (args : List Argument) (tree : T) : Type 0 where
   pub value : X
   pub is : Is args value

@@ -24,7 +24,7 @@ comparator_in [] = C.AsciiCasemap
 comparator_in (S.Comparator collation ∷ _) = collation
 comparator_in (_ ∷ more) = comparator_in more
 
--- the way to match: `:is` unless another is given (RFC 5228, 2.7.1)
+-- the match type: `:is` unless another is given (RFC 5228, 2.7.1)
 abbrev pub matching_in : List TagValue → Matching
 matching_in [] = M.Is
 matching_in (S.Matching matching ∷ _) = matching
@@ -36,7 +36,7 @@ part_in [] = H.All
 part_in (S.Part part ∷ _) = part
 part_in (_ ∷ more) = part_in more
 
--- the days of a `vacation`, if they are given
+-- the days of `vacation`, if they are given
 abbrev pub days_in : List TagValue → Option ℕ
 days_in [] = None
 days_in (S.Days days ∷ _) = Some days
@@ -84,13 +84,13 @@ copy_in [] = false
 copy_in (S.Copy ∷ _) = true
 copy_in (_ ∷ more) = copy_in more
 
--- whether a mailbox that isn't there is to be made (RFC 5490, 3.2)
+-- whether a mailbox that doesn't exist is to be created (RFC 5490, 3.2)
 abbrev pub create_in : List TagValue → Bool
 create_in [] = false
 create_in (S.Create ∷ _) = true
 create_in (_ ∷ more) = create_in more
 
--- the zone that a date is looked at in: the host's unless another is given (RFC 5260, 4.1)
+-- the zone in which a date is looked at: the host's unless another is given (RFC 5260, 4.1)
 abbrev pub zone_in : List TagValue → DateZone
 zone_in [] = Z.Host
 zone_in (S.Zone zone ∷ _) = Z.Given zone

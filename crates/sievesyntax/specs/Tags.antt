@@ -36,7 +36,7 @@ relation_name R.LessOrEqual = codes "le"
 relation_name R.Equal = codes "eq"
 relation_name R.NotEqual = codes "ne"
 
--- how a way to match is written (RFC 5228, 2.7.1; RFC 5231, 4)
+-- how a match type is written (RFC 5228, 2.7.1; RFC 5231, 4)
 abbrev pub IsMatchType : Matching → List Argument → List Argument → Type 0
 IsMatchType M.Is from to = from ≡ A.Tag T.Is ∷ to
 IsMatchType M.Contains from to = from ≡ A.Tag T.Contains ∷ to
@@ -58,7 +58,7 @@ name_of C.Octet = codes "i;octet"
 name_of C.AsciiCasemap = codes "i;ascii-casemap"
 name_of C.AsciiNumeric = codes "i;ascii-numeric"
 
--- the strings of an argument: a string stands for the list of it alone (RFC 5228, 2.4.2.1)
+-- the strings of an argument: a string stands for the list that has only it (RFC 5228, 2.4.2.1)
 abbrev pub strings_of : Argument → Option (List (List ℕ))
 strings_of (A.Text string) = Some (string ∷ [])
 strings_of (A.Strings strings) = Some strings
@@ -83,7 +83,7 @@ IsTagValue (S.Zone zone) from to = (string : List ℕ) × ((from ≡ A.Tag T.Zon
 IsTagValue S.OriginalZone from to = from ≡ A.Tag T.OriginalZone ∷ to
 IsTagValue (S.Flags texts) from to = (value : Argument) × ((from ≡ A.Tag T.Flags ∷ (value ∷ to)) × (strings_of value ≡ Some texts))
 
--- the group of a tag: tags that exclude each other are one group
+-- the group of a tag: tags that exclude each other are in one group
 abbrev pub group_of : TagValue → TagGroup
 group_of (S.Bound _) = P.Bound
 group_of (S.Comparator _) = P.Comparator
@@ -102,16 +102,16 @@ group_of (S.Zone _) = P.Zone
 group_of S.OriginalZone = P.Zone
 group_of (S.Flags _) = P.Flags
 
--- no group stands twice
+-- no group occurs twice
 abbrev pub AreApart : List TagGroup → Type 0
 AreApart [] = Unit {0}
 AreApart (first ∷ more) = (Contains more first → ⊥) × AreApart more
 
--- a tag of one of these groups stands at the front
+-- a tag of one of these groups comes first
 abbrev pub IsAllowed : List TagGroup → TagValue → List Argument → List Argument → Type 0
 IsAllowed allowed tag_value from to = IsTagValue tag_value from to × Contains allowed (group_of tag_value)
 
--- no tag stands first
+-- no tag comes first
 abbrev pub IsPlain : List Argument → Type 0
 IsPlain [] = Unit {0}
 IsPlain (A.Tag _ ∷ _) = ⊥
@@ -135,6 +135,6 @@ abbrev pub IsSplitAlone : List TagGroup → List Argument → List TagValue → 
 IsSplitAlone allowed args tag_values positional =
     (others : List TagValue) (rest : List Argument) → IsSplit allowed args others rest → (others ≡ tag_values) × (rest ≡ positional)
 
--- no tag of an allowed group that isn't taken stands first
+-- no tag of an allowed group that isn't taken yet comes first
 abbrev pub HasNoTag : List TagGroup → List TagGroup → List Argument → Type 0
 HasNoTag allowed taken args = (s : TagValue) (to : List Argument) → IsAllowed allowed s args to → (Contains taken (group_of s) → ⊥) → ⊥

@@ -10,11 +10,11 @@ use Rattle.sievesyntax.specs.Arguments.{AreArguments}
 use Rattle.sievesyntax.specs.Table.{IsPlainTest}
 use Rattle.sievesyntax.specs.Tree.{TestTree, yes, no, looks, not_of, all_of, any_of, Tests, no_tests, test}
 
--- an identifier stands at the front, and this is so of it and of what is after it
+-- an identifier comes first, and this holds of it and of what follows it
 abbrev pub Headed : (Keyword → List Lexeme → Type 0) → List Lexeme → Type 0
 Headed P from = (name : Keyword) × ((after : List Lexeme) × ((from ≡ keyword name ∷ after) × P name after))
 
--- a mark stands at the front, and this is so of what is after it
+-- a mark comes first, and this holds of what follows it
 abbrev pub Marked : Mark → (List Lexeme → Type 0) → List Lexeme → Type 0
 Marked kind P from = (after : List Lexeme) × ((from ≡ mark kind ∷ after) × P after)
 
@@ -23,9 +23,9 @@ abbrev pub IsPlain : TestTree → Keyword → List Lexeme → List Lexeme → Ty
 IsPlain condition name after to = (args : List Argument) × (AreArguments args after to × IsPlainTest name args condition)
 
 -- test = identifier arguments [test / test-list], after its identifier; test-list = "(" test *("," test) ")".
--- That rule alone would take a test or a test list after the arguments of any test, and none after `not`. Which test
--- has which is said with each (RFC 5228, 5.2, 5.3, 5.8): `not` has one test and no arguments, `allof` and `anyof` have
--- a test list and no arguments, and every other test has arguments alone; so the rule is taken test by test
+-- That rule alone would accept a test or a test list after the arguments of any test, and `not` without a test. What each test
+-- has is said in its section (RFC 5228, 5.2, 5.3, 5.8): `not` has one test and no arguments, `allof` and `anyof` have
+-- a test list and no arguments, and every other test has only arguments; so the rule is taken test by test
 abbrev mutual
   pub IsTest : TestTree → Keyword → List Lexeme → List Lexeme → Type 0
   IsTest yes name after to = IsPlain yes name after to
@@ -46,6 +46,6 @@ abbrev mutual
   AreMoreTests (test first more) from to =
       Marked K.Comma (λ start. (middle : List Lexeme) × (Headed (λ name after. IsTest first name after middle) start × AreMoreTests more middle to)) from
 
--- a test at the front
+-- a test comes first
 abbrev pub ReadsTest : TestTree → List Lexeme → List Lexeme → Type 0
 ReadsTest condition from to = Headed (λ name after. IsTest condition name after to) from

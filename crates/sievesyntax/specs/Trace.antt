@@ -1,4 +1,4 @@
--- The actions that a script runs, in turn, and what they come to (RFC 5228, 2.10, 3).
+-- The actions that a script runs, in turn, and their outcome (RFC 5228, 2.10, 3).
 use Rattle.std.specs.Prelude.{◌≡◌, ◌≤◌, ℕ, Bool, true, false, cond, List, [], ◌∷◌, ◌++◌, length, map, nat_eq, All}
 use Rattle.std.specs.List.{IsDistinct}
 use Rattle.std.specs.Cmp.Lexicographic.{pointwise}
@@ -16,7 +16,7 @@ use Rattle.sievesyntax.specs.Tree.{CommandTree, require, choose, stop, act, Bran
 abbrev pub Trace : Type 0
 Trace = List Action × Bool
 
--- actions in turn, up to one that fails, where this says what one does
+-- actions in turn, up to one that fails, given what each does
 abbrev pub in_turn_by : (Action → RunState → Flow) → List Action → RunState → Flow
 in_turn_by performs [] state = Going state
 in_turn_by performs (action ∷ more) state = and_then (performs action state) (in_turn_by performs more)
@@ -30,13 +30,13 @@ abbrev pub then_runs : Trace → Trace → Trace
 then_runs (actions, true) next = (actions, true)
 then_runs (actions, false) next = (actions ++ next.0, next.1)
 
--- what is run at the state that a run has come to: nothing after a failure
+-- what is run in the state of a run: nothing after a `stop` or a failure
 abbrev pub runs_at : Flow → (RunState → Trace) → Trace
 runs_at (Going so_far) next = next so_far
 runs_at (Stopped so_far) next = ([], true)
 runs_at (Failed failure) next = ([], false)
 
--- what commands run from a state on, where the tests have this truth, and this says what an action does
+-- what commands run from a state on, given the truth of the tests and what an action does
 abbrev mutual
   pub runs_by : (Action → RunState → Flow) → (RunState → Check → Bool) → CommandTree → RunState → Trace
   runs_by performs truth (require names) so_far = ([], false)
@@ -50,13 +50,13 @@ abbrev mutual
   runs_branch_by performs truth (branch condition block more) so_far =
       cond (holds (truth so_far) condition) (runs_all_by performs truth block so_far) (runs_branch_by performs truth more so_far)
 
-  -- what comes after begins with what the actions before make of the state
+  -- what follows begins in the state that the actions before lead to
   pub runs_all_by : (Action → RunState → Flow) → (RunState → Check → Bool) → Commands → RunState → Trace
   runs_all_by performs truth no_commands so_far = ([], false)
   runs_all_by performs truth (command first more) so_far =
       then_runs (runs_by performs truth first so_far) (runs_at (in_turn_by performs (runs_by performs truth first so_far).0 so_far) (runs_all_by performs truth more))
 
--- the actions that a script runs, in turn, where this says what one does
+-- the actions that a script runs, in turn, given what each does
 abbrev pub actions_run_by : (Action → RunState → Flow) → (RunState → Check → Bool) → Commands → List Action
 actions_run_by performs truth commands = (runs_all_by performs truth commands at_first).0
 
@@ -72,12 +72,12 @@ KeepsImplicitly (AddFlag texts) = Unit {0}
 KeepsImplicitly (RemoveFlag texts) = Unit {0}
 KeepsImplicitly _ = ⊥
 
--- this is so of what is done, where the script didn't fail
+-- this holds of what is done, if the script didn't fail
 abbrev pub OnDone : (Actions → Type 0) → Outcome → Type 0
 OnDone P (M.Done actions) = P actions
 OnDone P (M.Failed failure) = Unit {0}
 
--- each mailbox and each address stands once, and there are no more than there may be
+-- each mailbox and each address occurs once, and there aren't too many
 pub record NamesWithoutRepeats (actions : Actions) : Type 0 where
   pub mailboxes : IsDistinct (pointwise nat_eq) (map (λ (one : Placement). one.mailbox) actions.filed)
   pub addresses : IsDistinct same_target actions.sent
@@ -97,6 +97,6 @@ pub record FilesWithoutFlags (actions : Actions) : Type 0 where
 abbrev pub NamesFlags : Placement → Type 0
 NamesFlags one = (flags : List (List ℕ)) × AreFlags flags × (one.flags ≡ written flags)
 
--- so does the text of each copy
+-- the text of each copy names flags
 pub record FilesWithFlags (actions : Actions) : Type 0 where
   pub named : All NamesFlags actions.filed

@@ -3,7 +3,7 @@ use Rattle.std.specs.Prelude.{ℕ, suc, max, List}
 use Rattle.sievesyntax.specs.declared.tree.action.Action.{Action}
 use Rattle.sievesyntax.specs.declared.tree.checks.Check.{Check}
 
--- a test (RFC 5228, 5), and tests in a row
+-- a test (RFC 5228, 5), and lists of tests
 mutual
   pub data TestTree : Type 0 where
     yes : TestTree
@@ -33,7 +33,7 @@ mutual
     no_commands : Commands
     command : CommandTree → Commands → Commands
 
--- how deep blocks stand in blocks: an outermost one stands at depth 1
+-- how deep blocks are nested: an outermost one is at depth 1
 abbrev mutual
   pub depth_of : CommandTree → ℕ
   depth_of (require names) = 0

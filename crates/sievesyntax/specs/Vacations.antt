@@ -21,12 +21,12 @@ IsNamedAs text display address = IsUtf8 text × IsOutbound text display address
 abbrev pub Names : List ℕ → Addr → Type 0
 Names text address = (display : List ℕ) × IsNamedAs text display address
 
--- the value of `:from`: an address, with its display and as it was written
+-- the value of `:from`: an address, with its display name, and the text as it was written
 pub record IsReplyFrom (text : List ℕ) (from : ReplyFrom) : Type 0 where
   pub written : from.text ≡ text
   pub names : IsNamedAs text from.display from.address
 
--- the same where a text may be given or not
+-- the same if a text is given; otherwise none
 abbrev pub IsGivenFrom : Option (List ℕ) → Option ReplyFrom → Type 0
 IsGivenFrom None None = Unit {0}
 IsGivenFrom None (Some from) = ⊥

@@ -1,4 +1,4 @@
--- What a tree may be besides what the grammar asks.
+-- What a valid tree has to be besides what the grammar demands.
 use Rattle.std.specs.Prelude.{◌≡◌, ◌≢◌, ◌≤◌, ◌||◌, ℕ, Bool, true, false, not, is_some, List, [], ◌++◌, codes, length, All, nat_eq}
 use Rattle.std.specs.List.{list_any}
 use Rattle.std.specs.Str.{IsUtf8}
@@ -65,7 +65,7 @@ granted_by names = record {
   flags = list_any (is_named (codes "imap4flags")) names;
 }
 
--- `vacation` may be used: `vacation-seconds` stands for it too (RFC 6131, 2)
+-- `vacation` may be used: `vacation-seconds` implies it (RFC 6131, 2)
 abbrev pub may_answer : Capabilities → Bool
 may_answer granted = granted.vacation || granted.seconds
 
@@ -79,11 +79,11 @@ is_subaddress User = true
 is_subaddress Detail = true
 is_subaddress _ = false
 
--- a part of an address that may be named where this is granted
+-- a part of an address that may be named if this is granted
 abbrev pub MayPart : Capabilities → AddressPart → Type 0
 MayPart granted part = Permits granted.subaddress (is_subaddress part)
 
--- a way to match that only `relational` names (RFC 5231)
+-- a match type that only `relational` has (RFC 5231)
 abbrev pub is_relational : Matching → Bool
 is_relational (Value _) = true
 is_relational (Count _) = true
@@ -94,19 +94,19 @@ abbrev pub is_numeric : Collation → Bool
 is_numeric AsciiNumeric = true
 is_numeric _ = false
 
--- a way to match that looks for a part of the value
+-- a match type that looks for a part of the value
 abbrev pub seeks_part : Matching → Bool
 seeks_part Contains = true
 seeks_part Matches = true
 seeks_part _ = false
 
--- how values may be matched where this is granted: a number has no parts (RFC 4790, 9.1)
+-- how values may be matched if this is granted: a number has no parts (RFC 4790, 9.1)
 abbrev pub MayMatch : Capabilities → Collation → Matching → Type 0
 MayMatch granted comparator matching =
     Permits granted.relational (is_relational matching) × Permits granted.numeric (is_numeric comparator)
     × Permits (not (is_numeric comparator)) (seeks_part matching)
 
--- an action that may stand where this is granted
+-- an action that is permitted if this is granted
 abbrev pub MayAct : Capabilities → Action → Type 0
 MayAct granted (Keep given) = Permits granted.flags (is_some given)
 MayAct granted Discard = Unit {0}
@@ -119,7 +119,7 @@ MayAct granted (SetFlag texts) = granted.flags ≡ true
 MayAct granted (AddFlag texts) = granted.flags ≡ true
 MayAct granted (RemoveFlag texts) = granted.flags ≡ true
 
--- a test of the message, or of the flags that are set, that may stand where this is granted
+-- a test of the message, or of the flags that are set, that is permitted if this is granted
 abbrev pub MayCheck : Capabilities → Check → Type 0
 MayCheck granted (Size size) = Unit {0}
 MayCheck granted (Exists fields) = Unit {0}
@@ -132,7 +132,7 @@ MayCheck granted (Date date) = (granted.date ≡ true) × MayMatch granted date.
 MayCheck granted (CurrentDate current) = (granted.date ≡ true) × MayMatch granted current.comparator current.matching
 MayCheck granted (HasFlag flag) = (granted.flags ≡ true) × MayMatch granted flag.comparator flag.matching
 
--- a test that may stand where this is granted
+-- a test that is permitted if this is granted
 abbrev mutual
   pub MayTest : Capabilities → TestTree → Type 0
   MayTest granted yes = Unit {0}
@@ -153,16 +153,16 @@ max_lists = 32
 abbrev pub max_nots : ℕ
 max_nots = 32
 
--- how deep blocks may stand in blocks at most
+-- how deep blocks may be nested at most
 abbrev pub max_blocks : ℕ
 max_blocks = 32
 
--- a test that may stand in a branch: besides, at most that many test lists and, counted apart, that many `not`s
+-- a test that is permitted in a branch: besides, at most that many test lists and, counted separately, that many `not`s
 -- enclose any test within it
 abbrev pub MayAsk : Capabilities → ℕ → ℕ → TestTree → Type 0
 MayAsk granted lists nots condition = MayTest granted condition × ((list_depth condition ≤ lists) × (not_depth condition ≤ nots))
 
--- commands that may stand after the last `require`, where this is granted
+-- commands that are permitted after the last `require`, if this is granted
 abbrev mutual
   pub MayStand : Capabilities → CommandTree → Type 0
   MayStand granted (require names) = ⊥
@@ -178,21 +178,21 @@ abbrev mutual
   MayAllStand granted no_commands = Unit {0}
   MayAllStand granted (command first more) = MayStand granted first × MayAllStand granted more
 
--- the names that the requires at the front give, in turn
+-- the names in the requires that come first, in turn
 abbrev pub required : Commands → List (List ℕ)
 required no_commands = []
 required (command (require names) more) = names ++ required more
 required (command _ more) = []
 
--- the commands after the requires at the front
+-- the commands after the requires that come first
 abbrev pub after_requires : Commands → Commands
 after_requires no_commands = no_commands
 after_requires (command (require names) more) = after_requires more
 after_requires (command first more) = command first more
 
--- a valid script, where `require` knows these names: `require` stands before every other command and names what is
--- known, an extension is used where it is required alone, blocks stand no deeper than they may, and no more test lists
--- and, counted apart, `not`s enclose a test than may
+-- a valid script, given the names that `require` knows: `require` precedes every other command and names only what is
+-- known, an extension is used only if it is required, blocks are nested no deeper than they may be, and no more test lists
+-- and, counted separately, `not`s enclose a test than may
 pub record IsValidIn (knows : List ℕ → Bool) (commands : Commands) : Type 0 where
   pub known : All (λ name. knows name ≡ true) (required commands)
   pub stand : MayAllStand (granted_by (required commands)) (after_requires commands)

@@ -8,12 +8,12 @@ use Rattle.sievesyntax.specs.declared.tree.command.Command.TheOpen.{Command-F, B
 use Rattle.sievesyntax.specs.declared.script.Script.{Script}
 use Rattle.sievesyntax.specs.Tree.{TestTree, yes, no, looks, not_of, all_of, any_of, Tests, no_tests, test, CommandTree, require, choose, stop, act, Branches, no_branches, branch, Commands, no_commands, command}
 
--- tests in a row
+-- a list of tests
 abbrev pub tests_of : List TestTree → Tests
 tests_of [] = no_tests
 tests_of (first ∷ more) = test first (tests_of more)
 
--- one level, with each test inside already seen as its tree
+-- one level, with each test inside already as its tree
 abbrev pub test_step : Test-F TestTree → TestTree
 test_step Test-F.True = yes
 test_step Test-F.False = no
@@ -26,21 +26,21 @@ test_step (Test-F.AnyOf inner) = any_of (tests_of inner.items)
 abbrev pub test_view : Test → TestTree
 test_view = fold-Test TestTree test_step
 
--- the tree of tests in a row
+-- the tree of a list of tests
 abbrev pub tests_view : List Test → Tests
 tests_view row = tests_of (map test_view row)
 
--- commands in a row
+-- a list of commands
 abbrev pub commands_of : List CommandTree → Commands
 commands_of [] = no_commands
 commands_of (first ∷ more) = command first (commands_of more)
 
--- branches in a row
+-- a list of branches
 abbrev pub branches_of : List (TestTree × Commands) → Branches
 branches_of [] = no_branches
 branches_of (first ∷ more) = branch first.0 first.1 (branches_of more)
 
--- one level, with each command inside already seen as its tree
+-- one level, with each command inside already as its tree
 abbrev pub command_step : Command-F CommandTree (TestTree × Commands) → CommandTree
 command_step (Command-F.Require names) = require names
 command_step (Command-F.If branches) = choose (branches_of branches.items)
@@ -58,11 +58,11 @@ command_view = fold-Command CommandTree (TestTree × Commands) command_step bran
 abbrev pub branch_view : Branch → TestTree × Commands
 branch_view = fold-Branch CommandTree (TestTree × Commands) command_step branch_step
 
--- the tree of commands in a row
+-- the tree of a list of commands
 abbrev pub commands_view : List Command → Commands
 commands_view row = commands_of (map command_view row)
 
--- the tree of branches in a row
+-- the tree of a list of branches
 abbrev pub branches_view : List Branch → Branches
 branches_view row = branches_of (map branch_view row)
 

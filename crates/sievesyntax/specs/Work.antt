@@ -1,5 +1,5 @@
--- What a run takes: the work of the tests that it asks, over any truth and any work of the tests that look at the message and at what
--- was done so far (RFC 5228, 5).
+-- The work of a run: that of the tests that it evaluates, for any truth and any work of the tests that look at the message and at what
+-- has been done so far (RFC 5228, 5).
 use Rattle.std.specs.Prelude.{ℕ, ◌+◌, Bool, cond, nat_lt}
 use Rattle.sievesyntax.specs.declared.tree.checks.Check.{Check}
 use Rattle.sievesyntax.specs.Meaning.{holds, does, Outcome, Failed, outcome}
@@ -7,8 +7,8 @@ use Rattle.sievesyntax.specs.RunState.{RunState, at_first, TooMuchWork, Flow, Go
 use Rattle.sievesyntax.specs.RunState as F
 use Rattle.sievesyntax.specs.Tree.{TestTree, yes, no, looks, not_of, all_of, any_of, Tests, no_tests, test, CommandTree, require, choose, stop, act, Branches, no_branches, branch, Commands, no_commands, command}
 
--- the work of a test: of the tests within it that are asked. Behind one that doesn't hold `allof` asks no more, and `anyof` behind one
--- that holds (RFC 5228, 5.2 and 5.3); `not` asks as it would be asked without
+-- the work of a test: that of the tests within it that are evaluated. After one that doesn't hold `allof` evaluates no more, and
+-- `anyof` after one that holds (RFC 5228, 5.2 and 5.3); `not` takes the work of its test
 abbrev mutual
   pub asked : (Check → Bool) → (Check → ℕ) → TestTree → ℕ
   asked truth work yes = 0
@@ -26,13 +26,13 @@ abbrev mutual
   some_asked truth work no_tests = 0
   some_asked truth work (test first more) = asked truth work first + cond (holds truth first) 0 (some_asked truth work more)
 
--- what comes next takes, where the run goes on
+-- the work of what comes next, if the run goes on
 abbrev pub then_takes : Flow → (RunState → ℕ) → ℕ
 then_takes (Going so_far) next = next so_far
 then_takes (Stopped so_far) next = 0
 then_takes (F.Failed failure) next = 0
 
--- the work of commands in turn (RFC 5228, 3): of each test that is asked, at what was done by then
+-- the work of commands in turn (RFC 5228, 3): that of each test that is evaluated, given what has been done by then
 abbrev mutual
   pub takes : (RunState → Check → Bool) → (RunState → Check → ℕ) → CommandTree → RunState → ℕ
   takes truth work (require names) so_far = 0
@@ -54,10 +54,10 @@ abbrev mutual
 abbrev pub max_work : ℕ
 max_work = 200_000_000
 
--- a run that takes more fails, whatever it would come to (RFC 5228, 2.10.6)
+-- a run that takes more fails, whatever its outcome would be (RFC 5228, 2.10.6)
 abbrev pub within_work : ℕ → Outcome → Outcome
 within_work work result = cond (nat_lt max_work work) (Failed TooMuchWork) result
 
--- the outcome of a script within that
+-- the outcome of a script within that limit
 abbrev pub outcome_within : (RunState → Check → Bool) → (RunState → Check → ℕ) → Commands → Outcome
 outcome_within truth work commands = within_work (all_take truth work commands at_first) (outcome truth commands)
