@@ -29,7 +29,7 @@ use Rattle.deliverplan.specs.Views.{last_reply}
 
 -- ---- what becomes of a message
 
--- what the script does is carried out; or the message goes into INBOX, and the user is left a notice with this text
+-- the script's actions are carried out; or the message goes into INBOX, and the user is left a notice with this text
 pub data Disposition : Type 0 where
   Acts : Actions → Disposition
   Tells : List ℕ → Disposition
@@ -49,11 +49,11 @@ loop_text = codes "more than 100 Received fields"
 abbrev pub long_text : List ℕ
 long_text = codes "header larger than 1 MiB"
 
--- the notice on an active text that means no tree
+-- the notice on an active text that doesn't mean a tree
 abbrev pub invalid_text : List ℕ
 invalid_text = codes "script is not valid"
 
--- a field that each host adds which passes the message on, case ignored (RFC 5321, 4.4)
+-- a field that each host adds which passes the message on, ignoring case (RFC 5321, 4.4)
 abbrev pub is_received : FieldText → Bool
 is_received field = same_text (codes "received") field.name
 
@@ -61,11 +61,11 @@ is_received field = same_text (codes "received") field.name
 abbrev pub is_looping : MailSpec → Bool
 is_looping mail = nat_lt 100 (count_by is_received mail.fields)
 
--- the most octets of a header whose fields are read, with the empty line that ends it: 1 MiB
+-- the most octets of a header whose fields are read, including the empty line that ends it: 1 MiB
 abbrev pub max_header : ℕ
 max_header = 1048576
 
--- whether a message's header has more; where no line is empty all of the message is its header (RFC 5322, 2.1)
+-- whether a message's header has more; if no line is empty, the whole message is its header (RFC 5322, 2.1)
 abbrev pub has_long_header : List ℕ → Bool
 has_long_header message = nat_lt max_header (body_start message)
 
@@ -81,23 +81,23 @@ unflagged mailbox = record { mailbox = mailbox; flags = [] }
 abbrev pub kept : Actions
 kept = record { filed = unflagged inbox ∷ []; sent = []; reply = None }
 
--- under the text of a script: what its tree comes to, where it means one
+-- given the text of a script: the outcome of its tree, if it means one
 abbrev pub DisposesBy : List ℕ → MailSpec → Disposition → Type 0
 DisposesBy text mail disposition =
     ((tree : Commands) × Means text tree × (disposition ≡ disposition_of (outcome_at mail tree)))
     ⊎ (((tree : Commands) → Means text tree → ⊥) × (disposition ≡ Tells invalid_text))
 
--- under the text of the active script, if there is one
+-- given the text of the active script, if there is one
 abbrev pub DisposesUnder : Option (List ℕ) → MailSpec → Disposition → Type 0
 DisposesUnder None mail disposition = disposition ≡ Acts kept
 DisposesUnder (Some text) mail disposition = DisposesBy text mail disposition
 
--- a message that may go round in a loop runs no script
+-- no script is run on a message that may go round in a loop
 abbrev pub DisposesIf : Bool → Option (List ℕ) → MailSpec → Disposition → Type 0
 DisposesIf true text mail disposition = disposition ≡ Tells loop_text
 DisposesIf false text mail disposition = DisposesUnder text mail disposition
 
--- nor does one with a long header, of which no field is looked at
+-- nor on one with a long header, none of whose fields is looked at
 abbrev pub DisposesBehind : Bool → Option (List ℕ) → MailSpec → Disposition → Type 0
 DisposesBehind true text mail disposition = disposition ≡ Tells long_text
 DisposesBehind false text mail disposition = DisposesIf (is_looping mail) text mail disposition
@@ -107,20 +107,20 @@ Disposes text mail disposition = DisposesBehind (has_long_header mail.octets) te
 
 -- ---- the response to the sender
 
--- no `vacation` was executed; a reason stands against a response; or a response with these octets is sent, known by this key, and
+-- no `vacation` was executed; there is a reason against a response; or a response with these octets is sent, identified by this key, and
 -- this moment is kept
 pub data Response : Type 0 where
   Silent : Response
   Quiet : Reason → Response
   Sent : (key octets : List ℕ) → (kept : ℕ) → Response
 
--- what is answered where the decision on a response is made; last is the moment that is kept under its key
+-- what is answered, given the decision on a response; last is the moment that is kept under its key
 abbrev pub Follows : Addr → ℕ → MailSpec → VacArgs → Option ℕ → Decision → Response → Type 0
 Follows own moment mail args last D.Send response =
     (reply : List ℕ) × (IsReply args mail own moment reply × (response ≡ Sent (key_of (handle_of args)) reply (latest last moment)))
 Follows own moment mail args last (D.Quiet reason) response = response ≡ Quiet reason
 
--- what the sender is answered by the user with this address at this moment; last gives the moment that is kept under a key
+-- what the user with this address answers the sender at this moment; last gives the moment that is kept under a key
 abbrev pub Responds : Addr → ℕ → MailSpec → (List ℕ → Option ℕ) → Option VacArgs → Response → Type 0
 Responds own moment mail last None response = response ≡ Silent
 Responds own moment mail last (Some args) response =
@@ -132,7 +132,7 @@ Responds own moment mail last (Some args) response =
 abbrev pub redirects : MailSpec → List Addr → Account → Account
 redirects mail targets a = fold (λ b target. queues kind.Redirect mail.from (spelling target) mail.octets b) a targets
 
--- a copy of the message joins the end of each folder, with its flags, and then the message is queued
+-- a copy of the message is appended to each folder, with its flags, and then the message is queued
 abbrev pub acts : MailSpec → Actions → Account → Account
 acts mail deeds a = redirects mail deeds.sent (files_copies deeds.filed mail.octets a)
 
@@ -157,14 +157,14 @@ notice_report text = record { filed = inbox ∷ []; sent = []; vacation = V.None
 
 -- ---- a delivery
 
--- the deeds are carried out, and the sender is answered
+-- the actions are carried out, and the sender is answered
 pub record CarriesOut (own : Addr) (moment : ℕ) (mail : MailSpec) (deeds : Actions) (a : Account) (report : Report) (a2 : Account) : Type 0 where
   pub response : Response
   pub is_response : Responds own moment mail (last_reply a mail.from) deeds.reply response
   pub reported : report ≡ report_of deeds response
   pub changed : a2 ≡ responds mail response (acts mail deeds a)
 
--- the message joins INBOX, and a notice the others; nothing is sent
+-- the message is filed into INBOX, and a notice is added to the others; nothing is sent
 pub record LeavesNotice (moment : ℕ) (mail : MailSpec) (text : List ℕ) (a : Account) (report : Report) (a2 : Account) : Type 0 where
   pub reported : report ≡ notice_report text
   pub changed : a2 ≡ notes moment text (files_copies (unflagged inbox ∷ []) mail.octets a)
@@ -173,7 +173,7 @@ abbrev pub DeliversAs : Addr → ℕ → MailSpec → Disposition → Account �
 DeliversAs own moment mail (Acts deeds) a report a2 = CarriesOut own moment mail deeds a report a2
 DeliversAs own moment mail (Tells text) a report a2 = LeavesNotice moment mail text a report a2
 
--- a mail is delivered at its moment to an account with this address, under the text of its active script, if one is active:
+-- a mail is delivered at its moment to an account with this address, given the text of its active script, if one is active:
 -- what it reports, and the account afterwards
 pub record Delivers (own : Addr) (mail : MailSpec) (text : Option (List ℕ)) (a : Account) (report : Report) (a2 : Account) : Type 0 where
   pub disposition : Disposition

@@ -1,4 +1,4 @@
--- Plans of deliveries, by what they are to do.
+-- Plans of deliveries: what they are to do.
 use Rattle.std.specs.Prelude.{◌≡◌, ℕ, List, [], ◌∷◌, Option, None, Some}
 use Rattle.addrparts.specs.declared.address.Addr.{Addr}
 use Rattle.sievesyntax.specs.RunState.{inbox}
@@ -37,7 +37,7 @@ pub record SendsReply (own : Addr) (moment : ℕ) (mail : MailSpec) (args : VacA
 abbrev pub unsent_plan : VacationReport → VacationPlan
 unsent_plan vacation = record { vacation = vacation; reply = None }
 
--- a plan that carries out deeds and a response to the sender
+-- a plan that carries out actions and responds to the sender
 pub record IsActingPlan (own : Addr) (moment : ℕ) (mail : MailSpec) (last : List ℕ → Option ℕ) (deeds : Actions) (plan : Plan) : Type 0 where
   pub response : Response
   pub is_response : Responds own moment mail last deeds.reply response

@@ -1,4 +1,4 @@
--- What a delivery has to know of the account, beside the text of its active script.
+-- What a delivery has to know of the account, besides the text of its active script.
 use Rattle.std.specs.Prelude.{◌≡◌, ℕ, cond, nat_eq, List, [], ◌∷◌, Option, None, Some}
 use Rattle.std.specs.FinMap.{get}
 use Rattle.std.specs.Cmp.Lexicographic.{pointwise}
@@ -8,7 +8,7 @@ use Rattle.mailstore.specs.Account.{Account}
 use Rattle.mailstore.specs.declared.reply.KeptReply.{KeptReply}
 use Rattle.deliverplan.specs.declared.view.View.{View}
 
--- the moment that an account keeps of a response to a sender, if one is kept; case ignored in the sender
+-- the moment that an account keeps of a response to a sender, if one is kept; ignoring the sender's case
 abbrev pub last_reply : Account → List ℕ → List ℕ → Option ℕ
 last_reply a sender key = get a.replies (key, lowered sender)
 

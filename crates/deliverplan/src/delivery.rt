@@ -25,12 +25,12 @@ use sievesyntax::VacArgs;
 use std::alloc::{AllocError, Global};
 use vacreply::MAX_MOMENT;
 
-/// What a delivery of a mail is to write and to report, under the text of the account's active script, if one is active.
+/// Returns what a delivery of a mail is to write and to report, given the text of the account's active script, if one is active.
 ///
-/// The mail's moment is at most [`MAX_MOMENT`], and its header isn't long (`has_long_header`). The text is checked, compiled and run once; the
-/// fields are looked through once more for Received, and where a `vacation` was executed for the reasons to send no
+/// The mail's moment is at most [`MAX_MOMENT`], and its header isn't long (`has_long_header`). The text is checked, compiled and run
+/// once; the fields are searched once more for Received, and if a `vacation` was executed, for the reasons to send no
 /// response. The message and the sender are borrowed: no copy of the message is made. Lack of memory is the only error;
-/// a `:subject` or `:from` of 2^32 octets and more, which no script within the limits has, is answered so too.
+/// a `:subject` or `:from` of 2^32 octets or more, which no script within the limits has, also counts as lack of memory.
 pub fn plan<'m>(
     alloc: Global,
     view: &View,
@@ -64,10 +64,10 @@ pub fn plan<'m>(
     }
 }
 
-/// What a delivery of a message with a long header is to write and to report, whatever account and script there are: no field of
-/// it is read.
+/// Returns what a delivery of a message with a long header is to write and to report, whatever the account and the script are: none
+/// of its fields is read.
 ///
-/// Takes no memory but that of the notice and of INBOX's name. Lack of memory is the only error.
+/// Takes only the memory of the notice and of INBOX's name. Lack of memory is the only error.
 pub fn plan_unread<'m>(
     alloc: Global,
     message: &'m [u8],
@@ -87,14 +87,14 @@ pub fn plan_unread<'m>(
     )
 }
 
-/// The mail's message joins INBOX, and the user is left a notice.
+/// Files the mail's message into INBOX and leaves the user a notice.
 fn leave_notice<'m>(alloc: Global, mail: &'m Mail<'_>, text: &[u8]) -> Result<Plan<'m>, AllocError>
     ensures { IfOk result (IsNoticePlan mail.now.moment mail.now.octets text.now) }
 {
     tell(alloc, mail.message(), mail.from(), mail.moment(), text)
 }
 
-/// The message joins INBOX, and the user is left a notice.
+/// Files the message into INBOX and leaves the user a notice.
 fn tell<'m>(
     alloc: Global,
     message: &'m [u8],
@@ -122,7 +122,7 @@ fn tell<'m>(
     })
 }
 
-/// Copies of the message join these mailboxes, each with its flags, it is sent to these addresses, and the sender is answered.
+/// Files copies of the message into these mailboxes, each with its flags, sends it to these addresses, and answers the sender.
 fn act<'m>(
     alloc: Global,
     view: &View,

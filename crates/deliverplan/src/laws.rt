@@ -6,7 +6,7 @@ ghost use Rattle.mailstore.specs.Account.{Account};
 ghost use Rattle.mailstore.specs.declared.report.Report.{Report};
 ghost use Rattle.deliverplan.specs.Delivered.{Delivers};
 
-/// A delivery has one report, and the account is one afterwards.
+/// A delivery has exactly one report, and the account afterwards is determined.
 pub fn delivery_of_a_mail()
     ensures { (own : Addr) (mail : MailSpec) (text : Option (List ℕ)) (a : Account) (one two : Report) (after other : Account)
         → Delivers own mail text a one after → Delivers own mail text a two other → (one ≡ two) × (after ≡ other) }

@@ -4,15 +4,15 @@ ghost use Rattle.deliverplan.specs.Delivered as delivered;
 
 use mailfronts::is_header_longer;
 
-/// The most octets of a header whose fields are read, with the empty line that ends it: 1 MiB.
+/// The most octets of a header whose fields are read, including the empty line that ends it: 1 MiB.
 ///
-/// All fields are read before a script runs, and one of three octets takes some 70 octets of memory.
+/// All fields are read before a script runs, and a field of three octets takes some 70 octets of memory.
 const MAX_HEADER: usize = 1_048_576;
 
-/// Whether a message's header has more than [`MAX_HEADER`] octets, with the empty line that ends it; where no line is empty all of
-/// the message is its header.
+/// Whether a message's header has more than [`MAX_HEADER`] octets, including the empty line that ends it; if no line is empty, the
+/// whole message is its header.
 ///
-/// One pass up to that line, and over no more than [`MAX_HEADER`] octets; takes no memory.
+/// One pass up to that line, and over at most [`MAX_HEADER`] octets; takes no memory.
 pub fn has_long_header(message: &[u8]) -> bool
     ensures { result ≡ delivered.has_long_header message.now }
 {

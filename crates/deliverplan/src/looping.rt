@@ -6,8 +6,8 @@ ghost use Rattle.deliverplan.specs.Delivered as delivered;
 use mailhead::Field;
 use sieveexec::Mail;
 
-/// How many Received fields a message has at most that a script is run on: each host that it passes adds one, and a
-/// count of 100 tells a loop (RFC 5321, 6.3).
+/// The most Received fields of a message on which a script is run: each host that the message passes adds one, and more than
+/// 100 indicate a loop (RFC 5321, 6.3).
 const MAX_RECEIVED: usize = 100;
 
 /// Whether a message has more than [`MAX_RECEIVED`] Received fields.

@@ -1,4 +1,4 @@
-//! What the user is told of a message that the script doesn't decide on.
+//! The notice for the user on a message that the script doesn't decide on.
 ghost use Rattle.std.specs.Prelude.{◌≡◌};
 ghost use Rattle.sieveexec.specs.Runs.{failure_view};
 ghost use Rattle.deliverplan.specs.Delivered.{failure_text};
@@ -11,7 +11,7 @@ pub(crate) const LOOP_TEXT: &[u8] = b"more than 100 Received fields";
 /// The notice on a message with a long header.
 pub(crate) const LONG_TEXT: &[u8] = b"header larger than 1 MiB";
 
-/// The notice on an active text that is no valid script.
+/// The notice on an active text that isn't a valid script.
 pub(crate) const INVALID_TEXT: &[u8] = b"script is not valid";
 
 /// The notice on a run that failed (RFC 5228, 2.10.6): `more than 16 redirects`. Takes no memory.

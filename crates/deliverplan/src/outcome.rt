@@ -13,15 +13,15 @@ use sievelex::ScriptError;
 use sievesyntax::check;
 use std::alloc::Global;
 
-/// What a script comes to on a mail (RFC 5228, 2.10), or why it is no valid script.
+/// Returns the outcome of a script on a mail (RFC 5228, 2.10), or why it isn't a valid script.
 ///
-/// Nothing is filed, sent or answered: the outcome says what would be. The script is compiled in time linear in it, and
-/// each of its tests is asked once at most; the values of a field are decoded once, where a test asks for them. Memory is
-/// in proportion to the script and to the values that tests ask for.
+/// Nothing is filed, sent or answered: the outcome says what is to be done. The script is compiled in time linear in its length, and
+/// each of its tests is evaluated at most once; the values of a field are decoded once, if a test asks for them. Memory is
+/// proportional to the script and to the values that tests ask for.
 ///
 /// # Errors
 ///
-/// [`ScriptError::Fault`] where the text is no valid script, and [`ScriptError::Memory`] where memory was refused.
+/// [`ScriptError::Fault`] if the text isn't a valid script, and [`ScriptError::Memory`] if an allocation failed.
 pub fn outcome_on(alloc: Global, script: &[u8], mail: &Mail<'_>) -> Result<Outcome, ScriptError>
     ensures valid { IfOk result (λ done. (tree : Commands) × Means script.now tree) }
     ensures done { IfOk result (λ done. (tree : Commands) → Means script.now tree → outcome_view done ≡ outcome_at mail.now tree) }

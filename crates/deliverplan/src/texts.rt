@@ -10,7 +10,7 @@ use octets::{List, Octets, Texts};
 use sieveexec::INBOX;
 use std::alloc::{AllocError, Global};
 
-/// INBOX alone, without flags.
+/// Only INBOX, without flags.
 pub(crate) fn inbox(alloc: Global) -> Result<List<Placement>, AllocError>
     ensures { IfOk result (λ filed. filed ≡ unflagged inbox_of ∷ []) }
 {

@@ -21,10 +21,10 @@ pub struct VacationPlan {
     pub reply: Option<VacationReply>,
 }
 
-/// What is done about the `vacation` that was executed, if one was.
+/// Returns what is to be done about the `vacation` that was executed, if one was.
 ///
-/// The recipients of the mail are read where one was. A subject or `:from` of 2^32 octets and more, which no script within
-/// the limits has, is refused as lack of memory.
+/// If one was, the recipients of the mail are read. A subject or `:from` of 2^32 octets or more, which no script within
+/// the limits has, counts as lack of memory.
 pub(crate) fn plan_vacation(
     alloc: Global,
     view: &View,
@@ -60,7 +60,7 @@ fn unsent(vacation: VacationReport) -> VacationPlan
     }
 }
 
-/// The response with this key is sent. `last` is the moment that is kept under the key, if one is.
+/// The plan to send the response with this key. `last` is the moment that is kept under the key, if one is.
 fn send(
     alloc: Global,
     view: &View,

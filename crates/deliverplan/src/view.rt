@@ -1,4 +1,4 @@
-//! What a delivery has to know of the account, beside the text of its active script.
+//! What a delivery has to know of the account, besides the text of its active script.
 ghost use Rattle.std.specs.Prelude.{◌≡◌};
 ghost use Rattle.deliverplan.specs.Views.{moment_under};
 
@@ -6,12 +6,12 @@ use addrparts::Addr;
 use mailstore::KeptReply;
 use octets::List;
 
-/// What a delivery has to know of the account, beside the text of its active script.
+/// What a delivery has to know of the account, besides the text of its active script.
 #[derive(Debug, Drop)]
 pub struct View {
     /// The account's address.
     pub address: Addr,
-    /// The moments that are kept of responses to the sender, case ignored in the sender; each key once, in any order.
+    /// The moments that are kept of responses to the sender, ignoring the sender's case; each key once, in any order.
     pub replies: List<KeptReply>,
 }
 

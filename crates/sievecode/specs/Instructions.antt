@@ -27,6 +27,6 @@ instr_view (JumpUnless target) = jump_unless target
 instr_view (Act action) = act action.now
 instr_view Stop = stop
 
--- instructions that were written from the last to the first, read from the first
+-- instructions that were written from the last to the first, in order
 abbrev pub seen : List Instr → List Instruction
 seen rows = map instr_view (reverse rows)

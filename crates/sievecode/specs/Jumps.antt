@@ -1,4 +1,4 @@
--- What flat code does and what that takes, over any truth and any work of the tests that look at the message or at what the run has done.
+-- What flat code does and the work that it takes, for any truth and any work of the tests that look at the message or at what the run has done.
 use Rattle.std.specs.Prelude.{◌≡◌, ℕ, zero, suc, ◌+◌, ◌<◌, ◌≤◌, Bool, false, not, cond, List, length, Option, Some, None, slice_get}
 use Rattle.sievesyntax.specs.declared.tree.checks.Check.{Check}
 use Rattle.sievesyntax.specs.RunState.{RunState, at_first, Flow, Going, Stopped, Failed, performed}
@@ -7,23 +7,23 @@ use Rattle.sievesyntax.specs.Meaning.{Outcome, ended}
 use Rattle.sievesyntax.specs.Work.{within_work, outcome_within}
 use Rattle.sievecode.specs.Instructions.{Instruction, set, look, flip, jump, jump_if, jump_unless, act, stop}
 
--- how a run stands that is over, and the work that it took
+-- the state of a run that is over, and the work that it took
 pub record Course : Type 0 where
   pub flow : Flow
   pub work : ℕ
 
--- over without work, and behind some
+-- over without work, and after some more work
 abbrev pub over : Flow → Course
 over flow = record { flow = flow; work = 0 }
 
 abbrev pub behind : ℕ → Course → Course
 behind work course = record course { work = work + course.work }
 
--- the course of a run from a place, a flag and what was done so far; none where it is still going
+-- the course of a run from a place, a flag and what has been done so far; none if it is still going
 abbrev pub Run : Type 0
 Run = ℕ → Bool → RunState → Option Course
 
--- the same behind some work
+-- the same after some work
 abbrev pub after_work : ℕ → Option Course → Option Course
 after_work work None = None
 after_work work (Some course) = Some (behind work course)
@@ -34,7 +34,7 @@ after_action (Going so_far) next = next so_far
 after_action (Stopped so_far) next = Some (over (Stopped so_far))
 after_action (Failed failure) next = Some (over (Failed failure))
 
--- the work of an instruction: that of the test that it asks
+-- the work of an instruction: that of the test that it evaluates
 abbrev pub instr_work : (RunState → Check → ℕ) → Instruction → RunState → ℕ
 instr_work work (set value) so_far = 0
 instr_work work (look check) so_far = work so_far check
@@ -45,7 +45,7 @@ instr_work work (jump_unless target) so_far = 0
 instr_work work (act action) so_far = 0
 instr_work work stop so_far = 0
 
--- one turn, and then the run that is next
+-- one step, and then the run from the next place on
 abbrev pub turn : (RunState → Check → Bool) → Run → Instruction → Run
 turn truth next (set value) place flag so_far = next (place + 1) value so_far
 turn truth next (look check) place flag so_far = next (place + 1) (truth so_far check) so_far
@@ -56,16 +56,16 @@ turn truth next (jump_unless target) place flag so_far = next (cond flag (place 
 turn truth next (act action) place flag so_far = after_action (performed action so_far) (next (place + 1) flag)
 turn truth next stop place flag so_far = Some (over (Stopped so_far))
 
--- at the end of the code a run is over, without a turn
+-- at the end of the code a run is over, without a step
 abbrev pub at_place : Option Instruction → (Instruction → Option Course) → RunState → Option Course
 at_place None go so_far = Some (over (Going so_far))
 at_place (Some instr) go so_far = go instr
 
--- a turn with its work, and then the run that is next
+-- a step with its work, and then the run from the next place on
 abbrev pub paid_turn : (RunState → Check → Bool) → (RunState → Check → ℕ) → Run → Instruction → Run
 paid_turn truth work next instr place flag so_far = after_work (instr_work work instr so_far) (turn truth next instr place flag so_far)
 
--- what flat code gives from a place on in at most n turns, or none where it is still going
+-- the course of flat code from a place on in at most n steps, or none if it is still going
 abbrev pub jumps_from : (RunState → Check → Bool) → (RunState → Check → ℕ) → List Instruction → ℕ → Run
 jumps_from truth work code zero place flag so_far = at_place (slice_get code place) (λ instr. None) so_far
 jumps_from truth work code (suc n) place flag so_far = at_place (slice_get code place) (λ instr. paid_turn truth work (jumps_from truth work code n) instr place flag so_far) so_far
@@ -75,15 +75,15 @@ abbrev pub outcome_of : Option Course → Option Outcome
 outcome_of None = None
 outcome_of (Some course) = Some (within_work course.work (ended course.flow))
 
--- what flat code gives in at most n turns, or none where it is still going
+-- the outcome of flat code in at most n steps, or none if it is still going
 abbrev pub jumps : (RunState → Check → Bool) → (RunState → Check → ℕ) → List Instruction → ℕ → Option Outcome
 jumps truth work code n = outcome_of (jumps_from truth work code n 0 false at_first)
 
--- the code does what the tree does and takes what it takes, in no more turns than the code is long, whichever tests hold
+-- the code does what the tree does and takes the work that it takes, in at most as many steps as the code is long, whichever tests hold
 abbrev pub IsCodeOf : List Instruction → Commands → Type 0
 IsCodeOf code tree = (truth : RunState → Check → Bool) (work : RunState → Check → ℕ) → jumps truth work code (length code) ≡ Some (outcome_within truth work tree)
 
--- a jump from this place leads past it, and at most to the end of code of this length
+-- a jump from this place leads past it, and not past the end of code of this length
 abbrev pub LeadsForward : ℕ → ℕ → Instruction → Type 0
 LeadsForward place len (jump target) = (place < target) × (target ≤ len)
 LeadsForward place len (jump_if target) = (place < target) × (target ≤ len)

@@ -1,4 +1,4 @@
--- The code of a tree, in front of the code that follows it. A target is the number of instructions from it to the end.
+-- The code of a tree, before the code that follows it. A target is the number of instructions from it to the end.
 use Rattle.std.specs.Prelude.{ℕ, ◌-◌, true, false, List, ◌∷◌, length, map}
 use Rattle.sievesyntax.specs.Tree.{TestTree, yes, no, looks, not_of, all_of, any_of, Tests, no_tests, test, CommandTree, require, choose, stop, act, Branches, no_branches, branch, Commands, no_commands, command}
 use Rattle.sievecode.specs.Instructions.{Instruction, set, look, flip, jump, jump_if, jump_unless}
@@ -38,7 +38,7 @@ abbrev mutual
   commands_code no_commands rest = rest
   commands_code (command first more) rest = command_code first (commands_code more rest)
 
--- an instruction whose target was counted from the end, in code of this length
+-- an instruction whose target was counted from the end, as it is in code of this length
 abbrev pub forward : ℕ → Instruction → Instruction
 forward len (jump left) = jump (len - left)
 forward len (jump_if left) = jump_if (len - left)
@@ -49,6 +49,6 @@ forward len flip = flip
 forward len (I.act action) = I.act action
 forward len I.stop = I.stop
 
--- the code in order, with the places where jumps lead
+-- the code in order, with the places that jumps lead to
 abbrev pub turned : List Instruction → List Instruction
 turned back = map (forward (length back)) back

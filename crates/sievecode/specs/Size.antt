@@ -2,7 +2,7 @@
 use Rattle.std.specs.Prelude.{ℕ, ◌+◌}
 use Rattle.sievesyntax.specs.Tree.{TestTree, yes, no, looks, not_of, all_of, any_of, Tests, no_tests, test, CommandTree, require, choose, stop, act, Branches, no_branches, branch, Commands, no_commands, command}
 
--- how many tests there are in a test
+-- the number of tests in a test
 abbrev mutual
   pub test_size : TestTree → ℕ
   test_size yes = 1
@@ -16,7 +16,7 @@ abbrev mutual
   tests_size no_tests = 0
   tests_size (test first more) = test_size first + tests_size more
 
--- how many commands, branches and tests there are in commands
+-- the number of commands, branches and tests in commands
 abbrev mutual
   pub command_size : CommandTree → ℕ
   command_size (require names) = 1

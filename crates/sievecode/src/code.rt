@@ -13,7 +13,7 @@ use std::alloc::{AllocError, Global};
 use std::marker::Model;
 
 /// Flat code. It borrows the tests and the actions of the script that it was compiled from. Each jump leads to a
-/// place after its own, or to the end of the code: so a run takes no more turns than the code has instructions.
+/// place after its own, or to the end of the code, so a run takes at most as many steps as the code has instructions.
 #[derive(Drop)]
 pub struct Code<'a> {
     instrs: Vec<Instr<'a>>,
@@ -43,15 +43,15 @@ impl<'a> Code<'a> {
     }
 }
 
-/// Compiles a script. The code does what the script's tree does, and asks the tests that the tree asks, so that it takes the same work,
-/// whichever tests hold and whatever work they take (RFC 5228, 2.10, 3 and 5).
+/// Compiles a script. The code does what the script's tree does, and evaluates the tests that the tree evaluates, so that it takes the
+/// same work, whichever tests hold and whatever work they take (RFC 5228, 2.10, 3 and 5).
 ///
 /// Time and memory are linear in the number of commands, branches and tests: the code has at most two
 /// instructions for each. The stack that it takes is bounded by the script's depth.
 ///
 /// # Errors
 ///
-/// [`AllocError`] where memory was refused.
+/// [`AllocError`] if an allocation failed.
 pub fn compile<'a>(alloc: Global, script: &'a Script) -> Result<Code<'a>, AllocError>
     ensures is_code { IfOk result (λ code. IsCodeOf code (script_tree script.now)) }
     ensures short { IfOk result (λ code. length code ≤ 2 * size (script_tree script.now)) }
@@ -63,7 +63,7 @@ pub fn compile<'a>(alloc: Global, script: &'a Script) -> Result<Code<'a>, AllocE
     })
 }
 
-/// Instructions that were written from the last to the first: in order, and with the places where jumps lead.
+/// Puts instructions that were written from the last to the first in order, with the places that jumps lead to.
 fn turned<'a>(alloc: Global, rows: &[Instr<'a>]) -> Result<Vec<Instr<'a>>, AllocError>
     ensures { IfOk result (λ code. map instr_view code.items ≡ turned_of (seen rows.now)) }
 {

@@ -1,5 +1,5 @@
-//! Code is written from its last instruction to its first: so the place where a jump leads is known when the
-//! jump is written. Until the code is turned round, a target is the number of instructions from it to the end.
+//! Code is written from its last instruction to its first, so the place that a jump leads to is known when the
+//! jump is written. Until the code is reversed, a target is the number of instructions from it to the end.
 ghost use Rattle.std.specs.Prelude.{◌≡◌, ◌∷◌, OnOk};
 ghost use Rattle.sievesyntax.specs.View.{test_view, tests_view, command_view, commands_view, branches_view};
 ghost use Rattle.sievesyntax.specs.Tree.{all_of, any_of, choose};
@@ -10,7 +10,7 @@ use crate::instr::Instr;
 use sievesyntax::{Branch, Command, Test};
 use std::alloc::{AllocError, Global};
 
-/// One instruction in front.
+/// Puts one instruction before the code.
 fn put<'a>(rows: &mut Vec<Instr<'a>>, instr: Instr<'a>) -> Result<(), AllocError>
     ensures { OnOk result (seen rows.new.items ≡ instr_view instr.entry ∷ seen rows.old.items) }
 {
@@ -18,7 +18,7 @@ fn put<'a>(rows: &mut Vec<Instr<'a>>, instr: Instr<'a>) -> Result<(), AllocError
     Ok(())
 }
 
-/// The code of a test in front: it sets the flag to whether the test holds.
+/// Puts the code of a test before the code: it sets the flag to whether the test holds.
 #[cycle(tests)]
 fn emit_test<'a>(rows: &mut Vec<Instr<'a>>, test: &'a Test) -> Result<(), AllocError>
     ensures { OnOk result (seen rows.new.items ≡ test_code (test_view test.now) (seen rows.old.items)) }
@@ -36,7 +36,7 @@ fn emit_test<'a>(rows: &mut Vec<Instr<'a>>, test: &'a Test) -> Result<(), AllocE
     }
 }
 
-/// The code of tests in front that sets the flag to whether each holds.
+/// Puts the code of tests before the code: it sets the flag to whether each holds.
 #[cycle(tests)]
 fn emit_all<'a>(rows: &mut Vec<Instr<'a>>, tests: &'a [Test]) -> Result<(), AllocError>
     ensures { OnOk result (seen rows.new.items ≡ test_code (all_of (tests_view tests.now)) (seen rows.old.items)) }
@@ -50,7 +50,7 @@ fn emit_all<'a>(rows: &mut Vec<Instr<'a>>, tests: &'a [Test]) -> Result<(), Allo
     Ok(())
 }
 
-/// The code of tests in front that sets the flag to whether some test holds.
+/// Puts the code of tests before the code: it sets the flag to whether some test holds.
 #[cycle(tests)]
 fn emit_any<'a>(rows: &mut Vec<Instr<'a>>, tests: &'a [Test]) -> Result<(), AllocError>
     ensures { OnOk result (seen rows.new.items ≡ test_code (any_of (tests_view tests.now)) (seen rows.old.items)) }
@@ -64,7 +64,7 @@ fn emit_any<'a>(rows: &mut Vec<Instr<'a>>, tests: &'a [Test]) -> Result<(), Allo
     Ok(())
 }
 
-/// The code of commands in front.
+/// Puts the code of commands before the code.
 #[cycle(commands)]
 pub(crate) fn emit_commands<'a>(
     rows: &mut Vec<Instr<'a>>,
@@ -78,7 +78,7 @@ pub(crate) fn emit_commands<'a>(
     Ok(())
 }
 
-/// The code of a command in front.
+/// Puts the code of a command before the code.
 #[cycle(commands)]
 fn emit_command<'a>(rows: &mut Vec<Instr<'a>>, command: &'a Command) -> Result<(), AllocError>
     ensures { OnOk result (seen rows.new.items ≡ command_code (command_view command.now) (seen rows.old.items)) }
@@ -91,7 +91,7 @@ fn emit_command<'a>(rows: &mut Vec<Instr<'a>>, command: &'a Command) -> Result<(
     }
 }
 
-/// The code of branches in front: the first block whose test holds is run, and then the jump after the last.
+/// Puts the code of branches before the code: the first block whose test holds is run, and then a jump past the last.
 #[cycle(commands)]
 fn emit_branches<'a>(rows: &mut Vec<Instr<'a>>, branches: &'a [Branch]) -> Result<(), AllocError>
     ensures { OnOk result (seen rows.new.items ≡ command_code (choose (branches_view branches.now)) (seen rows.old.items)) }

@@ -13,7 +13,7 @@ abbrev pub is_count : Matching → Bool
 is_count (Count relation) = true
 is_count _ = false
 
--- the fields of these names, each of which has one text; those of a name that stands twice count twice
+-- the number of fields with these names, each of which has one text; those with a name that is given twice count twice
 abbrev pub fields_counted : MailSpec → List (List ℕ) → ℕ
 fields_counted mail names = sum_by (λ name. length (texts_of mail name)) names
 
@@ -21,7 +21,7 @@ fields_counted mail names = sum_by (λ name. length (texts_of mail name)) names
 abbrev pub has_part : AddressPart → Addr → Bool
 has_part part one = is_some (part_of part one)
 
--- the addresses in the fields of these names that have this part
+-- the number of addresses in the fields with these names that have this part
 abbrev pub addresses_counted : MailSpec → AddressPart → List (List ℕ) → ℕ
 addresses_counted mail part names = sum_by (λ name. count_by (has_part part) (addresses_of mail name)) names
 
@@ -30,11 +30,11 @@ abbrev pub is_some_of : List ℕ → Bool
 is_some_of [] = false
 is_some_of (octet ∷ rest) = true
 
--- an address of the envelope that is there, as the null reverse-path isn't, and has this part
+-- an address of the envelope that isn't the null reverse-path and has this part
 abbrev pub is_counted : AddressPart → List ℕ → Bool
 is_counted part address = is_some_of address && is_some (part_in part address)
 
--- those that a test names
+-- the number of those that a test names
 abbrev pub envelope_counted : MailSpec → EnvelopeTest → ℕ
 envelope_counted mail test =
     cond (test.parts.from && is_counted test.part mail.from) 1 0 + cond (test.parts.to && is_counted test.part mail.to) 1 0

@@ -18,22 +18,22 @@ use Rattle.sieveexec.specs.Mails.{MailSpec, values_of}
 abbrev pub is_semicolon : ℕ → Bool
 is_semicolon octet = octet == 59
 
--- a text, and what stands behind its last semicolon
+-- a text, and what follows its last semicolon
 pub record IsBehindLast (text behind : List ℕ) : Type 0 where
   pub before : List ℕ
   pub cut : text ≡ before ++ 59 ∷ behind
   pub last : list_any is_semicolon behind ≡ false
 
--- the name, in any ASCII case, is that of the field whose date stands behind its last semicolon (RFC 5322, 3.6.7)
+-- the name, in any ASCII case, is that of the field whose date follows its last semicolon (RFC 5322, 3.6.7)
 abbrev pub is_received : List ℕ → Bool
 is_received name = pointwise nat_eq (lowered name) (codes "received")
 
--- what has to read as a date: of such a field what stands there, else all of the value
+-- what has to read as a date: in such a field what follows there, otherwise the whole value
 abbrev pub IsDatePart : Bool → List ℕ → List ℕ → Type 0
 IsDatePart true value part = IsBehindLast value part
 IsDatePart false value part = part ≡ value
 
--- the date in the first field of a name (RFC 5260, 4), whose value isn't decoded
+-- the date in the first field with a name (RFC 5260, 4), whose value isn't decoded
 pub record IsFieldDate (mail : MailSpec) (name : List ℕ) (date : DateTime) : Type 0 where
   pub value : List ℕ
   pub more : List (List ℕ)
@@ -42,7 +42,7 @@ pub record IsFieldDate (mail : MailSpec) (name : List ℕ) (date : DateTime) : T
   pub is_part : IsDatePart (is_received name) value part
   pub reads : IsDateText part date
 
--- how many dates that field has: one at most (RFC 5260, 4)
+-- how many dates that field has: at most one (RFC 5260, 4)
 abbrev pub IsDateCount : MailSpec → List ℕ → ℕ → Type 0
 IsDateCount mail name count =
     ((count ≡ 1) × ((date : DateTime) × IsFieldDate mail name date)) ⊎ ((count ≡ 0) × ((date : DateTime) → IsFieldDate mail name date → ⊥))
@@ -55,7 +55,7 @@ IsShown mail Original date shown = shown ≡ date
 
 -- ---- the same as functions
 
--- what stands behind the last semicolon of a text, if it has one
+-- what follows the last semicolon of a text, if it has one
 abbrev pub behind_last : List ℕ → Option (List ℕ)
 behind_last [] = None
 behind_last (octet ∷ rest) = cond (list_any is_semicolon rest) (behind_last rest) (cond (is_semicolon octet) (Some rest) None)
@@ -69,7 +69,7 @@ abbrev pub first_date : Bool → List (List ℕ) → Option DateTime
 first_date received [] = None
 first_date received (value ∷ more) = option_and_then date_of (date_part_of received value)
 
--- the date in the first field of a name, if there is one
+-- the date in the first field with a name, if there is one
 abbrev pub field_date : MailSpec → List ℕ → Option DateTime
 field_date mail name = first_date (is_received name) (values_of mail name)
 
@@ -78,13 +78,13 @@ abbrev pub date_count : Option DateTime → ℕ
 date_count None = 0
 date_count (Some date) = 1
 
--- whether a date passes by the clock of the zone that a test asks for
+-- whether a date, by the clock of the zone that a test asks for, passes
 abbrev pub shown_passes : MailSpec → DateZone → (DateTime → Bool) → DateTime → Bool
 shown_passes mail Host passes date = same_moment_passes date mail.zone passes
 shown_passes mail (Given zone) passes date = same_moment_passes date zone passes
 shown_passes mail Original passes date = passes date
 
--- whether there is a date and it passes so
+-- whether there is a date and it passes like that
 abbrev pub found_passes : MailSpec → DateZone → (DateTime → Bool) → Option DateTime → Bool
 found_passes mail zone passes None = false
 found_passes mail zone passes (Some date) = shown_passes mail zone passes date

@@ -6,7 +6,7 @@ use Rattle.sievesyntax.specs.declared.tree.checks.Matching.{Matching}
 use Rattle.sievesyntax.specs.declared.tree.checks.Matching.TheVariants.{Is, Contains}
 use Rattle.sieveexec.specs.Counts.{is_some_of}
 
--- the words of a text: what stands between its blanks and isn't empty
+-- the words of a text: what is between its blanks and isn't empty
 abbrev pub words_of : List ℕ → List (List ℕ)
 words_of text = filter is_some_of (between_blanks text)
 
@@ -16,6 +16,6 @@ asks_words Is = true
 asks_words Contains = true
 asks_words _ = false
 
--- the keys of a test: of `:is` and `:contains` the words of all its texts, so that "b A" is ["b", "A"]; of others the texts
+-- the keys of a test: for `:is` and `:contains` the words of all its texts, so that "b A" is ["b", "A"]; for others the texts
 abbrev pub flag_keys : Matching → List (List ℕ) → List (List ℕ)
 flag_keys matching texts = cond (asks_words matching) (flat_map words_of texts) texts

@@ -1,4 +1,4 @@
--- Which tests hold of a mail and of the flags that the run has set (RFC 5228, 5; RFC 5231; RFC 5232; RFC 5260).
+-- Which tests hold of a mail and the flags that the run has set (RFC 5228, 5; RFC 5231; RFC 5232; RFC 5260).
 use Rattle.std.specs.Prelude.{◌≡◌, ◌≢◌, ◌<◌, ◌⊎◌, ℕ, true, List, [], length, decimal, unwrap_or, MatchBool}
 use Rattle.std.specs.List.{All, Any}
 use Rattle.sievesyntax.specs.declared.tree.checks.Bound.{Bound}
@@ -19,7 +19,7 @@ use Rattle.sieveexec.specs.Matches.{MatchesSome}
 use Rattle.sieveexec.specs.Parts.{IsPart, IsPartOf}
 use Rattle.sieveexec.specs.Counts.{is_count, fields_counted, addresses_counted, envelope_counted}
 
--- a size over or under a limit; one that is the limit is neither (RFC 5228, 5.9)
+-- a size over or under a limit; one equal to the limit is neither (RFC 5228, 5.9)
 abbrev pub IsBeyond : Bound → ℕ → ℕ → Type 0
 IsBeyond Over size limit = limit < size
 IsBeyond Under size limit = size < limit
@@ -28,16 +28,16 @@ IsBeyond Under size limit = size < limit
 abbrev pub IsNamed : EnvelopeParts → MailSpec → List ℕ → Type 0
 IsNamed parts mail address = ((parts.from ≡ true) × (address ≡ mail.from)) ⊎ ((parts.to ≡ true) × (address ≡ mail.to))
 
--- of an address in the fields of a name this holds: fields of the name have addresses, and one of their values has such an address
+-- this holds of an address in the fields with a name: such fields have addresses, and one of their values has such an address
 -- (RFC 5322, 3.4)
 pub record SomeAddress (mail : MailSpec) (name : List ℕ) (P : Addr → Type 0) : Type 0 where
   pub fields : has_addresses name ≡ true
   pub there : Any (λ value. (found : List Addr) × AreAddresses value found × Any P found) (values_of mail name)
 
--- a test that looks at the message, its envelope or mailboxes holds (RFC 5228, 5.1, 5.4, 5.5, 5.7, 5.9). Where values are counted, their
--- number in decimal matches a key (RFC 5231, 4.2). Each mailbox is there, for a message can be filed into it (RFC 5490, 3.1). A
--- date is looked at by the clock of a zone, and so is the moment of the delivery, which is one date (RFC 5260, 4 and 5). The flags
--- are asked one by one (RFC 5232, 4)
+-- a test that looks at the message, its envelope or mailboxes holds (RFC 5228, 5.1, 5.4, 5.5, 5.7, 5.9). If values are counted, their
+-- number in decimal matches a key (RFC 5231, 4.2). Each mailbox exists, since a message can be filed into it (RFC 5490, 3.1). A
+-- date is looked at by the clock of a zone, and so is the moment of delivery, which is one date (RFC 5260, 4 and 5). The flags
+-- are looked at one by one (RFC 5232, 4)
 abbrev pub TestHolds : MailSpec → (flags : List (List ℕ)) → Check → Type 0
 TestHolds mail flags (Size size) = IsBeyond size.bound mail.size size.limit
 TestHolds mail flags (Exists names) = All (λ name. values_of mail name ≢ []) names

@@ -1,4 +1,4 @@
--- What is kept of a message by the names of its fields, in lower case: the keys.
+-- What is kept of a message under the names of its fields, in lower case: the keys.
 use Rattle.std.specs.Prelude.{◌≡◌, ℕ, Bool, cond, List, [], Some, map, nat_eq, unwrap_or}
 use Rattle.std.specs.List.{filter, flat_map, list_any}
 use Rattle.std.specs.Ordering.{nat_cmp}
@@ -31,10 +31,10 @@ is_address_key key = list_any (λ name. pointwise nat_eq name key) address_field
 abbrev pub addresses_keyed : MailSpec → List ℕ → List Addr
 addresses_keyed mail key = cond (is_address_key key) (flat_map addrs (values_keyed mail key)) []
 
--- the raw values of each name are there, and nothing is kept of a name that no field has
+-- the raw values of each name are there, and nothing is kept under a name that no field has
 abbrev pub IsIndex : List FieldText → BTreeMap (List ℕ) (List (List ℕ)) → Type 0
 IsIndex fields index = (key : List ℕ) → unwrap_or (get (slice_cmp nat_cmp) index key) [] ≡ raws_keyed fields key
 
--- what is kept under a key is what it should be
+-- what is kept under a key is what is wanted for it
 abbrev pub AreKnown : {X : Type 0} → (List ℕ → X) → BTreeMap (List ℕ) X → Type 0
 AreKnown {X} wanted known = (key : List ℕ) (kept : X) → get (slice_cmp nat_cmp) known key ≡ Some kept → kept ≡ wanted key

@@ -11,11 +11,11 @@ use Rattle.addrparts.specs.Reading.{addrs}
 use Rattle.sieveexec.specs.declared.envelope.Envelope.{Envelope}
 use Rattle.sieveexec.specs.declared.when.When.{When}
 
--- what a message, its envelope and its delivery bring
+-- what tests see of a message, its envelope and its delivery
 pub record MailSpec : Type 0 where
   -- the message's fields, in order
   pub fields : List FieldText
-  -- the envelope's addresses, as they were written; the null reverse-path is the empty text
+  -- the envelope's addresses as they were written; the null reverse-path is empty
   pub from : List ℕ
   pub to : List ℕ
   -- the message's octets, and one more for each LF without CR right before it
@@ -27,7 +27,7 @@ pub record MailSpec : Type 0 where
   -- the host's zone at that moment, in minutes east of UTC
   pub zone : ℤ
 
--- the mail of a message, its envelope and the moment of its delivery
+-- the mail of a message, its envelope and the moment of delivery
 abbrev pub mail_of : List ℕ → Envelope → When → MailSpec
 mail_of message envelope when =
     record {
@@ -40,7 +40,7 @@ mail_of message envelope when =
       zone = when.zone;
     }
 
--- the mail with this size, where one is told
+-- the mail with this size, if one is given
 abbrev pub with_size : Option ℕ → MailSpec → MailSpec
 with_size told mail = record mail { size = unwrap_or told mail.size }
 
@@ -48,15 +48,15 @@ with_size told mail = record mail { size = unwrap_or told mail.size }
 abbrev pub has_name : List ℕ → FieldText → Bool
 has_name name field = pointwise nat_eq (lowered field.name) (lowered name)
 
--- the unfolded values of the fields of a name, in order (RFC 5322, 2.2.3); a field that is absent has none
+-- the unfolded values of the fields with a name, in order (RFC 5322, 2.2.3); a field that is absent has none
 abbrev pub values_of : MailSpec → List ℕ → List (List ℕ)
 values_of mail name = map unfold_of (map (λ field. field.raw) (filter (λ field. has_name name field) mail.fields))
 
--- the text of an unfolded value: decoded (RFC 2047), and then without the blanks at its ends (RFC 5228, 5.7)
+-- the text of an unfolded value: it is decoded (RFC 2047), and then the blanks at its ends are removed (RFC 5228, 5.7)
 abbrev pub text_shown : List ℕ → List ℕ
 text_shown value = trimmed (text_of value)
 
--- the texts of the fields of a name
+-- the texts of the fields with a name
 abbrev pub texts_of : MailSpec → List ℕ → List (List ℕ)
 texts_of mail name = map text_shown (values_of mail name)
 
@@ -67,10 +67,10 @@ address_fields =
     ∷ codes "resent-to" ∷ codes "resent-cc" ∷ codes "resent-bcc" ∷ codes "resent-sender" ∷ codes "delivered-to"
     ∷ codes "x-original-to" ∷ codes "return-path" ∷ []
 
--- whether fields of this name, in any ASCII case, have addresses
+-- whether fields with this name, in any ASCII case, have addresses
 abbrev pub has_addresses : List ℕ → Bool
 has_addresses name = list_any (λ field. pointwise nat_eq field (lowered name)) address_fields
 
--- the addresses of the unfolded values, which aren't decoded, of the fields of a name; none where such fields have no addresses
+-- the addresses of the unfolded values, which aren't decoded, of the fields with a name; none if such fields have no addresses
 abbrev pub addresses_of : MailSpec → List ℕ → List Addr
 addresses_of mail name = cond (has_addresses name) (flat_map addrs (values_of mail name)) []

@@ -19,7 +19,7 @@ use Rattle.sievesyntax.specs.declared.tree.checks.Matching.TheVariants.{Is, Cont
 use Rattle.sievesyntax.specs.declared.tree.checks.Relation.{Relation}
 use Rattle.sievesyntax.specs.declared.tree.checks.Relation.TheVariants as R
 
--- a value stands in a relation to a key, where an order and equality are given (RFC 5231, 4)
+-- a value is in a relation to a key, given an order and an equality (RFC 5231, 4)
 abbrev pub Relates : Relation → (List ℕ → List ℕ → Type 0) → (List ℕ → List ℕ → Type 0) → List ℕ → List ℕ → Type 0
 Relates R.Greater Before Same value key = Before key value
 Relates R.GreaterOrEqual Before Same value key = Before key value ⊎ Same value key
@@ -28,7 +28,7 @@ Relates R.LessOrEqual Before Same value key = Before value key ⊎ Same value ke
 Relates R.Equal Before Same value key = Same value key
 Relates R.NotEqual Before Same value key = Same value key → ⊥
 
--- a value matches a key by the images of octets; where values are counted, the value is their number
+-- a value matches a key by the images of octets; if values are counted, the value is their number
 abbrev pub MatchesByImage : (ℕ → ℕ) → Matching → List ℕ → List ℕ → Type 0
 MatchesByImage image Is key value = EqualBy image key value
 MatchesByImage image Contains key value = ContainsBy image key value
@@ -54,7 +54,7 @@ MatchesKey AsciiNumeric = MatchesByNumber
 abbrev pub MatchesSome : Collation → Matching → List (List ℕ) → List ℕ → Type 0
 MatchesSome collation matching keys value = Any (λ key. MatchesKey collation matching key value) keys
 
--- how a value stands to a key by images, and by numbers, of which None is infinity
+-- the order of a value and a key by images, and by numbers, where None is infinity
 abbrev pub order_by : (ℕ → ℕ) → List ℕ → List ℕ → Ordering
 order_by image value key = slice_cmp nat_cmp (map image value) (map image key)
 
@@ -64,7 +64,7 @@ number_order (Some one) None = Less
 number_order None (Some other) = Greater
 number_order None None = Equal
 
--- whether what stands so is in a relation
+-- whether two values that are ordered like this are in a relation
 abbrev pub relates : Relation → Ordering → Bool
 relates R.Greater order = is_gt order
 relates R.GreaterOrEqual order = is_ge order
@@ -88,7 +88,7 @@ abbrev pub some_end : (List ℕ → Bool) → List ℕ → Bool
 some_end passes [] = passes []
 some_end passes (octet ∷ rest) = passes (octet ∷ rest) || some_end passes rest
 
--- whether the images of a key stand in those of a text
+-- whether the images of a key occur in those of a text
 abbrev pub is_contained : (ℕ → ℕ) → List ℕ → List ℕ → Bool
 is_contained image key value = some_end (begins_with image key) value
 

@@ -1,4 +1,4 @@
--- What a script comes to on a mail.
+-- The outcome of a script on a mail.
 use Rattle.std.specs.Prelude.{ℕ}
 use Rattle.sievesyntax.specs.RunState.{at_first}
 use Rattle.sievesyntax.specs.Tree.{Commands}
@@ -8,7 +8,7 @@ use Rattle.sieveexec.specs.Mails.{MailSpec}
 use Rattle.sieveexec.specs.Truth.{truth_at}
 use Rattle.sieveexec.specs.Work.{work_at}
 
--- the outcome of a script, where its tests have the truth and the work that they have at the mail and at what the run has done by then
+-- the outcome of a script, if its tests have the truth and the work that they have for the mail and what the run has done by then
 abbrev pub outcome_at : MailSpec → Commands → Outcome
 outcome_at mail tree = outcome_within (truth_at mail) (work_at mail) tree
 

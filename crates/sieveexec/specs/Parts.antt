@@ -21,11 +21,11 @@ pub record CutsAtFirst (local user detail : List ℕ) : Type 0 where
   pub cut : local ≡ user ++ 43 ∷ detail
   pub first : has_plus user ≡ false
 
--- the user of a local part: what stands before its first `+`, or all of it where it has none
+-- the user of a local part: what precedes its first `+`, or all of it if it has none
 abbrev pub IsUser : List ℕ → List ℕ → Type 0
 IsUser local user = ((detail : List ℕ) × CutsAtFirst local user detail) ⊎ ((user ≡ local) × (has_plus local ≡ false))
 
--- the detail of a local part: what stands after its first `+`; a local part without one has none
+-- the detail of a local part: what follows its first `+`; a local part without one has none
 abbrev pub IsDetail : List ℕ → List ℕ → Type 0
 IsDetail local detail = (user : List ℕ) × CutsAtFirst local user detail
 
@@ -72,32 +72,32 @@ pub record CutsAtLast (text local domain : List ℕ) : Type 0 where
   pub cut : text ≡ local ++ 64 ∷ domain
   pub last : has_at domain ≡ false
 
--- a text without `@` is a local part alone
+-- a text without `@` is only a local part
 pub record IsLocalAlone (text local domain : List ℕ) : Type 0 where
   pub whole : local ≡ text
   pub none : domain ≡ []
   pub bare : has_at text ≡ false
 
--- the local part and the domain of an address of the envelope, which is taken as it was written; those of the null
--- reverse-path are empty
+-- the local part and the domain of an address of the envelope, which is taken as it was written; both are empty for the null
+-- reverse-path
 abbrev pub Cuts : List ℕ → List ℕ → List ℕ → Type 0
 Cuts text local domain = CutsAtLast text local domain ⊎ IsLocalAlone text local domain
 
--- what stands before the last `@`
+-- what precedes the last `@`
 abbrev pub local_of : List ℕ → List ℕ
 local_of [] = []
 local_of (octet ∷ rest) = cond (is_at octet && not (has_at rest)) [] (octet ∷ local_of rest)
 
--- what stands after the last `@`
+-- what follows the last `@`
 abbrev pub domain_of : List ℕ → List ℕ
 domain_of [] = []
 domain_of (octet ∷ rest) = cond (has_at rest) (domain_of rest) (cond (is_at octet) rest [])
 
--- a local part of an address of the envelope that this holds of
+-- this holds of the local part of an address of the envelope
 abbrev pub InLocal : (List ℕ → Type 0) → List ℕ → Type 0
 InLocal P text = (local : List ℕ) × (domain : List ℕ) × Cuts text local domain × P local
 
--- a part of an address of the envelope; the null reverse-path is the empty text under each part (RFC 5228, 5.4), though its local
+-- a part of an address of the envelope; each part of the null reverse-path is empty (RFC 5228, 5.4), though its local
 -- part has no detail
 abbrev pub IsPart : AddressPart → List ℕ → List ℕ → Type 0
 IsPart All text part = part ≡ text

@@ -1,4 +1,4 @@
--- A key of a test, and what is made of it before it is compared with many values.
+-- A key of a test, and how it is prepared before it is compared with many values.
 use Rattle.std.specs.Prelude.{ℕ, Bool, false, List, length, slice_index, Option, Some, None}
 use Rattle.std.specs.Char.{to_ascii_uppercase}
 use Rattle.collation.specs.Places.{AreMasks}
@@ -23,7 +23,7 @@ key_of collation matching key = record { collation = collation; matching = match
 abbrev pub matches_of : KeySpec → List ℕ → Bool
 matches_of one value = matches_key one.collation one.matching one.key value
 
--- the places are those of the key, which is looked for
+-- the places are those of the key, which is searched for
 abbrev pub IsReady : Collation → Matching → List ℕ → Masks → Type 0
 IsReady Octet Contains key places = AreMasks (fits_key (λ octet. octet) (slice_index key)) (length key) places
 IsReady AsciiCasemap Contains key places = AreMasks (fits_key to_ascii_uppercase (slice_index key)) (length key) places

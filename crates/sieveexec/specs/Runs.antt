@@ -14,7 +14,7 @@ use Rattle.sieveexec.specs.declared.outcome.Failure.TheVariants.{TwoVacations, T
 use Rattle.sieveexec.specs.declared.outcome.Outcome.{Outcome}
 use Rattle.sieveexec.specs.declared.outcome.Outcome.TheVariants.{Done, Failed}
 
--- what was done so far
+-- what has been done so far
 abbrev pub run_state_of : RunState → RunStateSpec
 run_state_of state = record { filed = state.filed.items; flags = state.flags; sent = state.sent; reply = state.reply; cancelled = state.cancelled }
 
@@ -25,23 +25,23 @@ failure_view TooManyRedirects = F.TooManyRedirects
 failure_view TooManyMailboxes = F.TooManyMailboxes
 failure_view TooMuchWork = F.TooMuchWork
 
--- how a run stands after an action
+-- the state of a run after an action
 abbrev pub flow_of : Option Failure → RunStateSpec → Flow
 flow_of None state = Going state
 flow_of (Some failure) state = F.Failed (failure_view failure)
 
--- what a script comes to
+-- the outcome of a script
 abbrev pub outcome_view : Outcome → OutcomeSpec
 outcome_view (Done filed sent reply) = M.Done (record { filed = filed; sent = sent; reply = reply })
 outcome_view (Failed failure) = M.Failed (failure_view failure)
 
--- how a run goes on after a turn, where next is the run from a place on
+-- how a run goes on after an instruction, given the run from a place on
 abbrev pub after_turn : Turn → Run → Bool → RunStateSpec → Option Course
 after_turn (Next place) next flag state = next place flag state
 after_turn Stopped next flag state = Some (over (F.Stopped state))
 after_turn (turn.Failed failure) next flag state = Some (over (F.Failed (failure_view failure)))
 
--- a turn that doesn't end the run leads past this place
+-- an instruction that doesn't end the run leads past this place
 abbrev pub MovesOn : ℕ → Turn → Type 0
 MovesOn place (Next next) = place < next
 MovesOn place Stopped = Unit {0}

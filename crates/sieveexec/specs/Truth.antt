@@ -1,4 +1,4 @@
--- The truth of tests at a mail and at what the run has done: true exactly where the test holds (`truth_of_a_check` of laws.rt).
+-- The truth of tests for a mail and what the run has done: true exactly if the test holds (`truth_of_a_check` of laws.rt).
 use Rattle.std.specs.Prelude.{◌==◌, ℕ, Bool, true, false, cond, not, ◌&&◌, ◌||◌, ◌/◌, ◌%◌, nat_lt, length, decimal, List, [], ◌∷◌, Option, Some, None, unwrap_or}
 use Rattle.std.specs.List.{list_any, list_all}
 use Rattle.std.specs.Str.{is_utf8}
@@ -42,7 +42,7 @@ abbrev pub is_some_there : List (List ℕ) → Bool
 is_some_there [] = false
 is_some_there (one ∷ more) = true
 
--- whether the fields of these names are there
+-- whether there are fields with these names
 abbrev pub all_exist : MailSpec → List (List ℕ) → Bool
 all_exist mail names = list_all (λ name. is_some_there (values_of mail name)) names
 
@@ -142,6 +142,6 @@ truth_by mail flags (Date test) = date_holds mail test
 truth_by mail flags (Q.CurrentDate test) = current_holds mail test
 truth_by mail flags (Q.HasFlag test) = flag_holds flags test
 
--- the same, of a run that has done this so far
+-- the same for a run that has done this so far
 abbrev pub truth_at : MailSpec → RunState → Check → Bool
 truth_at mail so_far check = truth_by mail so_far.flags check

@@ -1,5 +1,5 @@
--- The work of a test: about how many octets it looks at and compares. It hangs on the sizes of its names and keys and of the values that it
--- looks at, and so it is known before they are compared.
+-- The work of a test: about how many octets it looks at and compares. It depends on the sizes of its names and keys and of the values that it
+-- looks at, so it is known before they are compared.
 use Rattle.std.specs.Prelude.{◌≡◌, ◌==◌, ℕ, ◌+◌, ◌-◌, ◌*◌, ◌<◌, ◌≤◌, Bool, true, false, cond, nat_lt, length, List, [], ◌∷◌, Option, Some, None, sum_by, count_by}
 use Rattle.std.specs.List.{list_any}
 use Rattle.octets.specs.Ascii.{lowered}
@@ -16,7 +16,7 @@ use Rattle.sieveexec.specs.Counts.{is_count}
 use Rattle.sieveexec.specs.Indexes.{raws_keyed}
 use Rattle.sieveexec.specs.Mails.{MailSpec, texts_of, addresses_of}
 
--- the size of a text: its octets, and eight for itself, since short texts take their time too
+-- the size of a text: its octets, and eight more, since short texts take time too
 abbrev pub text_size : List ℕ → ℕ
 text_size text = length text + 8
 
@@ -27,7 +27,7 @@ texts_size texts = sum_by text_size texts
 abbrev pub sizes_of : List (List ℕ) → Sizes
 sizes_of values = record { octets = texts_size values; count = length values }
 
--- of no values, and of some and others
+-- the sizes of no values, and of some values and others together
 abbrev pub no_sizes : Sizes
 no_sizes = record { octets = 0; count = 0 }
 
@@ -48,15 +48,15 @@ is_star octet = octet == 42
 abbrev pub is_long : List ℕ → Bool
 is_long key = nat_lt 63 (length key)
 
--- all values, and so much for each of them
+-- the work of looking at all values, and `each` for each of them
 abbrev pub paired : Sizes → ℕ → ℕ
 paired sizes each = sizes.octets + sizes.count * each
 
--- the work of a key that is made ready once for each name of fields, and then looked for in all values
+-- the work of a key that is prepared once for each name of fields, and then searched for in all values
 abbrev pub ready_work : ℕ → Sizes → List ℕ → ℕ
 ready_work names sizes key = sizes.octets + names * (text_size key + 256)
 
--- the same of a pattern: what stands between two stars is made ready for each value anew
+-- the same of a pattern: what is between two stars is prepared anew for each value
 abbrev pub starred : Sizes → List ℕ → ℕ
 starred sizes key = paired sizes (text_size key) + 256 * (sizes.count * (count_by is_star key - 1))
 
@@ -74,7 +74,7 @@ long_pattern_work sizes key = cond (list_any is_question key) (tried_work sizes.
 abbrev pub pattern_work : Sizes → List ℕ → ℕ
 pattern_work sizes key = cond (is_long key) (long_pattern_work sizes key) (starred sizes key)
 
--- the work of a key with all values together, which are those of so many names of fields
+-- the work of a key with all values together, which are those of that many names of fields
 abbrev pub key_work : ℕ → Matching → Sizes → List ℕ → ℕ
 key_work names Contains sizes key = contains_work names sizes key
 key_work names Matches sizes key = pattern_work sizes key
@@ -87,7 +87,7 @@ keys_work names matching sizes keys = sum_by (key_work names matching sizes) key
 abbrev pub short_sizes : Sizes
 short_sizes = record { octets = 48; count = 1 }
 
--- what is compared: with `:count` a number
+-- the sizes of what is compared: with `:count` those of a number
 abbrev pub compared : Matching → Sizes → Sizes
 compared matching sizes = cond (is_count matching) short_sizes sizes
 
@@ -97,35 +97,35 @@ values_work names matching sizes keys = sizes.octets + keys_work names matching 
 
 -- ---- values
 
--- those of the fields of these names
+-- the sizes of the values of the fields with these names
 abbrev pub named_sizes : (List ℕ → Sizes) → List (List ℕ) → Sizes
 named_sizes sizes names = record { octets = sum_by (λ name. (sizes name).octets) names; count = sum_by (λ name. (sizes name).count) names }
 
 abbrev pub header_sizes : MailSpec → List (List ℕ) → Sizes
 header_sizes mail names = named_sizes (λ name. sizes_of (texts_of mail name)) names
 
--- addresses as `:all` has them
+-- the sizes of addresses as `:all` has them
 abbrev pub sizes_of_addresses : List Addr → Sizes
 sizes_of_addresses found = record { octets = sum_by (λ one. text_size (all_of one)) found; count = length found }
 
 abbrev pub address_sizes : MailSpec → List (List ℕ) → Sizes
 address_sizes mail names = named_sizes (λ name. sizes_of_addresses (addresses_of mail name)) names
 
--- those of the envelope that a test names
+-- the sizes of the envelope's addresses that a test names
 abbrev pub one_sizes : Bool → List ℕ → Sizes
 one_sizes asked address = cond asked (record { octets = text_size address; count = 1 }) no_sizes
 
 abbrev pub envelope_sizes : MailSpec → EnvelopeParts → Sizes
 envelope_sizes mail parts = sizes_and (one_sizes parts.from mail.from) (one_sizes parts.to mail.to)
 
--- the value that a date is read from: the first one, as it stands in the message
+-- the size of the value that a date is read from: the first one, as it is in the message
 abbrev pub first_size : List (List ℕ) → ℕ
 first_size [] = 0
 first_size (raw ∷ more) = text_size raw
 
 -- ---- tests
 
--- the work of names of fields, each of which is looked up
+-- the work of looking up fields by their names
 abbrev pub names_work : List (List ℕ) → ℕ
 names_work names = 16 * texts_size names
 
@@ -137,7 +137,7 @@ fields_work names matching sizes keys = names_work names + values_work (length n
 abbrev pub date_work : MailSpec → List ℕ → ℕ
 date_work mail field = 16 * (text_size field + first_size (raws_keyed mail.fields (lowered field)))
 
--- the work of a test that looks at the message, its envelope or the flags of the run. A key of `hasflag` may have a word at each octet
+-- the work of a test that looks at the message, its envelope or the flags of the run. A key of `hasflag` may have a word at every octet
 abbrev pub work_by : MailSpec → (flags : List (List ℕ)) → Check → ℕ
 work_by mail flags (Size size) = 1
 work_by mail flags (Exists names) = names_work names
@@ -149,21 +149,21 @@ work_by mail flags (Date test) = date_work mail test.field + keys_work 1 test.ma
 work_by mail flags (CurrentDate test) = keys_work 1 test.matching short_sizes test.keys
 work_by mail flags (HasFlag test) = texts_size flags + texts_size test.keys + sum_by (tried_work (texts_size flags)) test.keys
 
--- the same, of a run that has done this so far
+-- the same for a run that has done this so far
 abbrev pub work_at : MailSpec → RunState → Check → ℕ
 work_at mail so_far check = work_by mail so_far.flags check
 
--- sizes, where there are no more octets than may be
+-- these sizes, unless there are more than `most` octets
 abbrev pub IsWithin : ℕ → Sizes → Option Sizes → Type 0
 IsWithin most sizes None = most < sizes.octets
 IsWithin most sizes (Some found) = (found ≡ sizes) × ((found.octets ≤ most) × (found.count ≤ found.octets))
 
--- what is left of work that may be taken, behind this much, if it may be taken
+-- what is left of the work that may be taken, after this much, if that may be taken
 abbrev pub IsLeft : ℕ → ℕ → Option ℕ → Type 0
 IsLeft before work None = before < work
 IsLeft before work (Some left) = left + work ≡ before
 
--- the same where what is left is told apart: there was enough, or there wasn't
+-- the same, with whether there was enough
 abbrev pub IsPaid : Bool → ℕ → ℕ → ℕ → Type 0
 IsPaid true before work after = after + work ≡ before
 IsPaid false before work after = before < work

@@ -47,7 +47,7 @@ impl FieldValues for List<JoinedAddress> {
 
     ghost sizes_of = { sizes_of_addresses };
 
-    /// None where fields of the name have no addresses.
+    /// No addresses if fields with this name don't have any.
     fn read(
         alloc: Global,
         mail: &Mail<'_>,
@@ -92,14 +92,14 @@ impl FieldTest<List<JoinedAddress>> for Address {
     }
 }
 
-/// Whether fields of a name in lower case have addresses.
+/// Whether fields with a name, in lower case, have addresses.
 fn is_address_key(key: &[u8]) -> bool
     ensures { result ≡ is_address_key key.now }
 {
     ADDRESS_FIELDS.contains(&key)
 }
 
-/// The addresses in raw values, which are unfolded and not decoded. Linear in the values.
+/// The addresses in raw values, which are unfolded but not decoded. Linear in the values.
 fn addresses_in(alloc: Global, raws: &[&[u8]]) -> Result<List<JoinedAddress>, AllocError>
     ensures { IfOk result (λ found. found ≡ flat_map addrs (map unfold_of (map (λ raw. raw.now) raws.now))) }
 {
@@ -112,7 +112,7 @@ fn addresses_in(alloc: Global, raws: &[&[u8]]) -> Result<List<JoinedAddress>, Al
     Ok(found)
 }
 
-/// The sizes of addresses as `:all` has them, or None where they have more octets than may be.
+/// The sizes of addresses as `:all` has them, or `None` if they have more than `most` octets.
 fn address_sizes(found: &[JoinedAddress], most: u64) -> Option<Sizes>
     ensures { IsWithin most (sizes_of_addresses found.now) result }
 {
@@ -134,7 +134,7 @@ fn count_parts(part: AddressPart, found: &[JoinedAddress]) -> usize
     count
 }
 
-/// One where an address has this part.
+/// 1 if an address has this part, otherwise 0.
 fn count_part(part: AddressPart, one: &JoinedAddress) -> usize
     ensures count { result ≡ cond (has_part part one.now) 1 0 }
     ensures small { result ≤ 1 }
@@ -152,7 +152,7 @@ fn address_matches(address: &Address, found: &[JoinedAddress]) -> bool
     !found.is_empty() && key_matches(address, found)
 }
 
-/// Whether some key matches the part of some address. A key is made ready once for all addresses.
+/// Whether some key matches the part of some address. A key is prepared once for all addresses.
 fn key_matches(address: &Address, found: &[JoinedAddress]) -> bool
     ensures { result ≡ list_any (λ key. list_any (λ one. some_passes (matches_of (key_of address.now.comparator address.now.matching key)) (part_of address.now.part one)) found.now) address.now.keys }
 {

@@ -26,8 +26,8 @@ use sievesyntax::{
 use std::alloc::{AllocError, Global};
 use std::marker::Model;
 
-/// A mail in the course of a run: it keeps what tests have looked at, so that the size is counted once, and the values of a
-/// field are looked up, unfolded and decoded once for each name, however many tests ask, and not where none does. Contracts see
+/// A mail during a run: it keeps what tests have looked at, so that the size is counted at most once, and the values of a
+/// field are looked up, unfolded and decoded at most once for each name, however many tests ask for them. Contracts see
 /// the mail.
 #[derive(Drop)]
 pub struct CachedMail<'m, 'a> {
@@ -50,7 +50,7 @@ impl<'m, 'a> Model for CachedMail<'m, 'a> {
 }
 
 impl<'m, 'a> CachedMail<'m, 'a> {
-    /// Nothing is looked at yet. Takes no memory.
+    /// Nothing has been looked at yet. Takes no memory.
     pub fn new(alloc: Global, mail: &'m Mail<'a>) -> CachedMail<'m, 'a>
         ensures { result ≡ mail.now }
     {
@@ -65,9 +65,9 @@ impl<'m, 'a> CachedMail<'m, 'a> {
     /// Whether a test that looks at the message, its envelope or the flags of the run holds (RFC 5228, 5.1, 5.4, 5.5, 5.7, 5.9;
     /// RFC 5231; RFC 5232, 4; RFC 5260, 4 and 5; RFC 5490, 3.1).
     ///
-    /// A value is compared with each key: the time is that of `is`, `contains` or `matches` or one pass over both for each pair, and
-    /// where a test is the first to ask for a field, linear in the field's values besides. Each
-    /// `date` reads the one value that it looks at, and `hasflag` looks at the flags alone.
+    /// A value is compared with each key: for each pair the time is that of `is`, `contains` or `matches`, or of one pass over both, and
+    /// if a test is the first to ask for a field, also linear in the field's values. Each
+    /// `date` reads the one value that it looks at, and `hasflag` looks only at the flags.
     pub fn evaluate(
         &mut self,
         alloc: Global,
@@ -90,10 +90,10 @@ impl<'m, 'a> CachedMail<'m, 'a> {
         }
     }
 
-    /// What a test leaves of the work that may be taken, or None where it takes more (`specs/Work.antt`).
+    /// What a test leaves of the work that may be taken, or `None` if it takes more (`specs/Work.antt`).
     ///
-    /// The fields that the test looks at are read, where no test has asked for them yet: once a run, and linear in the message. No
-    /// value is compared. Linear in names and keys besides, and in the values of each name, up to the work that may be taken.
+    /// The fields that the test looks at are read if no test has asked for them yet: once in a run, and linear in the message. No
+    /// value is compared. Otherwise linear in names and keys, and in the values of each name, up to the work that may be taken.
     pub(crate) fn spend(
         &mut self,
         alloc: Global,
@@ -175,7 +175,7 @@ impl<'m, 'a> CachedMail<'m, 'a> {
         ))
     }
 
-    /// The mail's size, which is counted where it is asked for first.
+    /// The mail's size, which is counted when it is first asked for.
     fn size(&mut self) -> u64
         ensures size { result ≡ self.old.size }
         ensures kept { self.new ≡ self.old }
@@ -246,7 +246,7 @@ fn spend_date(
     Ok(spend_first(mail, test, &key, left))
 }
 
-/// The same of the field with this name in lower case.
+/// What `date` leaves, given the field's name in lower case.
 fn spend_first(mail: &Mail<'_>, test: &DateTest, key: &Octets, left: u64) -> Option<u64>
     ensures { IsLeft left (16 * (text_size test.now.field + first_size (raws_keyed mail.now.fields key.now)) + keys_work 1 test.now.matching short_sizes test.now.keys) result }
 {
@@ -276,7 +276,7 @@ fn is_beyond(wanted: Size, size: u64) -> bool
     }
 }
 
-/// Whether each name is that of a mailbox, for each such mailbox is there once something is filed into it. Linear; takes no memory.
+/// Whether each name is that of a mailbox: each such mailbox exists as soon as something is filed into it. Linear; takes no memory.
 fn are_mailboxes(names: &[Octets]) -> bool
     ensures { IsTrue result ↔ All IsMailbox names.now }
 {
@@ -303,7 +303,7 @@ fn count_named(mail: &Mail<'_>, test: &EnvelopeTest) -> u128
     sender + recipient
 }
 
-/// One where an address of the envelope is asked for and counted.
+/// 1 if an address of the envelope is asked for and counted, otherwise 0.
 fn count_one(asked: bool, part: AddressPart, address: &[u8]) -> u128
     ensures count { result ≡ cond (asked && is_counted part address.now) 1 0 }
     ensures small { result ≤ 1 }

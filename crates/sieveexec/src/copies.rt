@@ -6,7 +6,7 @@ use octets::{List, Octets};
 use sievesyntax::{ReplyFrom, VacArgs};
 use std::alloc::{AllocError, Global};
 
-/// The same address.
+/// Copies an address.
 pub(crate) fn copied_address(alloc: Global, address: &Addr) -> Result<Addr, AllocError>
     ensures { IfOk result (λ copy. copy ≡ address.now) }
 {
@@ -16,7 +16,7 @@ pub(crate) fn copied_address(alloc: Global, address: &Addr) -> Result<Addr, Allo
     })
 }
 
-/// The same arguments.
+/// Copies the arguments of `vacation`.
 pub(crate) fn copied_args(alloc: Global, args: &VacArgs) -> Result<VacArgs, AllocError>
     ensures { IfOk result (λ copy. copy ≡ args.now) }
 {

@@ -1,4 +1,4 @@
-//! What `date` and `currentdate` look at: the date of a field, and the moment of the delivery (RFC 5260, 4 and 5).
+//! What `date` and `currentdate` look at: the date of a field, and the moment of delivery (RFC 5260, 4 and 5).
 ghost use Rattle.std.specs.Prelude.{◌≡◌, ◌↔◌, IsTrue, None, Some, MatchOption, IfOk, IfSome, codes, nat_eq};
 ghost use Rattle.std.specs.Option.{option_and_then};
 ghost use Rattle.std.specs.Cmp.Lexicographic.{pointwise};
@@ -107,7 +107,7 @@ fn part_matches(
     Ok(matches_some(comparator, matching, keys, text.as_slice()))
 }
 
-/// A date by the clock of the zone that a test asks for; None where no year of 0 to 9999 has it.
+/// A date by the clock of the zone that a test asks for; `None` if its year there isn't from 0 to 9999.
 fn shown(mail: &Mail<'_>, zone: DateZone, date: DateTime) -> Option<DateTime>
     requires { IsDateTime date }
     ensures exact { MatchOption result ((other : DateTime) → IsShown mail.now zone date other → ⊥) (λ other. IsShown mail.now zone date other) }
@@ -127,7 +127,7 @@ fn is_zone(minutes: i16) -> bool
     -1440 < minutes && minutes < 1440
 }
 
-/// The same moment in another zone; None where the zone is none, and where no year of 0 to 9999 has it there.
+/// The same moment in another zone; `None` if that isn't a zone, or if the year there isn't from 0 to 9999.
 fn in_zone(date: DateTime, zone: i16) -> Option<DateTime>
     requires { IsDateTime date }
     ensures { MatchOption result ((other : DateTime) → IsSameMoment date zone other → ⊥) (λ other. IsSameMoment date zone other) }
@@ -138,7 +138,7 @@ fn in_zone(date: DateTime, zone: i16) -> Option<DateTime>
     date.in_zone(zone)
 }
 
-/// The date of a moment in a zone; None where the zone is none, and where the year there is past 9999.
+/// The date of a moment in a zone; `None` if that isn't a zone, or if the year there is past 9999.
 fn at_moment(moment: u64, zone: i16) -> Option<DateTime>
     ensures { MatchOption result ((date : DateTime) → IsMoment moment zone date → ⊥) (λ date. IsMoment moment zone date) }
 {
@@ -148,7 +148,7 @@ fn at_moment(moment: u64, zone: i16) -> Option<DateTime>
     DateTime::from_moment(moment, zone)
 }
 
-/// The date in the first field of a name, whose ASCII case is ignored. Linear in its value.
+/// The date in the first field with a name, whose ASCII case is ignored. Linear in its value.
 fn field_date(alloc: Global, mail: &Mail<'_>, name: &[u8]) -> Result<Option<DateTime>, AllocError>
     ensures is { IfOk result (λ found. found ≡ dates.field_date mail.now name.now) }
     ensures valid { IfOk result (λ found. IfSome found IsDateTime) }
@@ -175,7 +175,7 @@ fn date_in(key: &[u8], value: &[u8]) -> Option<DateTime>
     }
 }
 
-/// What stands behind the last semicolon of a text (RFC 5322, 3.6.7). Linear; takes no memory.
+/// What follows the last semicolon of a text (RFC 5322, 3.6.7). Linear; takes no memory.
 fn behind_last(text: &[u8]) -> Option<&[u8]>
     ensures { MatchOption result (dates.behind_last text.now ≡ None) (λ behind. dates.behind_last text.now ≡ Some behind.now) }
 {

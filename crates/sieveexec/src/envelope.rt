@@ -8,7 +8,7 @@ use octets::Octets;
 use sievesyntax::AddressPart;
 use std::alloc::{AllocError, Global};
 
-/// The addresses with which a message was received, as they were written; the null reverse-path is the empty text.
+/// The addresses with which a message was received, as they were written; the null reverse-path is empty.
 #[derive(Debug, Drop)]
 pub struct Envelope {
     /// The sender (RFC 5321, 4.1.1.2).
@@ -29,10 +29,10 @@ impl Envelope {
     }
 }
 
-/// A part of an address of the envelope, which is cut at its last `@` and is a local part alone where there is none; None for
+/// A part of an address of the envelope, which is cut at its last `@`, and is only a local part if there is none; `None` for
 /// the detail of a local part without `+`.
 ///
-/// The null reverse-path is empty under each part (RFC 5228, 5.4). Linear in the address; takes no memory.
+/// Each part of the null reverse-path is empty (RFC 5228, 5.4). Linear in the address; takes no memory.
 pub(crate) fn part_in(part: AddressPart, address: &[u8]) -> Option<&[u8]>
     ensures { MatchOption result (part_in part address.now ≡ None) (λ text. part_in part address.now ≡ Some text.now) }
 {
@@ -46,7 +46,7 @@ pub(crate) fn part_in(part: AddressPart, address: &[u8]) -> Option<&[u8]>
     }
 }
 
-/// What stands before the last `@` of an address of the envelope, or all of it where it has none. Linear; takes no memory.
+/// What precedes the last `@` of an address of the envelope, or all of it if it has none. Linear; takes no memory.
 pub fn local_in(address: &[u8]) -> &[u8]
     ensures { result.now ≡ local_of address.now }
 {
@@ -56,7 +56,7 @@ pub fn local_in(address: &[u8]) -> &[u8]
     }
 }
 
-/// What stands after the last `@` of an address of the envelope; empty where it has none. Linear; takes no memory.
+/// What follows the last `@` of an address of the envelope; empty if it has none. Linear; takes no memory.
 pub fn domain_in(address: &[u8]) -> &[u8]
     ensures { result.now ≡ domain_of address.now }
 {

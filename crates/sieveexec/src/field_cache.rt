@@ -12,7 +12,7 @@ use std::collections::BTreeMap;
 use std::marker::Model;
 use std::mem;
 
-/// What is read of the fields of a name.
+/// What is read from the fields with a name.
 pub trait FieldValues: Sized + Drop {
     ghost use Rattle.std.specs.Prelude.{◌≡◌, ℕ, List, IfOk};
     ghost use Rattle.sieveexec.specs.declared.sizes.Sizes.{Sizes};
@@ -23,16 +23,16 @@ pub trait FieldValues: Sized + Drop {
 
     ghost sizes_of: { Self → Sizes };
 
-    /// Reads the fields of a name in lower case.
+    /// Reads the fields with a name, in lower case.
     fn read(alloc: Global, mail: &Mail<'_>, key: &Octets) -> Result<Self, AllocError>
         ensures { IfOk result (λ values. values ≡ keyed mail.now key.now) };
 
-    /// How large the values are, or None where they have more octets than may be.
+    /// How large the values are, or `None` if they have more than `most` octets.
     fn sizes(&self, most: u64) -> Option<Sizes>
         ensures { IsWithin most (sizes_of self.now) result };
 }
 
-/// A test that looks at what is read of fields.
+/// A test that looks at what is read from fields.
 pub trait FieldTest<V: FieldValues> {
     ghost use Rattle.std.specs.Prelude.{◌≡◌, ℕ, List, Bool};
 
@@ -46,21 +46,21 @@ pub trait FieldTest<V: FieldValues> {
     fn fields(&self) -> &[Octets]
         ensures { result.now ≡ names self.now };
 
-    /// Whether the test holds of what was read of the fields of one name.
+    /// Whether the test holds of what was read from the fields with one name.
     fn holds_of(&self, values: &V) -> bool
         ensures { result ≡ passes self.now values.now };
 
-    /// How many values the test counts in what was read of the fields of one name.
+    /// How many values the test counts in what was read from the fields with one name.
     fn count_of(&self, values: &V) -> usize
         ensures { result ≡ counted self.now values.now };
 }
 
-/// What is read of the fields of a mail that some test asked for. Contracts see the mail.
+/// What was read from the fields of a mail that some test asked for. Contracts see the mail.
 #[derive(Drop)]
 pub struct FieldCache<'m, 'a, V: FieldValues> {
     mail: &'m Mail<'a>,
     known: BTreeMap<Octets, V>,
-    /// Room for a name in lower case, asked for once and not at each test.
+    /// Room for a name in lower case, which is reserved once and reused.
     room: Vec<u8>,
 }
 
@@ -76,7 +76,7 @@ impl<'m, 'a, V: FieldValues> Model for FieldCache<'m, 'a, V> {
 }
 
 impl<'m, 'a, V: FieldValues> FieldCache<'m, 'a, V> {
-    /// No test asked for anything yet. Takes no memory.
+    /// No test has asked for anything yet. Takes no memory.
     pub(crate) fn new(alloc: Global, mail: &'m Mail<'a>) -> FieldCache<'m, 'a, V>
         ensures { result ≡ mail.now }
     {
@@ -87,7 +87,7 @@ impl<'m, 'a, V: FieldValues> FieldCache<'m, 'a, V> {
         }
     }
 
-    /// A name in lower case, in the room.
+    /// A name in lower case, written into the room.
     fn key_of(&mut self, alloc: Global, name: &[u8]) -> Result<Octets, AllocError>
         ensures key { IfOk result (λ key. key ≡ lowered name.now) }
         ensures kept { self.new ≡ self.old }
@@ -99,7 +99,7 @@ impl<'m, 'a, V: FieldValues> FieldCache<'m, 'a, V> {
         Ok(Octets::from_vec(key))
     }
 
-    /// Whether a test holds of the fields of some of its names. The fields of a name are read when the first test asks for them.
+    /// Whether a test holds of the fields with one of its names. The fields with a name are read when the first test asks for them.
     pub(crate) fn holds<T: FieldTest<V>>(
         &mut self,
         alloc: Global,
@@ -116,7 +116,7 @@ impl<'m, 'a, V: FieldValues> FieldCache<'m, 'a, V> {
         Ok(false)
     }
 
-    /// How large the values of the fields of these names are, or None where they have more octets than may be.
+    /// How large the values of the fields with these names are, or `None` if they have more than `most` octets.
     pub(crate) fn sizes(
         &mut self,
         alloc: Global,
@@ -139,7 +139,7 @@ impl<'m, 'a, V: FieldValues> FieldCache<'m, 'a, V> {
         Ok(Some(sizes))
     }
 
-    /// How large the values of the fields of a name are, whose ASCII case is ignored.
+    /// How large the values of the fields with a name are, whose ASCII case is ignored.
     fn sizes_at(
         &mut self,
         alloc: Global,
@@ -161,7 +161,7 @@ impl<'m, 'a, V: FieldValues> FieldCache<'m, 'a, V> {
         Ok(sizes)
     }
 
-    /// How many values a test counts in the fields of all its names.
+    /// How many values a test counts in the fields with its names.
     pub(crate) fn count<T: FieldTest<V>>(
         &mut self,
         alloc: Global,
@@ -177,7 +177,7 @@ impl<'m, 'a, V: FieldValues> FieldCache<'m, 'a, V> {
         Ok(total)
     }
 
-    /// How many values a test counts in the fields of a name, whose ASCII case is ignored.
+    /// How many values a test counts in the fields with a name, whose ASCII case is ignored.
     fn count_at<T: FieldTest<V>>(
         &mut self,
         alloc: Global,
@@ -199,7 +199,7 @@ impl<'m, 'a, V: FieldValues> FieldCache<'m, 'a, V> {
         Ok(count)
     }
 
-    /// Whether a test holds of the fields of a name, whose ASCII case is ignored.
+    /// Whether a test holds of the fields with a name, whose ASCII case is ignored.
     fn holds_at<T: FieldTest<V>>(
         &mut self,
         alloc: Global,

@@ -12,8 +12,8 @@ use sievesyntax::{HasFlag, Matching};
 
 /// Whether `hasflag` holds of these flags (RFC 5232, 4; RFC 5231, 4.2).
 ///
-/// Each flag is compared with each key, or with each word of the keys, which are not copied: the time is that of `is`, `contains`
-/// or `matches` or one pass over both for each pair. Takes no memory.
+/// Each flag is compared with each key, or with each word of the keys, which are not copied: for each pair the time is that of `is`,
+/// `contains` or `matches`, or of one pass over both. Takes no memory.
 pub(crate) fn flag_holds(flags: &[Octets], test: &HasFlag) -> bool
     ensures { result ≡ truth.flag_holds flags.now test.now }
 {
@@ -66,7 +66,7 @@ fn matches_words(test: &HasFlag, text: &[u8], flag: &[u8]) -> bool
         .any(|word| matches_word(test, word, flag))
 }
 
-/// Whether a flag matches a word; what is empty is none.
+/// Whether a flag matches a word; an empty text isn't a word.
 fn matches_word(test: &HasFlag, word: &[u8], flag: &[u8]) -> bool
     ensures { result ≡ is_some_of word.now && matches_key_of test.now.comparator test.now.matching word.now flag.now }
 {

@@ -87,7 +87,7 @@ fn text_matches(header: &Header, texts: &[Octets]) -> bool
     !texts.is_empty() && key_matches(header, texts)
 }
 
-/// Whether some key matches some text. A key is made ready once for all texts.
+/// Whether some key matches some text. A key is prepared once for all texts.
 fn key_matches(header: &Header, texts: &[Octets]) -> bool
     ensures { result ≡ list_any (λ key. list_any (matches_of (key_of header.now.comparator header.now.matching key)) texts.now) header.now.keys }
 {

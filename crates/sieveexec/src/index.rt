@@ -9,7 +9,7 @@ use octets::{Octets, lowered};
 use std::alloc::{AllocError, Global};
 use std::collections::BTreeMap;
 
-/// The raw values of the fields of each name, by the name in lower case.
+/// The raw values of the fields with each name, by the name in lower case.
 ///
 /// For n fields n log n comparisons of names; memory for a slice for each field and a copy of each name.
 pub(crate) fn index_of<'a>(

@@ -10,7 +10,7 @@ use sievesyntax::AddressPart;
 use std::alloc::{AllocError, Global};
 use std::marker::Model;
 
-/// An address as `:all` compares it, and where its `@` stands. Contracts see the address.
+/// An address as `:all` compares it, and where its `@` is. Contracts see the address.
 #[derive(Drop)]
 pub struct JoinedAddress {
     all: Octets,
@@ -31,7 +31,7 @@ impl Model for JoinedAddress {
 }
 
 impl JoinedAddress {
-    /// Writes an address out.
+    /// Writes out an address.
     pub(crate) fn of(alloc: Global, address: &Addr) -> Result<JoinedAddress, AllocError>
         ensures { IfOk result (λ joined. joined ≡ address.now) }
     {
@@ -41,14 +41,14 @@ impl JoinedAddress {
         })
     }
 
-    /// How many octets it has as `:all` compares it.
+    /// The number of its octets as `:all` compares it.
     pub(crate) fn len(&self) -> usize
         ensures { result ≡ length (all_of self.now) }
     {
         self.all.len()
     }
 
-    /// A part of the address (RFC 5228, 2.7.4; RFC 5233, 4); None for the detail of a local part without `+`.
+    /// A part of the address (RFC 5228, 2.7.4; RFC 5233, 4); `None` for the detail of a local part without `+`.
     pub(crate) fn part(&self, part: AddressPart) -> Option<&[u8]>
         ensures { MatchOption result (part_of part self.now ≡ None) (λ text. part_of part self.now ≡ Some text.now) }
     {

@@ -19,7 +19,7 @@ ghost use Rattle.sieveexec.specs.Parts.{IsUser, IsDetail, user_of, detail_of, Cu
 ghost use Rattle.sieveexec.specs.Holding.{TestHolds};
 ghost use Rattle.sieveexec.specs.Truth.{truth_at, truth_by};
 
-/// A test that looks at the message, its envelope or the flags is true exactly where it holds.
+/// A test that looks at the message, its envelope or the flags is true exactly if it holds.
 pub fn truth_of_a_check()
     ensures { (mail : MailSpec) (so_far : RunState) (check : Check) → IsTrue (truth_at mail so_far check) ↔ TestHolds mail so_far.flags check }
 {}
@@ -29,39 +29,39 @@ pub fn truth_without_flags()
     ensures { (mail : MailSpec) (one other : List (List ℕ)) (check : Check) → IsUnflaggedCheck check → truth_by mail one check ≡ truth_by mail other check }
 {}
 
-/// So a text that meant a tree in that language comes on every mail to what it came to then, when tests asked the mail alone, but for
-/// the limit of work.
+/// So a text that meant a tree in that language has on every mail the outcome that it had then, when tests looked only at the mail,
+/// apart from the limit of work.
 pub fn outcome_without_flags()
     ensures { (mail : MailSpec) (text : List ℕ) (tree : Commands) → MeansIn unflagged text tree
         → outcome_at mail tree ≡ within_work (work_of mail tree) (outcome_in unflagged (λ so_far. truth_by mail []) tree) }
 {}
 
-/// What a script comes to on a message depends on the message's fields and its size alone.
+/// The outcome of a script on a message depends only on the message's fields and its size.
 pub fn outcome_by_fields_and_size()
     ensures { (one other : List ℕ) (envelope : Envelope) (when : When) (tree : Commands) → fields_of one ≡ fields_of other → size_of one ≡ size_of other
         → outcome_at (mail_of one envelope when) tree ≡ outcome_at (mail_of other envelope when) tree }
 {}
 
-/// So it comes to the same on a front of the message that has an empty line, with the message's size.
+/// So its outcome is the same on a prefix of the message that has an empty line, given the message's size.
 pub fn outcome_of_a_front()
     ensures { (front message : List ℕ) (envelope : Envelope) (when : When) (tree : Commands) → HasHeaderOf front message
         → outcome_at (with_size (Some (size_of message)) (mail_of front envelope when)) tree ≡ outcome_at (mail_of message envelope when) tree }
 {}
 
-/// An address of the envelope is cut in one way.
+/// An address of the envelope is cut in exactly one way.
 pub fn parts_of_an_address()
     ensures found { (text : List ℕ) → Cuts text (local_of text) (domain_of text) }
     ensures only { (text local domain : List ℕ) → Cuts text local domain → (local ≡ local_of text) × (domain ≡ domain_of text) }
 {}
 
-/// A local part has one user and at most one detail (RFC 5233, 4).
+/// A local part has exactly one user and at most one detail (RFC 5233, 4).
 pub fn parts_of_a_local_part()
     ensures user { (local : List ℕ) → IsUser local (user_of local) }
     ensures only { (local user : List ℕ) → IsUser local user → user ≡ user_of local }
     ensures detail { (local detail : List ℕ) → IsDetail local detail ↔ detail_of local ≡ Some detail }
 {}
 
-/// A name that is no field's name, empty or with an octet that can't stand in one, names no field.
+/// A name that can't be a field's name, since it is empty or has an octet that such a name can't have, names no field.
 pub fn invalid_names()
     ensures { (message : List ℕ) (envelope : Envelope) (when : When) (name : List ℕ) → (list_all is_name name ≡ false) ⊎ (name ≡ [])
         → values_of (mail_of message envelope when) name ≡ [] }

@@ -1,4 +1,4 @@
-//! A message with its envelope, as the tests of a script see it, and what a script comes to on it (RFC 5228, 4 and 5).
+//! A message with its envelope, as the tests of a script see it, and the outcome of a script on it (RFC 5228, 4 and 5).
 #![tactic(auto)]
 
 mod address;

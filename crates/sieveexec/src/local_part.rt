@@ -4,7 +4,7 @@ ghost use Rattle.sieveexec.specs.Parts.{user_of, detail_of};
 
 use memchr::memchr;
 
-/// What stands before the first `+`, or all of it where it has none. Linear in the local part; takes no memory.
+/// What precedes the first `+`, or all of it if it has none. Linear in the local part; takes no memory.
 pub(crate) fn user_in(local: &[u8]) -> &[u8]
     ensures { result.now ≡ user_of local.now }
 {
@@ -14,7 +14,7 @@ pub(crate) fn user_in(local: &[u8]) -> &[u8]
     }
 }
 
-/// What stands after the first `+`; None where it has none. Linear in the local part; takes no memory.
+/// What follows the first `+`; `None` if it has none. Linear in the local part; takes no memory.
 pub(crate) fn detail_in(local: &[u8]) -> Option<&[u8]>
     ensures { MatchOption result (detail_of local.now ≡ None) (λ detail. detail_of local.now ≡ Some detail.now) }
 {

@@ -16,7 +16,7 @@ use crate::work::MAX_WORK;
 use sievecode::{Code, Instr};
 use std::alloc::{AllocError, Global};
 
-/// What comes after a turn.
+/// What an instruction leads to.
 pub enum Turn {
     /// The run goes on at this place.
     Next(usize),
@@ -38,13 +38,13 @@ pub struct Machine<'m, 'a> {
 
 /// Runs the code of a script on a mail (RFC 5228, 2.10 and 3).
 ///
-/// It makes at most as many turns as the code is long. A field's values are looked up and decoded once for each
-/// name, however many tests ask. The work of a test is known before its values are compared; where the tests that are asked take more
-/// than [`MAX_WORK`] together, the run fails, and the test that passes it isn't asked.
+/// It takes at most as many steps as the code is long. A field's values are looked up and decoded once for each
+/// name, however many tests ask for them. The work of a test is known before its values are compared; if the tests that are evaluated
+/// would take more than [`MAX_WORK`] together, the run fails, and the test that would exceed it isn't evaluated.
 ///
 /// # Errors
 ///
-/// [`AllocError`] where memory was refused.
+/// [`AllocError`] if an allocation failed.
 pub fn run(alloc: Global, code: &Code<'_>, mail: &Mail<'_>) -> Result<Outcome, AllocError>
     ensures { IfOk result (λ done. Some (outcome_view done) ≡ jumps (truth_at mail.now) (work_at mail.now) code.now (length code.now)) }
 {
@@ -86,7 +86,7 @@ impl<'m, 'a> Machine<'m, 'a> {
         Outcome::Failed(failure)
     }
 
-    /// Takes the work of an instruction from what is left, and says whether there was enough.
+    /// Takes the work of an instruction from what is left, and returns whether there was enough.
     fn pay(&mut self, alloc: Global, instr: &Instr<'_>) -> Result<bool, AllocError>
         ensures paid { IfOk result (λ enough. IsPaid enough self.old.left (instr_work (work_at self.old.cached) (instr_view instr.now) (run_state_of self.old.state)) self.new.left) }
         ensures cached { OnOk result (self.new.cached ≡ self.old.cached) }
@@ -105,7 +105,7 @@ impl<'m, 'a> Machine<'m, 'a> {
         Ok(true)
     }
 
-    /// One turn: the instruction at this place is carried out.
+    /// One step: carries out the instruction at this place.
     fn turn(&mut self, alloc: Global, instr: &Instr<'_>, place: usize) -> Result<Turn, AllocError>
         requires { place + 1 < 2 ^ 64 }
         ensures turn { IfOk result (λ turn. (next : Run) →

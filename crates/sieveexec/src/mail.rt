@@ -16,7 +16,7 @@ use std::alloc::{AllocError, Global};
 use std::collections::BTreeMap;
 use std::marker::Model;
 
-/// A message with its envelope (RFC 5228, 2.4.2) and when it is delivered. It borrows the message and copies nothing of it but
+/// A message with its envelope (RFC 5228, 2.4.2) and when it is delivered. It borrows the message and copies only
 /// the names of its fields. Contracts see the fields, the envelope's addresses, the size, the octets, the moment and the zone.
 #[derive(Drop)]
 pub struct Mail<'a> {
@@ -42,7 +42,7 @@ impl<'a> Model for Mail<'a> {
 impl<'a> Mail<'a> {
     /// Reads the header of a message.
     ///
-    /// One pass over the header; the body isn't looked at, nothing is copied but names, and no value is unfolded or decoded.
+    /// One pass over the header; the body isn't looked at, only names are copied, and no value is unfolded or decoded.
     /// For n fields n log n comparisons of names.
     pub fn read(
         alloc: Global,
@@ -55,10 +55,10 @@ impl<'a> Mail<'a> {
         read_counted(alloc, message, envelope, when, None)
     }
 
-    /// Reads the header of a message of which a front is here and the size is known. What it reads is the front's, but for the size.
+    /// Reads the header of a message of which only a prefix is here, but the size is known. All but the size is that of the prefix.
     ///
-    /// Where the front has an empty line a script comes to the same on it as on the message (`laws::outcome_of_a_front`). Otherwise
-    /// as `read`.
+    /// If the prefix has an empty line, the outcome of a script on it is that on the message (`laws::outcome_of_a_front`). Otherwise
+    /// like `read`.
     pub fn read_front(
         alloc: Global,
         front: &'a [u8],
@@ -96,21 +96,21 @@ impl<'a> Mail<'a> {
         }
     }
 
-    /// The envelope's sender, as it was written; empty for the null reverse-path.
+    /// The envelope's sender as it was written; empty for the null reverse-path.
     pub fn from(&self) -> &[u8]
         ensures { result.now ≡ self.now.from }
     {
         self.envelope.from.as_slice()
     }
 
-    /// The envelope's recipient, as it was written.
+    /// The envelope's recipient as it was written.
     pub fn to(&self) -> &[u8]
         ensures { result.now ≡ self.now.to }
     {
         self.envelope.to.as_slice()
     }
 
-    /// The moment of the delivery, in seconds since 1970-01-01 UTC.
+    /// The moment of delivery, in seconds since 1970-01-01 UTC.
     pub fn moment(&self) -> u64
         ensures { result ≡ self.now.moment }
     {
@@ -125,23 +125,23 @@ impl<'a> Mail<'a> {
         self.when.zone
     }
 
-    /// The raw values of the fields that have this name in lower case; none where no field has it.
+    /// The raw values of the fields that have this name, in lower case; `None` if no field has it.
     ///
-    /// No pass over the fields: log n comparisons of names where the fields have n names.
+    /// No pass over the fields: log n comparisons of names if the fields have n names.
     pub(crate) fn raws(&self, key: &Octets) -> Option<&RawValues<'a>>
         ensures { unwrap_or (option_copied result) [] ≡ raws_keyed self.now.fields key.now }
     {
         self.index.get(key)
     }
 
-    /// The raw value of the first field that has this name in lower case.
+    /// The raw value of the first field that has this name, in lower case.
     pub(crate) fn first_raw(&self, key: &Octets) -> Option<&'a [u8]>
         ensures { MatchOption result (raws_keyed self.now.fields key.now ≡ []) (λ raw. (more : List (List ℕ)) × (raws_keyed self.now.fields key.now ≡ raw.now ∷ more)) }
     {
         self.raws(key)?.as_slice().first().copied()
     }
 
-    /// Whether some field has this name in lower case.
+    /// Whether some field has this name, in lower case.
     pub(crate) fn has(&self, key: &Octets) -> bool
         ensures { result ≡ is_some_there (raws_keyed self.now.fields key.now) }
     {
@@ -151,7 +151,7 @@ impl<'a> Mail<'a> {
         }
     }
 
-    /// Whether fields of all these names are there (RFC 5228, 5.5).
+    /// Whether there are fields with all these names (RFC 5228, 5.5).
     pub(crate) fn all_exist(&self, alloc: Global, names: &[Octets]) -> Result<bool, AllocError>
         ensures { IfOk result (λ there. there ≡ all_exist self.now names.now) }
     {
@@ -164,7 +164,7 @@ impl<'a> Mail<'a> {
     }
 }
 
-/// Reads the header of a message, whose size is counted or, where it is known, this one.
+/// Reads the header of a message, whose size is counted unless it is known.
 fn read_counted(
     alloc: Global,
     message: &[u8],

@@ -7,11 +7,11 @@ ghost use Rattle.sievesyntax.specs.RunState.{is_filed as is_filed_in, has_room a
 use mailflags::Placement;
 use std::alloc::AllocError;
 
-/// Into how many mailboxes a run files a message at most, that of the implicit keep among them. Each costs a row of the store and
-/// a file of a Maildir, and otherwise the length of a script alone would limit them; nobody sorts one message into so many.
+/// The most mailboxes into which a run files a message, including that of the implicit keep. Each costs a row of the store and
+/// a file of a Maildir, and without this limit only the length of a script would limit them; nobody sorts one message into this many.
 const MAX_MAILBOXES: usize = 100;
 
-/// Whether the message may go into a mailbox: one more may be, or it goes there already. At most 100 comparisons of names.
+/// Whether the message may go into a mailbox: one more is allowed, or it goes there already. At most 100 comparisons of names.
 pub(crate) fn has_room(filed: &[Placement], mailbox: &[u8]) -> bool
     ensures { result ≡ has_room_for filed.now mailbox.now }
 {
@@ -25,7 +25,7 @@ fn is_filed(filed: &[Placement], mailbox: &[u8]) -> bool
     filed.iter().any(|there| is_in(there, mailbox))
 }
 
-/// One copy more; where its mailbox has one, this one stands in its place. At most 100 comparisons of names.
+/// Adds a copy; if its mailbox has one already, this one replaces it. At most 100 comparisons of names.
 pub(crate) fn file(filed: &mut Vec<Placement>, one: Placement) -> Result<(), AllocError>
     ensures { OnOk result (filed.new.items ≡ with_filed filed.old.items one) }
 {
@@ -41,7 +41,7 @@ pub(crate) fn file(filed: &mut Vec<Placement>, one: Placement) -> Result<(), All
     }
 }
 
-/// Which of these copies is in a mailbox, if one is.
+/// The index of the copy that is in a mailbox, if one is.
 fn place_of(filed: &[Placement], mailbox: &[u8]) -> Option<usize>
     ensures { result ≡ position (λ there. pointwise nat_eq there.mailbox mailbox.now) filed.now }
 {

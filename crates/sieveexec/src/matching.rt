@@ -33,7 +33,7 @@ pub(crate) fn count_matches(
     matches_some(collation, matching, keys, buffer.format(count).as_bytes())
 }
 
-/// Whether a value matches some key. For each key the time is that of `is`, `contains`, `matches` or one pass over both; no memory.
+/// Whether a value matches some key. For each key the time is that of `is`, `contains`, `matches` or of one pass over both; no memory.
 pub(crate) fn matches_some(
     collation: Collation,
     matching: Matching,
@@ -78,7 +78,7 @@ fn matches_by_image<C: Comparator>(matching: Matching, key: &[u8], value: &[u8])
     }
 }
 
-/// A number has no parts, and no valid script looks for one.
+/// Whether a value matches a key by number. A number has no parts, and no valid script looks for one.
 fn matches_by_number(matching: Matching, key: &[u8], value: &[u8]) -> bool
     ensures { result ≡ matches_by_number matching key.now value.now }
 {
@@ -91,7 +91,7 @@ fn matches_by_number(matching: Matching, key: &[u8], value: &[u8]) -> bool
     }
 }
 
-/// Whether what stands so is in a relation (RFC 5231, 4).
+/// Whether two values that are ordered like this are in a relation (RFC 5231, 4).
 fn relates(relation: Relation, ordering: Ordering) -> bool
     ensures { result ≡ relates relation ordering }
 {

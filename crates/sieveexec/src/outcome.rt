@@ -1,20 +1,20 @@
-//! What a script comes to.
+//! The outcome of a script.
 use addrparts::Addr;
 use mailflags::Placement;
 use octets::List;
 use sievesyntax::VacArgs;
 
-/// What a script comes to on a message.
+/// The outcome of a script on a message.
 #[derive(Drop)]
 pub enum Outcome {
     /// The script was run to its end or to a `stop`.
     Done {
-        /// The mailboxes that the message goes into, each once, in the order of the first command that says so, and with the
+        /// The mailboxes that the message goes into, each once, in the order of the first command that says so, with the
         /// flags that the last one gives the copy; the implicit keep comes last (RFC 5228, 2.10.2 and 2.10.3; RFC 5232, 5).
         filed: List<Placement>,
         /// The addresses that the message is sent to, each once, in the order of the first command that says so.
         sent: List<Addr>,
-        /// What the sender is answered, if `vacation` was executed (RFC 5230).
+        /// The arguments of the `vacation` that was executed, if one was (RFC 5230).
         reply: Option<VacArgs>,
     },
     /// A run-time error: no action of the script is carried out (RFC 5228, 2.10.6).
@@ -26,10 +26,10 @@ pub enum Outcome {
 pub enum Failure {
     /// A second `vacation` was executed (RFC 5230, 4.7).
     TwoVacations,
-    /// A seventeenth address was to be sent to.
+    /// The message was to be sent to a seventeenth address.
     TooManyRedirects,
-    /// The message was to go into a hundred and first mailbox, be it by the implicit keep.
+    /// The message was to go into a hundred and first mailbox, perhaps by the implicit keep.
     TooManyMailboxes,
-    /// The tests that were asked take more work than a run may.
+    /// The tests that were evaluated take more work than a run may.
     TooMuchWork,
 }

@@ -1,4 +1,4 @@
-//! The raw values of the fields of one name.
+//! The raw values of the fields with one name.
 ghost use Rattle.std.specs.Prelude.{◌≡◌, [], ◌∷◌, ◌++◌, map, not, OnOk};
 ghost use Rattle.sieveexec.specs.Truth.{is_some_there};
 
@@ -29,7 +29,7 @@ impl<'a> RawValues<'a> {
         }
     }
 
-    /// One value more.
+    /// Appends a value.
     pub(crate) fn push(&mut self, raw: &'a [u8]) -> Result<(), AllocError>
         ensures { OnOk result (self.new ≡ self.old ++ raw.now ∷ []) }
     {

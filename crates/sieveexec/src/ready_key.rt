@@ -7,13 +7,13 @@ use collation::{AsciiCasemap, Masks, Octet, contains_places, places_of};
 use sievesyntax::{Collation, Matching};
 use std::marker::Model;
 
-/// A key of a test, made ready to be compared with many values. Contracts see the key, and how it is compared.
+/// A key of a test, prepared to be compared with many values. Contracts see the key, and how it is compared.
 #[derive(Drop)]
 pub(crate) struct ReadyKey<'k> {
     collation: Collation,
     matching: Matching,
     key: &'k [u8],
-    /// For `:contains`, the places of a key that isn't too long for them.
+    /// For `:contains`, the places of the key, unless it is too long for them.
     places: Option<Masks>,
 }
 
@@ -29,7 +29,7 @@ impl<'k> Model for ReadyKey<'k> {
 }
 
 impl<'k> ReadyKey<'k> {
-    /// Linear in the key.
+    /// Prepares a key. Linear in the key.
     pub(crate) fn new(collation: Collation, matching: Matching, key: &'k [u8]) -> ReadyKey<'k>
         ensures { result ≡ key_of collation matching key.now }
     {
@@ -41,8 +41,8 @@ impl<'k> ReadyKey<'k> {
         }
     }
 
-    /// Whether a value matches the key. The time is that of one pass over the value for `:contains`, where the key isn't too long, and
-    /// of `is`, `contains`, `matches` or one pass over both otherwise; no memory.
+    /// Whether a value matches the key. The time is that of one pass over the value for `:contains`, if the key isn't too long, and
+    /// otherwise of `is`, `contains`, `matches` or one pass over both; no memory.
     pub(crate) fn matches(&self, value: &[u8]) -> bool
         ensures { result ≡ matches_of self.now value.now }
     {
@@ -53,7 +53,7 @@ impl<'k> ReadyKey<'k> {
     }
 }
 
-/// The places of a key that is looked for.
+/// The places of a key, if it is searched for.
 fn places_for(collation: Collation, matching: Matching, key: &[u8]) -> Option<Masks>
     ensures { IfSome result (λ places. IsReady collation matching key.now places) }
 {

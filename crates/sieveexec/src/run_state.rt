@@ -17,7 +17,7 @@ use std::alloc::{AllocError, Global};
 /// The mailbox of `keep`, of the implicit keep, and of a message that no script files.
 pub const INBOX: &[u8] = b"INBOX";
 
-/// To how many addresses a run sends a message at most.
+/// The most addresses to which a run sends a message.
 const MAX_TARGETS: usize = 16;
 
 /// What a run has done so far.
@@ -26,7 +26,7 @@ pub struct RunState {
     /// The mailboxes that the message goes into, each once, in the order of the first command that says so, with the flags that
     /// the last one gives the copy.
     pub filed: Vec<Placement>,
-    /// The flags as they stand (RFC 5232, 3).
+    /// The flags that are set (RFC 5232, 3).
     pub flags: Flags,
     /// The addresses that the message is sent to, each once, in the order of the first command that says so.
     pub sent: List<Addr>,
@@ -39,7 +39,7 @@ pub struct RunState {
 impl RunState {
     ghost use Rattle.sieveexec.specs.Runs.{run_state_of, flow_of, outcome_view};
 
-    /// Nothing. Takes no memory.
+    /// Nothing has been done yet. Takes no memory.
     pub(crate) fn new(alloc: Global) -> RunState
         ensures { run_state_of result ≡ at_first }
     {
@@ -52,7 +52,7 @@ impl RunState {
         }
     }
 
-    /// Carries out an action, or says why the run fails (RFC 5228, 4; RFC 5230; RFC 5232, 3 and 5).
+    /// Carries out an action, or returns why the run fails (RFC 5228, 4; RFC 5230; RFC 5232, 3 and 5).
     pub(crate) fn act(
         &mut self,
         alloc: Global,
@@ -91,7 +91,7 @@ impl RunState {
         }
     }
 
-    /// The outcome of a run that is over: the implicit keep comes last, with the flags as they stand.
+    /// The outcome of a run that is over: the implicit keep comes last, with the flags that are set then.
     pub(crate) fn finish(mut self, alloc: Global) -> Result<Outcome, AllocError>
         ensures { IfOk result (λ done. outcome_view done ≡ ended (Going (run_state_of self))) }
     {
@@ -128,7 +128,7 @@ impl RunState {
         Ok(None)
     }
 
-    /// The text of the flags that a command gives a copy: those of its `:flags`, and else as they stand (RFC 5232, 5).
+    /// The text of the flags that a command gives a copy: those of its `:flags`, or otherwise those that are set (RFC 5232, 5).
     fn flags_given(&self, alloc: Global, given: &Option<Texts>) -> Result<Octets, AllocError>
         ensures { IfOk result (λ text. text ≡ flags_given_of given.now (run_state_of self.now)) }
     {
@@ -186,7 +186,7 @@ fn is_same(there: &Addr, target: &Addr) -> bool
         && there.domain.as_slice() == target.domain.as_slice()
 }
 
-/// The mailbox that a name means: `INBOX` in any ASCII case is `INBOX`, others are taken as they are.
+/// The mailbox that a name means: `INBOX` in any ASCII case is `INBOX`, other names are taken as they are.
 fn mailbox_named(name: &[u8]) -> &[u8]
     ensures { result.now ≡ mailbox_of name.now }
 {

@@ -1,4 +1,4 @@
-//! How large what a test looks at is.
+//! The sizes of what a test looks at.
 ghost use Rattle.std.specs.Prelude.{◌+◌, ◌^◌, ◌≤◌, ◌<◌};
 ghost use Rattle.std.specs.Option.{SomeIff};
 ghost use Rattle.sieveexec.specs.Work.{IsWithin, sizes_of, sizes_and};
@@ -10,18 +10,18 @@ use octets::Octets;
 pub struct Sizes {
     /// Their octets, and eight more for each.
     pub octets: u64,
-    /// How many there are.
+    /// The number of values.
     pub count: u64,
 }
 
 impl Sizes {
-    /// Those of no values.
+    /// The sizes of no values.
     pub(crate) const NONE: Sizes = Sizes {
         octets: 0,
         count: 0,
     };
 
-    /// With others besides, or None where there are more octets than may be then.
+    /// These and others together, or `None` if that is more than `most` octets.
     pub(crate) fn and(self, other: Sizes, most: u64) -> Option<Sizes>
         requires here { self.count ≤ self.octets }
         requires there { other.count ≤ other.octets }
@@ -37,7 +37,7 @@ impl Sizes {
         })
     }
 
-    /// With one text more of this length, or None where there are more octets than may be then.
+    /// These and one more text of this length, or `None` if that is more than `most` octets.
     pub(crate) fn and_text(self, len: usize, most: u64) -> Option<Sizes>
         requires here { self.count ≤ self.octets }
         requires room { self.octets ≤ most }
@@ -48,14 +48,14 @@ impl Sizes {
     }
 }
 
-/// The size of a text of so many octets: eight more, since short texts take their time too. None where no number is so large.
+/// The size of a text of that many octets: eight more, since short texts take time too. `None` if it exceeds the numbers.
 pub(crate) fn text_size(len: usize) -> Option<u64>
     ensures { SomeIff result (len + 8 < 2 ^ 64) (len + 8) }
 {
     (len as u64).checked_add(8)
 }
 
-/// The sizes of texts, or None where they have more octets than may be. One pass over the list; takes no memory.
+/// The sizes of texts, or `None` if they have more than `most` octets. One pass over the list; takes no memory.
 pub(crate) fn sizes_in(texts: &[Octets], most: u64) -> Option<Sizes>
     ensures { IsWithin most (sizes_of texts.now) result }
 {

@@ -13,7 +13,7 @@ pub struct When {
 }
 
 impl When {
-    /// A moment, by the clock of UTC.
+    /// A moment, with UTC as the zone.
     pub fn in_utc(moment: u64) -> When
         ensures moment { result.moment ≡ moment }
         ensures zone { result.zone ≡ pos 0 }
@@ -21,7 +21,7 @@ impl When {
         When { moment, zone: 0 }
     }
 
-    /// A moment, by the clock of a zone in minutes east of UTC; None where that is a day or more.
+    /// A moment, with a zone in minutes east of UTC; `None` if that is a day or more.
     pub fn in_zone(moment: u64, zone: i16) -> Option<When>
         ensures moment { IfSome result (λ when. when.moment ≡ moment) }
         ensures zone { IfSome result (λ when. when.zone ≡ zone) }

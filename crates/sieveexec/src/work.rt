@@ -11,10 +11,10 @@ use collation::MAX_PLACES;
 use octets::Octets;
 use sievesyntax::{EnvelopeParts, Matching};
 
-/// How much work the tests of a run may take together. A unit is about an octet that is looked at or compared, and takes 0.3 ns of a
-/// processor in the mean of runs that were drawn, and 1.3 ns in the worst that was found (patterns with a `?` over one long value): so
-/// the tests of a run take 260 ms at most, as far as is known. 1,000 keys, or 800 rules, are compared with all of a header of 100 kB
-/// within it.
+/// How much work the tests of a run may take together. A unit is about one octet that is looked at or compared, and takes 0.3 ns of a
+/// processor in the mean of random runs, and 1.3 ns in the worst that was found (patterns with a `?` over one long value). So
+/// the tests of a run take at most 260 ms, as far as is known. 1,000 keys, or 800 rules, can be compared with all of a header of 100 kB
+/// within this limit.
 pub(crate) const MAX_WORK: u64 = 200_000_000;
 
 /// One text of 40 octets: no number of values and no part of a date is longer.
@@ -23,7 +23,7 @@ pub(crate) const SHORT: Sizes = Sizes {
     count: 1,
 };
 
-/// How many octets a key has at most of which each octet of a value is compared once.
+/// The most octets of a key for which each octet of a value is looked at only once.
 const MAX_READY: usize = MAX_PLACES;
 
 /// What some work leaves, if it may be taken.
@@ -62,7 +62,7 @@ pub(crate) fn spend_names(left: u64, names: &[Octets]) -> Option<u64>
     spend(left, (left - rest).checked_mul(16)?)
 }
 
-/// What looking at values in fields of so many names, and comparing them with keys, leaves.
+/// What looking at values in fields with that many names, and comparing them with keys, leaves.
 pub(crate) fn spend_values(
     left: u64,
     names: u64,
@@ -76,7 +76,7 @@ pub(crate) fn spend_values(
     spend_keys(left, names, matching, compared(matching, sizes), keys)
 }
 
-/// What is compared: with `:count` a number.
+/// The sizes of what is compared: with `:count` those of a number.
 fn compared(matching: Matching, sizes: Sizes) -> Sizes
     ensures { result ≡ compared_by matching sizes }
 {
@@ -86,7 +86,7 @@ fn compared(matching: Matching, sizes: Sizes) -> Sizes
     sizes
 }
 
-/// What comparing values of these sizes, in fields of so many names, with keys leaves.
+/// What comparing values of these sizes, in fields with that many names, with keys leaves.
 pub(crate) fn spend_keys(
     left: u64,
     names: u64,
@@ -114,7 +114,7 @@ fn spend_key(left: u64, names: u64, matching: Matching, sizes: Sizes, key: &[u8]
     }
 }
 
-/// What looking for a key leaves.
+/// What searching for a key leaves.
 fn spend_contains(left: u64, names: u64, sizes: Sizes, key: &[u8]) -> Option<u64>
     ensures { IsLeft left (contains_work names sizes key.now) result }
 {
@@ -142,21 +142,21 @@ fn spend_pattern(left: u64, sizes: Sizes, key: &[u8]) -> Option<u64>
     spend(left, starred(sizes, key)?.checked_mul(8)?)
 }
 
-/// What looking at all values, and so much for each of them, leaves.
+/// What looking at all values, and `each` for each of them, leaves.
 fn spend_paired(left: u64, sizes: Sizes, each: u64) -> Option<u64>
     ensures { IsLeft left (paired_of sizes each) result }
 {
     spend(left, paired(sizes, each)?)
 }
 
-/// The work of looking at all values, and of so much for each of them. None where no number is so large.
+/// The work of looking at all values, and `each` for each of them. `None` if it exceeds the numbers.
 fn paired(sizes: Sizes, each: u64) -> Option<u64>
     ensures { SomeIff result (paired_of sizes each < 2 ^ 64) (paired_of sizes each) }
 {
     sizes.count.checked_mul(each)?.checked_add(sizes.octets)
 }
 
-/// The same of a pattern. None where no number is so large. Linear in the pattern.
+/// The same of a pattern. `None` if it exceeds the numbers. Linear in the pattern.
 fn starred(sizes: Sizes, key: &[u8]) -> Option<u64>
     ensures { SomeIff result (starred_of sizes key.now < 2 ^ 64) (starred_of sizes key.now) }
 {
@@ -164,7 +164,7 @@ fn starred(sizes: Sizes, key: &[u8]) -> Option<u64>
     paired(sizes, size_of(key.len())?)?.checked_add(between.checked_mul(256)?)
 }
 
-/// What trying a key at each of so many octets leaves.
+/// What trying a key at each of that many octets leaves.
 fn spend_tried(left: u64, octets: u64, key: &[u8]) -> Option<u64>
     ensures { IsLeft left (tried_work octets key.now) result }
 {
@@ -172,7 +172,7 @@ fn spend_tried(left: u64, octets: u64, key: &[u8]) -> Option<u64>
     spend(left, pairs.checked_mul(8)?)
 }
 
-/// How many stars there are.
+/// The number of stars.
 fn count_stars(key: &[u8]) -> u64
     ensures { result ≡ count_by is_star key.now }
 {
@@ -201,7 +201,7 @@ pub(crate) fn spend_flags(left: u64, flags: &[Octets], keys: &[Octets]) -> Optio
     spend_words(left, octets, keys)
 }
 
-/// What trying keys at each of so many octets leaves.
+/// What trying keys at each of that many octets leaves.
 fn spend_words(left: u64, octets: u64, keys: &[Octets]) -> Option<u64>
     ensures { IsLeft left (sum_by (tried_work octets) keys.now) result }
 {
@@ -221,7 +221,7 @@ pub(crate) fn envelope_sizes(mail: &Mail<'_>, parts: EnvelopeParts, most: u64) -
     sender.and(recipient, most)
 }
 
-/// Those of an address, where it is asked for.
+/// The sizes of an address, if it is asked for, otherwise of nothing.
 fn one_sizes(asked: bool, address: &[u8], most: u64) -> Option<Sizes>
     ensures { IsWithin most (one_sizes_of asked address.now) result }
 {

@@ -1,4 +1,4 @@
--- The words of the reasons to send no response.
+-- The terms in which the reasons to send no response are given.
 use Rattle.std.specs.Prelude.{ℕ, ◌+◌, ◌-◌, ◌*◌, max, min, nat_lt, nat_eq, Bool, true, false, not, ◌==◌, ◌&&◌, ◌||◌, cond, List, [], ◌∷◌, length, take, drop, map, codes, Option, None, Some, unwrap_or}
 use Rattle.std.specs.List.{list_any, flat_map, before_first}
 use Rattle.std.specs.Cmp.Lexicographic.{pointwise}
@@ -16,19 +16,19 @@ abbrev pub is_empty : List ℕ → Bool
 is_empty [] = true
 is_empty (octet ∷ rest) = false
 
--- the same text but for the case of ASCII letters
+-- the same text ignoring ASCII case
 abbrev pub same_text : List ℕ → List ℕ → Bool
 same_text one two = pointwise nat_eq (lowered one) (lowered two)
 
--- one of these texts, case ignored
+-- one of these texts, ignoring case
 abbrev pub is_one_of : List (List ℕ) → List ℕ → Bool
 is_one_of texts text = list_any (λ one. same_text one text) texts
 
--- the text begins with this front, case ignored
+-- the text begins with `front`, ignoring case
 abbrev pub begins_with : List ℕ → List ℕ → Bool
 begins_with front text = same_text front (take (length front) text)
 
--- the text ends with this end, case ignored
+-- the text ends with `end`, ignoring case
 abbrev pub ends_with : List ℕ → List ℕ → Bool
 ends_with end text = same_text end (drop (length text - length end) text)
 
@@ -38,18 +38,18 @@ is_robot local =
     is_one_of (codes "mailer-daemon" ∷ (codes "listserv" ∷ (codes "majordomo" ∷ []))) local
     || (begins_with (codes "owner-") local || ends_with (codes "-request") local)
 
--- some field with one of these names, case ignored, has an unfolded value that passes
+-- some field with one of these names, ignoring case, has an unfolded value that passes
 abbrev pub has_value : List (List ℕ) → (List ℕ → Bool) → FieldText → Bool
 has_value names passes field = is_one_of names field.name && passes (unfold_of field.raw)
 
 abbrev pub some_value : List (List ℕ) → (List ℕ → Bool) → MailSpec → Bool
 some_value names passes mail = list_any (has_value names passes) mail.fields
 
--- one of these addresses, each with nothing quoted; case ignored
+-- one of these addresses, each with nothing quoted; ignoring case
 abbrev pub has_address : List Addr → List ℕ → Bool
 has_address addresses text = list_any (λ one. same_text (all_of one) text) addresses
 
--- the user's addresses: the account's, the envelope's recipient as it was written, and those of `:addresses`; case ignored
+-- the user's addresses: the account's, the envelope's recipient as it was written, and those of `:addresses`; ignoring case
 abbrev pub is_users : VacArgs → MailSpec → Addr → List ℕ → Bool
 is_users args mail own text =
     same_text (all_of own) text || (same_text mail.to text || has_address args.addresses text)
@@ -58,7 +58,7 @@ is_users args mail own text =
 abbrev pub is_semicolon : ℕ → Bool
 is_semicolon octet = octet == 59
 
--- what stands before the first `;`, without the blanks at its ends, isn't `no` (RFC 3834, 5)
+-- what precedes the first `;`, without the blanks at its ends, isn't `no` (RFC 3834, 5)
 abbrev pub is_automatic : List ℕ → Bool
 is_automatic value = not (same_text (codes "no") (trimmed (before_first is_semicolon value)))
 
@@ -66,7 +66,7 @@ is_automatic value = not (same_text (codes "no") (trimmed (before_first is_semic
 abbrev pub is_comma : ℕ → Bool
 is_comma octet = octet == 44
 
--- what stands before, between and after the commas of a text
+-- what is before, between and after the commas of a text
 abbrev pub between_commas : List ℕ → List (List ℕ)
 between_commas [] = [] ∷ []
 between_commas (octet ∷ rest) = cond (is_comma octet) ([] ∷ between_commas rest) (at_front octet (between_commas rest))
@@ -102,11 +102,11 @@ recipients_in field = cond (is_one_of recipient_fields field.name) (map all_of (
 abbrev pub recipients_of : MailSpec → List (List ℕ)
 recipients_of mail = flat_map recipients_in mail.fields
 
--- 1 to 365 days, without `:days` 7 (RFC 5230, 4.1)
+-- 1 to 365 days; 7 if `:days` isn't given (RFC 5230, 4.1)
 abbrev pub days_period : Option ℕ → ℕ
 days_period days = max 1 (min 365 (unwrap_or days 7)) * 86400
 
--- for that many seconds a sender gets no second response: `:seconds` where they are given, 365 days at most (RFC 6131, 2), else the
+-- for that many seconds a sender gets no second response: `:seconds` if they are given, at most 365 days (RFC 6131, 2), otherwise the
 -- days
 abbrev pub period_of : VacArgs → ℕ
 period_of args = elim args.seconds [

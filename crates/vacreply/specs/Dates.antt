@@ -2,7 +2,7 @@
 use Rattle.std.specs.Prelude.{◌≡◌, ℕ, ◌+◌, ◌-◌, ◌/◌, ◌%◌, pos, List, [], ◌∷◌, ◌++◌, codes, decimal, get_or}
 use Rattle.jiff_core.specs.Calendar.{IsCivilDate, days_from_civil}
 
--- the calendar's day with this number, counted from 0 for 1 January 1970
+-- the day of the calendar with this number, counted from 0 for 1 January 1970
 pub record IsDay (number year month day : ℕ) : Type 0 where
   pub civil : IsCivilDate (pos year) month day
   pub counted : days_from_civil (pos year) month day ≡ pos number
@@ -27,7 +27,7 @@ day_text number year month day =
     get_or day_names ((number + 4) % 7) [] ++ (codes ", " ++ (decimal day ++ (32 ∷ (get_or month_names (month - 1) [] ++ (32 ∷
     (two_digits (year / 100) ++ two_digits (year % 100)))))))
 
--- `22:13:20`, that many seconds into a day
+-- `22:13:20`, the time after that many seconds of a day
 abbrev pub time_text : ℕ → List ℕ
 time_text seconds = two_digits (seconds / 3600) ++ (58 ∷ (two_digits (seconds / 60 % 60) ++ (58 ∷ two_digits (seconds % 60))))
 
@@ -39,13 +39,13 @@ pub record IsDateText (moment : ℕ) (text : List ℕ) : Type 0 where
   pub is_day : IsDay (moment / 86400) year month day
   pub spelled : text ≡ day_text (moment / 86400) year month day ++ (32 ∷ (time_text (moment % 86400) ++ codes " +0000"))
 
--- the text of a moment joins the end of what was there
+-- the text of a moment is appended to what was there
 pub record WritesDate (moment : ℕ) (old new : List ℕ) : Type 0 where
   pub text : List ℕ
   pub is_text : IsDateText moment text
   pub appended : new ≡ old ++ text
 
--- the text of the day with a number joins the end of what was there
+-- the text of the day with this number is appended to what was there
 pub record WritesDay (number : ℕ) (old new : List ℕ) : Type 0 where
   pub year : ℕ
   pub month : ℕ

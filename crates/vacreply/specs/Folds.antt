@@ -3,17 +3,17 @@ use Rattle.std.specs.Prelude.{ℕ, Bool, true, false, ◌==◌, ◌&&◌, cond, 
 use Rattle.std.specs.Char.{to_ascii_lowercase}
 use Rattle.mailhead.specs.Lines.{is_feed, begins_blank}
 
--- LF and then a blank stand first
+-- the text begins with LF and then a blank
 abbrev pub begins_feed_fold : List ℕ → Bool
 begins_feed_fold [] = false
 begins_feed_fold (octet ∷ rest) = is_feed octet && begins_blank rest
 
--- how many octets the line end has that stands first and that a blank follows
+-- how many octets a line end has that comes first and that a blank follows
 abbrev pub fold_len : List ℕ → ℕ
 fold_len [] = 0
 fold_len (octet ∷ rest) = cond (is_feed octet && begins_blank rest) 1 (cond (octet == 13 && begins_feed_fold rest) 2 0)
 
--- what stands after a word that comes first, case ignored
+-- what follows a word that comes first, ignoring case
 abbrev pub after_word : List ℕ → List ℕ → Option (List ℕ)
 after_word [] text = Some text
 after_word (letter ∷ word) [] = None
@@ -23,16 +23,16 @@ after_word (letter ∷ word) (octet ∷ rest) = cond (nat_eq (to_ascii_lowercase
 abbrev pub is_small : ℕ → Bool
 is_small octet = nat_le 97 octet && nat_le octet 122
 
--- a mark that is no blank and no letter: 33 to 64
+-- a mark, neither a blank nor a letter: 33 to 64
 abbrev pub is_mark : ℕ → Bool
 is_mark octet = nat_le 33 octet && nat_le octet 64
 
--- nothing, or this mark, stands first
+-- the text is empty, or begins with this mark
 abbrev pub ends_by_mark : ℕ → List ℕ → Bool
 ends_by_mark mark [] = true
 ends_by_mark mark (octet ∷ rest) = octet == mark
 
--- what stands after the first comma
+-- what follows the first comma
 abbrev pub after_comma : List ℕ → Option (List ℕ)
 after_comma [] = None
 after_comma (octet ∷ rest) = cond (octet == 44) (Some rest) (after_comma rest)

@@ -1,9 +1,9 @@
--- By what a response is known (RFC 5230, 4.2), and the key under which it is remembered.
+-- What identifies a response (RFC 5230, 4.2), and the key under which it is remembered.
 use Rattle.std.specs.Prelude.{ℕ, ◌<◌, ◌^◌, ◌/◌, ◌%◌, Bool, cond, List, [], ◌∷◌, ◌++◌, length, Option, None, Some, option_map}
 use Rattle.sievesyntax.specs.declared.tree.vacation.VacArgs.{VacArgs}
 use Rattle.sievesyntax.specs.declared.tree.vacation.ReplyFrom.{ReplyFrom}
 
--- a response is known by the name that `:handle` gives it; without one by the subject, the text of `:from`, `:mime` and the reason together
+-- a response is identified by the name that `:handle` gives it; without a name by the subject, the text of `:from`, `:mime` and the reason together
 pub data Handle : Type 0 where
   Named : List ℕ → Handle
   Same : Option (List ℕ) → Option (List ℕ) → Bool → List ℕ → Handle
@@ -12,7 +12,7 @@ pub data Handle : Type 0 where
 abbrev pub from_text : Option ReplyFrom → Option (List ℕ)
 from_text from = option_map (λ one. one.text) from
 
--- the handle where a name is given or isn't
+-- the handle, given the name, if there is one, and the rest
 abbrev pub handle_with : Option (List ℕ) → Option (List ℕ) → Option (List ℕ) → Bool → List ℕ → Handle
 handle_with (Some name) subject from mime reason = Named name
 handle_with None subject from mime reason = Same subject from mime reason
@@ -21,11 +21,11 @@ handle_with None subject from mime reason = Same subject from mime reason
 abbrev pub handle_of : VacArgs → Handle
 handle_of args = handle_with args.handle args.subject (from_text args.from) args.mime args.reason
 
--- a number below 2^32 as four octets, the highest first
+-- a number below 2^32 as four octets, the most significant one first
 abbrev pub four_octets : ℕ → List ℕ
 four_octets n = n / 16777216 % 256 ∷ (n / 65536 % 256 ∷ (n / 256 % 256 ∷ (n % 256 ∷ [])))
 
--- octet 0 for no text; octet 1, its length and its octets for a text
+-- octet 0 if there is no text; otherwise octet 1, its length and its octets
 abbrev pub part_of : Option (List ℕ) → List ℕ
 part_of None = 0 ∷ []
 part_of (Some text) = 1 ∷ (four_octets (length text) ++ text)
@@ -35,7 +35,7 @@ abbrev pub key_of : Handle → List ℕ
 key_of (Named name) = 1 ∷ name
 key_of (Same subject from mime reason) = 2 ∷ (part_of subject ++ (part_of from ++ (cond mime 1 0 ∷ reason)))
 
--- a text that isn't there, or one of less than 2^32 octets, whose length four octets tell
+-- no text, or a text of less than 2^32 octets, whose length fits in four octets
 abbrev pub IsShort : Option (List ℕ) → Type 0
 IsShort None = Unit {0}
 IsShort (Some text) = length text < 2 ^ 32

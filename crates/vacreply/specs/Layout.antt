@@ -19,29 +19,29 @@ use Rattle.vacreply.specs.Dates.{IsDateText}
 abbrev pub line_end : List ℕ
 line_end = 13 ∷ (10 ∷ [])
 
--- a line of the response: what it begins with, and its value
+-- a line of the response: what it begins with, its value and CRLF
 abbrev pub line : List ℕ → List ℕ → List ℕ
 line front value = front ++ (value ++ line_end)
 
--- the raw value of the first field with this name, case ignored
+-- the raw value of the first field with this name, ignoring case
 abbrev pub first_raw : List ℕ → List FieldText → Option (List ℕ)
 first_raw name [] = None
 first_raw name (field ∷ more) = cond (same_text name field.name) (Some field.raw) (first_raw name more)
 
--- a text that is UTF-8; any other one counts as none
+-- a text that is UTF-8; any other counts as none
 abbrev pub usable : Option (List ℕ) → Option (List ℕ)
 usable None = None
 usable (Some text) = cond (is_utf8 text) (Some text) None
 
--- the display of `:from`; one that isn't UTF-8 counts as empty
+-- the display name of `:from`; one that isn't UTF-8 counts as empty
 abbrev pub display_of : ReplyFrom → List ℕ
 display_of from = unwrap_or (usable (Some from.display)) []
 
--- at most 200 octets, all 32 to 126
+-- at most 200 octets, all from 32 to 126
 abbrev pub is_quotable : List ℕ → Bool
 is_quotable display = nat_le (length display) 200 && list_all is_printable display
 
--- a mark that stands in no atom (RFC 5322, 3.2.3: specials): one of `( ) < > [ ] : ; @ \ , . "`
+-- a mark that no atom has (RFC 5322, 3.2.3: specials): one of `( ) < > [ ] : ; @ \ , . "`
 abbrev pub is_special : ℕ → Bool
 is_special octet =
     octet == 34 || (octet == 40 || (octet == 41 || (octet == 44 || (octet == 46 || (octet == 58 || (octet == 59 || (octet == 60
@@ -50,18 +50,18 @@ is_special octet =
 abbrev pub is_phrase_octet : ℕ → Bool
 is_phrase_octet octet = not (is_special octet)
 
--- atoms, and words that the script's writer encoded, as a phrase has them (RFC 5322, 3.2.5; RFC 2047, 5)
+-- atoms, and words that the script's author encoded, as a phrase has them (RFC 5322, 3.2.5; RFC 2047, 5)
 abbrev pub is_phrase : List ℕ → Bool
 is_phrase display = list_all is_phrase_octet display && (has_phrase_words display && has_written_words display)
 
--- a phrase with such words is written as it stands, any other display as a quoted string (RFC 5322, 3.2.4) where it can be, else as
--- encoded words (RFC 2047, 5)
+-- a phrase with such words is written as it is, any other display name as a quoted string (RFC 5322, 3.2.4) if it can be one, otherwise
+-- as encoded words (RFC 2047, 5)
 pub record IsDisplay (display value : List ℕ) : Type 0 where
   pub phrase : is_phrase display ≡ true → value ≡ lines_for display
   pub string : is_phrase display ≡ false → is_quotable display ≡ true → value ≡ quoted display
   pub words : is_phrase display ≡ false → is_quotable display ≡ false → IsWorded display value
 
--- an address with a display before it, or alone where that is empty
+-- an address with a display name before it, or if that is empty only the address
 abbrev pub IsNamed : List ℕ → List ℕ → List ℕ → Type 0
 IsNamed [] address value = value ≡ address
 IsNamed (octet ∷ rest) address value =
@@ -72,21 +72,21 @@ abbrev pub IsFrom : Option ReplyFrom → Addr → List ℕ → Type 0
 IsFrom None own value = value ≡ spelling own
 IsFrom (Some from) own value = IsNamed (display_of from) (spelling from.address) value
 
--- the text of the first Subject field: unfolded, decoded, without the blanks at its ends
+-- the text of the first Subject field: unfolded, decoded, and without the blanks at its ends
 abbrev pub subject_of : MailSpec → Option (List ℕ)
 subject_of mail = option_map (λ raw. text_shown (unfold_of raw)) (first_raw (codes "subject") mail.fields)
 
--- the first 256 characters of a text, then `...` where it has more
+-- the first 256 characters of a text, and then `...` if it has more
 abbrev pub shortened : List ℕ → List ℕ
 shortened text = encode_utf8_all (take 256 (chars text)) ++ cond (nat_lt 256 (length (chars text))) (codes "...") []
 
--- `Auto: ` and that text, shortened; `Automated reply` without one or where it is empty
+-- `Auto: ` and that text, shortened; `Automated reply` if there is none or it is empty
 abbrev pub auto_subject : Option (List ℕ) → List ℕ
 auto_subject None = codes "Automated reply"
 auto_subject (Some []) = codes "Automated reply"
 auto_subject (Some (octet ∷ rest)) = codes "Auto: " ++ shortened (octet ∷ rest)
 
--- the value of Subject: the text of `:subject`, with the words that the script's writer encoded, or one made of the mail's
+-- the value of Subject: the text of `:subject`, with the words that the script's author encoded, or one made from the mail's
 abbrev pub IsSubject : Option (List ℕ) → MailSpec → List ℕ → Type 0
 IsSubject None mail value = IsHeaderText (auto_subject (usable (subject_of mail))) value
 IsSubject (Some text) mail value = IsWrittenText text value
@@ -95,24 +95,24 @@ IsSubject (Some text) mail value = IsWrittenText text value
 abbrev pub is_visible : ℕ → Bool
 is_visible octet = nat_le 33 octet && nat_le octet 126
 
--- a message's name that can stand in a line: 1 to 250 octets, all visible
+-- a Message-ID that can be written in a line: 1 to 250 octets, all visible
 abbrev pub is_message_id : List ℕ → Bool
 is_message_id id = nat_le 1 (length id) && (nat_le (length id) 250 && list_all is_visible id)
 
--- the line In-Reply-To of a message's name, if it has one that can stand there
+-- the line In-Reply-To with a Message-ID, if there is one that can be written there
 abbrev pub answered : Option (List ℕ) → List ℕ
 answered None = []
 answered (Some id) = cond (is_message_id id) (line (codes "In-Reply-To: ") id) []
 
--- the line for the value of the mail's first Message-ID field, unfolded and without the blanks at its ends
+-- that line with the value of the mail's first Message-ID field, unfolded and without the blanks at its ends
 abbrev pub in_reply_to : MailSpec → List ℕ
 in_reply_to mail = answered (option_map (λ raw. trimmed (unfold_of raw)) (first_raw (codes "message-id") mail.fields))
 
--- the header of a reason with `:mime` has a field MIME-Version
+-- the header of a reason has a field MIME-Version
 abbrev pub has_version : List ℕ → Bool
 has_version reason = is_some (first_raw (codes "mime-version") (fields_of reason))
 
--- the line MIME-Version, unless the reason brings it
+-- the line MIME-Version, unless the reason has it
 abbrev pub version : VacArgs → List ℕ
 version args = cond (args.mime && has_version args.reason) [] (line (codes "MIME-Version: 1.0") [])
 
@@ -122,11 +122,11 @@ content_header true = []
 content_header false =
     line (codes "Content-Type: text/plain; charset=utf-8") [] ++ (line (codes "Content-Transfer-Encoding: 8bit") [] ++ line_end)
 
--- a reason, which CRLF ends
+-- a reason, and CRLF unless it ends with that
 abbrev pub ended : List ℕ → List ℕ
 ended reason = cond (ends_with nat_eq reason line_end) reason (reason ++ line_end)
 
--- what stands after the date
+-- what follows the date
 abbrev pub body_text : VacArgs → MailSpec → List ℕ
 body_text args mail =
     line (codes "Auto-Submitted: auto-replied") [] ++ (in_reply_to mail ++ (version args ++ (content_header args.mime ++ ended args.reason)))
@@ -135,12 +135,12 @@ body_text args mail =
 abbrev pub to_line : List ℕ → List ℕ
 to_line sender = codes "To: <" ++ (sender ++ (codes ">" ++ line_end))
 
--- the response: its lines in order
+-- the lines of the response, in order
 abbrev pub reply_text : List ℕ → List ℕ → List ℕ → List ℕ → List ℕ → List ℕ
 reply_text from to subject date rest =
     line (codes "From: ") from ++ (to_line to ++ (line (codes "Subject: ") subject ++ (line (codes "Date: ") date ++ rest)))
 
--- the response to a mail, of the user with this address, at this moment
+-- the response of the user with this address to a mail at this moment
 pub record IsReply (args : VacArgs) (mail : MailSpec) (own : Addr) (moment : ℕ) (reply : List ℕ) : Type 0 where
   pub from : List ℕ
   pub subject : List ℕ
@@ -150,7 +150,7 @@ pub record IsReply (args : VacArgs) (mail : MailSpec) (own : Addr) (moment : ℕ
   pub is_date : IsDateText moment date
   pub spelled : reply ≡ reply_text from mail.from subject date (body_text args mail)
 
--- a line with such a value joins the end of what was there
+-- a line with such a value is appended to what was there
 pub record WritesLine (front : List ℕ) (IsValue : List ℕ → Type 0) (old new : List ℕ) : Type 0 where
   pub value : List ℕ
   pub is_value : IsValue value

@@ -1,4 +1,4 @@
--- Whether a response is sent: the first reason that stands against it, if any does. RFC 5230, 4.6 and RFC 3834, 2: the sender and the mail
+-- Whether a response is sent: the first reason against it, if there is any. RFC 5230, 4.6 and RFC 3834, 2: the sender and the mail
 -- (reasons 1 to 7); RFC 5230, 4.5: to whom it is addressed (8); 4.1 and 4.2: the period, and what is kept of earlier responses (9).
 use Rattle.std.specs.Prelude.{ℕ, Bool, true, not, ◌||◌, cond, List, [], ◌∷◌, codes, Option}
 use Rattle.std.specs.List.{list_any}
@@ -12,7 +12,7 @@ use Rattle.vacreply.specs.declared.reason.Decision.{Decision}
 use Rattle.vacreply.specs.declared.reason.Decision.TheVariants as D
 use Rattle.vacreply.specs.Cases.{is_empty, is_robot, is_users, is_automatic, is_suppressing, is_bulk, list_fields, recipients_of, some_value, is_early}
 
--- whether a reason stands against a response to this mail, of the user with this address, at this moment;
+-- whether this is a reason against a response of the user with this address to this mail at this moment;
 -- `last` is the moment kept for the response and the sender, if one is
 abbrev pub holds : VacArgs → MailSpec → Addr → Option ℕ → ℕ → Reason → Bool
 holds args mail own last moment R.NullSender = is_empty mail.from
@@ -31,7 +31,7 @@ abbrev pub reasons : List Reason
 reasons =
     R.NullSender ∷ (R.BadSender ∷ (R.RobotSender ∷ (R.OwnSender ∷ (R.Automatic ∷ (R.ListMail ∷ (R.Bulk ∷ (R.NotAddressed ∷ (R.TooSoon ∷ []))))))))
 
--- quiet for the first of these that passes; send where none does
+-- quiet for the first of these that passes; send if none does
 abbrev pub first_of : (Reason → Bool) → List Reason → Decision
 first_of test [] = D.Send
 first_of test (reason ∷ more) = cond (test reason) (D.Quiet reason) (first_of test more)

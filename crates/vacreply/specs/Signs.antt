@@ -1,11 +1,11 @@
--- What fields say of the mail that they stand in.
+-- What fields say of their mail.
 use Rattle.std.specs.Prelude.{Bool, true, [], ◌∷◌, codes}
 use Rattle.mailhead.specs.Fields.{FieldText}
 use Rattle.vacreply.specs.declared.fields.Sign.{Sign}
 use Rattle.vacreply.specs.declared.fields.Sign.TheVariants.{Automatic, Suppressing, ListMail, Bulk}
 use Rattle.vacreply.specs.Cases.{has_value, is_automatic, is_suppressing, is_bulk, list_fields}
 
--- the field says so of its mail (RFC 3834, 2 and 5; RFC 2369; RFC 2919)
+-- the field says this of its mail (RFC 3834, 2 and 5; RFC 2369; RFC 2919)
 abbrev pub is_sign : Sign → FieldText → Bool
 is_sign Automatic = has_value (codes "auto-submitted" ∷ []) is_automatic
 is_sign Suppressing = has_value (codes "x-auto-response-suppress" ∷ []) is_suppressing

@@ -1,4 +1,4 @@
-//! A mail with the addresses of those whom it names as recipients.
+//! A mail with the addresses that it names as recipients.
 ghost use Rattle.std.specs.Prelude.{◌≡◌, ◌++◌, IfOk, OnOk, map};
 ghost use Rattle.std.specs.List.{flat_map};
 ghost use Rattle.mailhead.specs.Fields.{text_of};
@@ -43,7 +43,7 @@ impl<'m, 'a> Model for AddressedMail<'m, 'a> {
 }
 
 impl<'m, 'a> AddressedMail<'m, 'a> {
-    /// Reads the addresses of the fields To, Cc, Bcc, Resent-To, Resent-Cc and Resent-Bcc, whose values are unfolded and
+    /// Reads the addresses of the fields To, Cc, Bcc, Resent-To, Resent-Cc and Resent-Bcc, whose values are unfolded but
     /// not decoded.
     ///
     /// Linear in these values, with memory for their addresses; one comparison of names for each other field. Lack of memory is

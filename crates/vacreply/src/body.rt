@@ -1,4 +1,4 @@
-//! What stands after the date.
+//! What follows the date.
 ghost use Rattle.std.specs.Prelude.{◌≡◌, ◌++◌, IfOk, OnOk, Some};
 ghost use Rattle.std.specs.List.{list_all};
 ghost use Rattle.vacreply.specs.Layout as layout;
@@ -11,10 +11,10 @@ use sieveexec::Mail;
 use sievesyntax::VacArgs;
 use std::alloc::{AllocError, Global};
 
-/// How many octets a Message-ID has at most that is told.
+/// The most octets of a Message-ID that is repeated.
 const MAX_ID_LEN: usize = 250;
 
-/// What stands before a reason that is plain text.
+/// What precedes a reason that is plain text.
 const PLAIN_HEADER: &[u8] =
     b"Content-Type: text/plain; charset=utf-8\r\nContent-Transfer-Encoding: 8bit\r\n\r\n";
 
@@ -34,7 +34,7 @@ pub(crate) fn write_body(
     write_reason(out, args.reason.as_slice())
 }
 
-/// Appends the line In-Reply-To, if the mail has a name that can stand there.
+/// Appends the line In-Reply-To, if the mail has a Message-ID that can be written there.
 fn write_in_reply_to(alloc: Global, out: &mut Octets, mail: &Mail<'_>) -> Result<(), AllocError>
     ensures { OnOk result (out.new ≡ out.old ++ layout.in_reply_to mail.now) }
 {
@@ -45,7 +45,7 @@ fn write_in_reply_to(alloc: Global, out: &mut Octets, mail: &Mail<'_>) -> Result
     write_answered(out, trim_blanks(value.as_slice()))
 }
 
-/// Appends the line In-Reply-To of a message's name, if it can stand there.
+/// Appends the line In-Reply-To with a Message-ID, if it can be written there.
 fn write_answered(out: &mut Octets, id: &[u8]) -> Result<(), AllocError>
     ensures { OnOk result (out.new ≡ out.old ++ layout.answered (Some id.now)) }
 {
@@ -73,7 +73,7 @@ fn is_visible(octet: u8) -> bool
     33 <= octet && octet <= 126
 }
 
-/// Appends the line MIME-Version, unless the reason brings it.
+/// Appends the line MIME-Version, unless the reason has it.
 fn write_version(alloc: Global, out: &mut Octets, args: &VacArgs) -> Result<(), AllocError>
     ensures { OnOk result (out.new ≡ out.old ++ layout.version args.now) }
 {
@@ -101,7 +101,7 @@ fn write_content_header(out: &mut Octets, mime: bool) -> Result<(), AllocError>
     out.extend_from_slice(PLAIN_HEADER)
 }
 
-/// Appends the reason, which CRLF ends.
+/// Appends the reason, and CRLF unless it ends with that.
 fn write_reason(out: &mut Octets, reason: &[u8]) -> Result<(), AllocError>
     ensures { OnOk result (out.new ≡ out.old ++ layout.ended reason.now) }
 {

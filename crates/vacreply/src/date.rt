@@ -10,13 +10,13 @@ use jiff::civil::{Date, Weekday, date};
 use octets::{Octets, write_decimal};
 use std::alloc::AllocError;
 
-/// The last moment that a date is written of: the last second of the year 9999, since a year has four digits (RFC 5322, 3.3).
+/// The last moment whose date is written: the last second of the year 9999, since a year has four digits (RFC 5322, 3.3).
 pub const MAX_MOMENT: u64 = 253_402_300_799;
 
-/// How many seconds a day has.
+/// The number of seconds in a day.
 const DAY_LEN: u64 = 86_400;
 
-/// Appends the date and time of a moment in UTC, as `Tue, 14 Nov 2023 22:13:20 +0000`.
+/// Appends the date and time of a moment in UTC, such as `Tue, 14 Nov 2023 22:13:20 +0000`.
 ///
 /// A moment is in seconds since 1 January 1970, up to [`MAX_MOMENT`]. Constant time; lack of memory is the only error.
 pub fn write_date(out: &mut Octets, moment: u64) -> Result<(), AllocError>
@@ -91,7 +91,7 @@ fn month_name(month: u8) -> &'static [u8]
     }
 }
 
-/// Appends the time of day, that many seconds into it.
+/// Appends the time of day after that many seconds.
 fn write_time(out: &mut Octets, seconds: u64) -> Result<(), AllocError>
     requires { seconds < 86_400 }
     ensures { OnOk result (out.new ≡ out.old ++ time_text seconds) }

@@ -11,23 +11,23 @@ use crate::sender::{is_bad, is_robot, is_users};
 use addrparts::Addr;
 use sievesyntax::VacArgs;
 
-/// How many seconds a day has.
+/// The number of seconds in a day.
 const DAY_LEN: u64 = 86_400;
 
-/// How many days a period has without `:days` (RFC 5230, 4.1).
+/// The period in days if `:days` isn't given (RFC 5230, 4.1).
 const DEFAULT_DAYS: u64 = 7;
 
-/// How many days a period has at most, as RFC 5230, 4.1, lets a site say; at least it has one.
+/// The longest period in days, which RFC 5230, 4.1, lets a site choose; the shortest is one day.
 const MAX_DAYS: u64 = 365;
 
-/// How many seconds a period has at most, as RFC 6131, 2, lets a site say.
+/// The longest period in seconds, which RFC 6131, 2, lets a site choose.
 const MAX_SECONDS: u64 = MAX_DAYS * DAY_LEN;
 
-/// Whether a response to this mail is sent, of the user with this address, at this moment; quiet for the first reason that
-/// stands against it.
+/// Decides whether the user with this address responds to this mail at this moment; quiet for the first reason
+/// against it.
 ///
 /// `last` is the moment that is kept for this response and this sender, if one is. A moment is in seconds since 1 January
-/// 1970. Two passes over the fields for one reason, and one for each of two others, none over the body; takes no memory.
+/// 1970. Two passes over the fields for one reason, one for each of two others, and none over the body; takes no memory.
 pub fn decide(
     args: &VacArgs,
     mail: &AddressedMail<'_, '_>,
@@ -68,7 +68,7 @@ pub fn decide(
     Decision::Send
 }
 
-/// Whether an address of the user stands among the recipients.
+/// Whether an address of the user is among the recipients.
 fn is_addressed(args: &VacArgs, mail: &AddressedMail<'_, '_>, own: &Addr) -> bool
     ensures { result ≡ list_any (cases.is_users args.now mail.now own.now) (cases.recipients_of mail.now) }
 {
@@ -91,7 +91,7 @@ fn is_early(args: &VacArgs, last: Option<u64>, moment: u64) -> bool
     period > 0 && (moment < kept || moment - kept < period)
 }
 
-/// How many seconds a period has.
+/// The period in seconds.
 fn period(args: &VacArgs) -> u64
     ensures { result ≡ cases.period_of args.now }
 {
@@ -101,7 +101,7 @@ fn period(args: &VacArgs) -> u64
     }
 }
 
-/// How many seconds so many days have.
+/// The period in seconds, given the days.
 fn days_period(days: Option<u64>) -> u64
     ensures { result ≡ cases.days_period days }
 {

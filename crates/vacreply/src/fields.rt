@@ -1,4 +1,4 @@
-//! Fields that say what sort of mail it is.
+//! Fields that say what kind of mail it is.
 ghost use Rattle.std.specs.Prelude.{◌≡◌, option_map};
 ghost use Rattle.std.specs.List.{list_any, before_first};
 ghost use Rattle.mailhead.specs.Fields.{text_of, texts_of};
@@ -23,10 +23,10 @@ const LIST_FIELDS: [&[u8]; 7] = [
     b"list-archive",
 ];
 
-/// What a field may say of the mail that it stands in.
+/// What a field may say of its mail.
 #[derive(Clone, Copy)]
 pub(crate) enum Sign {
-    /// An Auto-Submitted field says other than `no` (RFC 3834, 5).
+    /// An Auto-Submitted field says something other than `no` (RFC 3834, 5).
     Automatic,
     /// An X-Auto-Response-Suppress field, as Exchange writes it into its own notices, has `All`, `OOF` or `AutoReply` among its
     /// values.
@@ -82,7 +82,7 @@ fn is_suppressing(raw: &[u8]) -> bool
     true
 }
 
-/// Whether what stands before the value's first comma refuses an answer.
+/// Whether what precedes the value's first comma refuses an answer.
 fn refuses_answer(raw: &[u8]) -> bool
     ensures { result ≡ cases.refuses_answer (before_first cases.is_comma (unfold_of raw.now)) }
 {

@@ -14,7 +14,7 @@ use octets::{Octets, is_printable};
 use sievesyntax::ReplyFrom;
 use std::alloc::{AllocError, Global};
 
-/// How many octets a display has at most that is written as a quoted string.
+/// The most octets of a display name that is written as a quoted string.
 const MAX_QUOTED_LEN: usize = 200;
 
 /// Appends the line From: the account's address, or what `:from` says.
@@ -39,7 +39,7 @@ fn from_value(alloc: Global, from: &Option<ReplyFrom>, own: &Addr) -> Result<Oct
     }
 }
 
-/// An address with its display before it, or alone where that is empty.
+/// An address with its display name before it, or if that is empty only the address.
 fn named(alloc: Global, from: &ReplyFrom) -> Result<Octets, AllocError>
     ensures { IfOk result (layout.IsNamed (layout.display_of from.now) (spelling from.now.address)) }
 {
@@ -55,8 +55,8 @@ fn named(alloc: Global, from: &ReplyFrom) -> Result<Octets, AllocError>
     Ok(value)
 }
 
-/// A display as it stands where it is a phrase with encoded words in it, else as a quoted string where it can be, else as encoded
-/// words.
+/// A display name as it is if it is a phrase with encoded words in it, otherwise as a quoted string if it can be one, otherwise as
+/// encoded words.
 fn display_value(alloc: Global, display: &str) -> Result<Octets, AllocError>
     ensures { IfOk result (layout.IsDisplay display.now) }
 {
@@ -69,7 +69,7 @@ fn display_value(alloc: Global, display: &str) -> Result<Octets, AllocError>
     Ok(Octets::from_vec(header_text(alloc, display)?))
 }
 
-/// Whether a display is a phrase of atoms and of words that the script's writer encoded.
+/// Whether a display name is a phrase of atoms and of words that the script's author encoded.
 fn is_phrase(alloc: Global, display: &[u8]) -> Result<bool, AllocError>
     ensures { IfOk result (λ is. is ≡ layout.is_phrase display.now) }
 {

@@ -1,4 +1,4 @@
-//! By what a response is known (RFC 5230, 4.2).
+//! What identifies a response (RFC 5230, 4.2).
 ghost use Rattle.std.specs.Prelude.{◌≡◌, ◌↔◌, ◌<◌, ◌^◌, ◌++◌, IsTrue, IfOk, OnOk, option_copied};
 ghost use Rattle.vacreply.specs.Handles.{handle_of, key_of, four_octets, part_of, from_text, HasShortTexts, IsShort};
 
@@ -6,14 +6,14 @@ use octets::Octets;
 use sievesyntax::{ReplyFrom, VacArgs};
 use std::alloc::{AllocError, Global};
 
-/// How many octets a text has at most that a key can have as a part, so that four octets tell its length.
+/// The most octets of a text that can be part of a key, so that its length fits in four octets.
 const MAX_TEXT_LEN: u64 = 4_294_967_295;
 
-/// The key under which it is remembered who got this response.
+/// Returns the key under which it is remembered who received this response.
 ///
-/// Two responses have one key exactly where they have one handle: the name that `:handle` gives, or else the subject,
+/// Two responses have the same key exactly if they have the same handle: the name that `:handle` gives, or otherwise the subject,
 /// the text of `:from`, `:mime` and the reason together. Subject and `:from` have less than 2^32 octets each, as in any
-/// script that was checked ([`has_short_texts`]). Linear in the texts; lack of memory is the only error.
+/// checked script ([`has_short_texts`]). Linear in the texts; lack of memory is the only error.
 pub fn handle_key(alloc: Global, args: &VacArgs) -> Result<Octets, AllocError>
     requires { HasShortTexts (handle_of args.now) }
     ensures { IfOk result (λ key. key ≡ key_of (handle_of args.now)) }
@@ -32,7 +32,7 @@ pub fn handle_key(alloc: Global, args: &VacArgs) -> Result<Octets, AllocError>
     Ok(key)
 }
 
-/// Whether [`handle_key`] can be asked: subject and `:from`, where no name is given, have less than 2^32 octets each.
+/// Whether [`handle_key`] may be called: unless a name is given, subject and `:from` have less than 2^32 octets each.
 pub fn has_short_texts(args: &VacArgs) -> bool
     ensures { IsTrue result ↔ HasShortTexts (handle_of args.now) }
 {
@@ -74,7 +74,7 @@ fn push_part(key: &mut Octets, part: Option<&Octets>) -> Result<(), AllocError>
     key.extend_from_slice(text.as_slice())
 }
 
-/// Appends a length in four octets, the highest first.
+/// Appends a length in four octets, the most significant one first.
 fn push_len(key: &mut Octets, len: u64) -> Result<(), AllocError>
     requires { len < 2 ^ 32 }
     ensures { OnOk result (key.new ≡ key.old ++ four_octets len) }

@@ -7,17 +7,17 @@ ghost use Rattle.vacreply.specs.Dates.{IsDateText};
 ghost use Rattle.vacreply.specs.Layout.{IsReply};
 ghost use Rattle.vacreply.specs.Handles.{Handle, key_of, HasShortTexts};
 
-/// Two handles have one key exactly where they are the same.
+/// Two handles have the same key exactly if they are the same.
 pub fn keys_of_handles()
     ensures { (one two : Handle) → HasShortTexts one → HasShortTexts two → (key_of one ≡ key_of two) ↔ (one ≡ two) }
 {}
 
-/// A moment has one text.
+/// A moment has exactly one text.
 pub fn date_of_a_moment()
     ensures { (moment : ℕ) (one two : List ℕ) → IsDateText moment one → IsDateText moment two → one ≡ two }
 {}
 
-/// A response has one text.
+/// A response has exactly one text.
 pub fn reply_to_a_mail()
     ensures { (args : VacArgs) (mail : MailSpec) (own : Addr) (moment : ℕ) (one two : List ℕ)
         → IsReply args mail own moment one → IsReply args mail own moment two → one ≡ two }

@@ -13,7 +13,7 @@ use sieveexec::Mail;
 use sievesyntax::VacArgs;
 use std::alloc::{AllocError, Global};
 
-/// The response to a mail, of the user with this address, at this moment: a header of eight lines at most, and a body.
+/// Returns the response of the user with this address to a mail at this moment: a header of at most eight lines, and a body.
 ///
 /// A moment is in seconds since 1 January 1970, up to [`MAX_MOMENT`]. Linear in the arguments and in the mail's header;
 /// lack of memory is the only error.
@@ -36,7 +36,7 @@ pub fn reply_bytes(
     Ok(reply)
 }
 
-/// Appends what stands before a value, the value and what stands after it.
+/// Appends what precedes a value, the value and what follows it.
 pub(crate) fn push_parts(
     out: &mut Octets,
     front: &[u8],

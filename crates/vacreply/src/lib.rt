@@ -1,4 +1,4 @@
-//! The answer of `vacation` (RFC 5230): by what it is known, whether it is sent, and its octets.
+//! The response of `vacation` (RFC 5230): what identifies it, whether it is sent, and its octets.
 #![tactic(auto)]
 
 pub mod addressed;

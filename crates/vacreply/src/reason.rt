@@ -1,8 +1,8 @@
-//! Whether a response is sent, and why none is.
+//! Whether a response is sent, and why not.
 ghost use Rattle.std.specs.Prelude.{◌≡◌};
 ghost use Rattle.vacreply.specs.Reasons.{number_of};
 
-/// Why no response is sent, in the order in which the reasons are looked at.
+/// Why no response is sent, in the order in which the reasons are checked.
 #[derive(Clone, Copy, Debug, PartialEq, Eq)]
 pub enum Reason {
     /// The envelope's sender is empty (RFC 5230, 4.6).
@@ -13,16 +13,16 @@ pub enum Reason {
     RobotSender = 3,
     /// The sender is an address of the user.
     OwnSender = 4,
-    /// An Auto-Submitted field says other than `no` (RFC 3834, 2 and 5), or an X-Auto-Response-Suppress field `All`, `OOF` or
+    /// An Auto-Submitted field says something other than `no` (RFC 3834, 2 and 5), or an X-Auto-Response-Suppress field `All`, `OOF` or
     /// `AutoReply`.
     Automatic = 5,
     /// A mailing list sent the mail: it has a field that lists add (RFC 5230, 4.6; RFC 2369; RFC 2919).
     ListMail = 6,
     /// A Precedence field says `bulk`, `list` or `junk` (RFC 3834, 2).
     Bulk = 7,
-    /// No address of the user stands among the recipients (RFC 5230, 4.5).
+    /// No address of the user is among the recipients (RFC 5230, 4.5).
     NotAddressed = 8,
-    /// The sender got this response, and the period since then isn't over (RFC 5230: 4.1 on the period, 4.2 on what is kept).
+    /// The sender received this response, and the period since then isn't over (RFC 5230: 4.1 on the period, 4.2 on what is kept).
     TooSoon = 9,
 }
 

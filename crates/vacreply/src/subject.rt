@@ -1,4 +1,4 @@
-//! What the response is about.
+//! The subject of the response.
 ghost use Rattle.std.specs.Prelude.{◌≡◌, codes, IfOk, OnOk, Some, option_copied, string_bytes};
 ghost use Rattle.encwords.specs.Headers.{IsHeaderText};
 ghost use Rattle.vacreply.specs.Layout as layout;
@@ -13,10 +13,10 @@ use sieveexec::Mail;
 use sievesyntax::VacArgs;
 use std::alloc::{AllocError, Global};
 
-/// The subject where neither the script nor the mail has a usable one.
+/// The subject if neither the script nor the mail has a usable one.
 const AUTOMATED: &str = "Automated reply";
 
-/// How many characters of a mail's subject a response has at most: whoever wrote it chose how long it is, and a response is kept
+/// The most characters of a mail's subject that a response repeats: the sender chose how long it is, and a response is kept
 /// until it is sent.
 const MAX_SUBJECT: usize = 256;
 
@@ -42,7 +42,7 @@ fn subject_value(alloc: Global, args: &VacArgs, mail: &Mail<'_>) -> Result<Vec<u
     auto_subject(alloc, mail)
 }
 
-/// The text of `:subject`, if it is one of UTF-8.
+/// The text of `:subject`, if it is UTF-8.
 fn given(subject: &Option<Octets>) -> Option<&str>
     ensures { option_copied result ≡ layout.usable subject.now }
 {
@@ -52,7 +52,7 @@ fn given(subject: &Option<Octets>) -> Option<&str>
     }
 }
 
-/// A subject made of the mail's.
+/// A subject made from the mail's.
 fn auto_subject(alloc: Global, mail: &Mail<'_>) -> Result<Vec<u8>, AllocError>
     ensures { IfOk result (λ value. IsHeaderText (layout.auto_subject (layout.usable (layout.subject_of mail.now))) value.items) }
 {
@@ -64,7 +64,7 @@ fn auto_subject(alloc: Global, mail: &Mail<'_>) -> Result<Vec<u8>, AllocError>
     auto_text(alloc, trim_blanks(text.as_slice()))
 }
 
-/// A subject made of the text of the mail's.
+/// A subject made from the text of the mail's.
 fn auto_text(alloc: Global, first: &[u8]) -> Result<Vec<u8>, AllocError>
     ensures { IfOk result (λ value. IsHeaderText (layout.auto_subject (layout.usable (Some first.now))) value.items) }
 {
@@ -79,7 +79,7 @@ fn auto_text(alloc: Global, first: &[u8]) -> Result<Vec<u8>, AllocError>
     header_text(alloc, told.as_str())
 }
 
-/// The first [`MAX_SUBJECT`] characters of a text, then `...` where it has more.
+/// The first [`MAX_SUBJECT`] characters of a text, and then `...` if it has more.
 fn shortened(alloc: Global, text: &str) -> Result<String, AllocError>
     ensures { IfOk result (λ short. string_bytes short ≡ layout.shortened text.now) }
 {

@@ -1,24 +1,24 @@
-//! Texts whose ASCII case is ignored, and texts of UTF-8.
+//! Texts compared ignoring ASCII case, and texts in UTF-8.
 ghost use Rattle.std.specs.Prelude.{◌≡◌, Some, option_copied};
 ghost use Rattle.std.specs.List.{list_any};
 ghost use Rattle.vacreply.specs.Cases as cases;
 ghost use Rattle.vacreply.specs.Layout.{usable};
 
-/// Whether two texts are the same, case ignored.
+/// Whether two texts are the same, ignoring case.
 pub(crate) fn is_same(one: &[u8], two: &[u8]) -> bool
     ensures { result ≡ cases.same_text one.now two.now }
 {
     one.eq_ignore_ascii_case(two)
 }
 
-/// Whether a text is one of these, case ignored.
+/// Whether a text is one of these, ignoring case.
 pub(crate) fn is_one_of(texts: &[&[u8]], text: &[u8]) -> bool
     ensures { result ≡ list_any (λ one. cases.same_text one.now text.now) texts.now }
 {
     texts.iter().any(|one| is_same(one, text))
 }
 
-/// Whether a text begins with a front, case ignored.
+/// Whether a text begins with `front`, ignoring case.
 pub(crate) fn begins_with(front: &[u8], text: &[u8]) -> bool
     ensures { result ≡ cases.begins_with front.now text.now }
 {
@@ -28,7 +28,7 @@ pub(crate) fn begins_with(front: &[u8], text: &[u8]) -> bool
     is_same(front, text.split_at(front.len()).0)
 }
 
-/// Whether a text ends with an end, case ignored.
+/// Whether a text ends with `end`, ignoring case.
 pub(crate) fn ends_with(end: &[u8], text: &[u8]) -> bool
     ensures { result ≡ cases.ends_with end.now text.now }
 {
@@ -38,7 +38,7 @@ pub(crate) fn ends_with(end: &[u8], text: &[u8]) -> bool
     is_same(end, text.split_at(text.len() - end.len()).1)
 }
 
-/// The text, if it is one of UTF-8.
+/// The text, if it is UTF-8.
 pub(crate) fn usable(text: &[u8]) -> Option<&str>
     ensures { option_copied result ≡ usable (Some text.now) }
 {

@@ -8,7 +8,7 @@ ghost use Rattle.vacreply.specs.Folds.{begins_feed_fold, fold_len, after_word, a
 
 use octets::is_blank;
 
-/// Whether the value, without the blanks at its ends, is a word of small letters; case ignored.
+/// Whether the value, without the blanks at its ends, is a word, ignoring case. The word is given in lower case.
 pub(crate) fn is_word(raw: &[u8], word: &[u8]) -> bool
     requires { list_all is_small word.now ≡ true }
     ensures { result ≡ same_text word.now (trimmed (unfold_of raw.now)) }
@@ -19,8 +19,8 @@ pub(crate) fn is_word(raw: &[u8], word: &[u8]) -> bool
     is_blank_value(after)
 }
 
-/// Whether what stands before the value's first octet of this mark, without the blanks at its ends, is a word of small letters;
-/// case ignored.
+/// Whether what precedes the first `mark` in the value, without the blanks at its ends, is a word, ignoring case. The word is given
+/// in lower case.
 pub(crate) fn is_word_before(raw: &[u8], word: &[u8], mark: u8) -> bool
     requires small { list_all is_small word.now ≡ true }
     requires apart { is_mark mark ≡ true }
@@ -32,7 +32,7 @@ pub(crate) fn is_word_before(raw: &[u8], word: &[u8], mark: u8) -> bool
     ends_by_mark(after, mark)
 }
 
-/// What stands after the value's first comma.
+/// What follows the value's first comma.
 pub(crate) fn after_comma(raw: &[u8]) -> Option<&[u8]>
     ensures value { option_map (λ rest. unfold_of rest.now) result ≡ after_comma (unfold_of raw.now) }
     ensures shorter { IfSome result (λ rest. length rest.now < length raw.now) }
@@ -47,7 +47,7 @@ pub(crate) fn after_comma(raw: &[u8]) -> Option<&[u8]>
     None
 }
 
-/// Whether the value has blanks alone.
+/// Whether the value has only blanks.
 fn is_blank_value(raw: &[u8]) -> bool
     ensures { result ≡ is_empty (trim_front (unfold_of raw.now)) }
 {
@@ -57,7 +57,7 @@ fn is_blank_value(raw: &[u8]) -> bool
     }
 }
 
-/// Whether nothing but blanks stands before the value's first octet of this mark.
+/// Whether the value is at its end or begins with `mark`, apart from blanks.
 fn ends_by_mark(raw: &[u8], mark: u8) -> bool
     ensures { result ≡ ends_by_mark mark (trim_front (unfold_of raw.now)) }
 {
@@ -67,7 +67,7 @@ fn ends_by_mark(raw: &[u8], mark: u8) -> bool
     }
 }
 
-/// What stands after a word with which the value begins, case ignored.
+/// What follows a word with which the value begins, ignoring case.
 fn after_word<'a>(raw: &'a [u8], word: &[u8]) -> Option<&'a [u8]>
     ensures { option_map (λ rest. unfold_of rest.now) result ≡ after_word word.now (unfold_of raw.now) }
 {
@@ -84,7 +84,7 @@ fn after_word<'a>(raw: &'a [u8], word: &[u8]) -> Option<&'a [u8]>
     Some(rest)
 }
 
-/// The value without the blanks at its front.
+/// The value without the blanks at its beginning.
 fn skip_blanks(raw: &[u8]) -> &[u8]
     ensures { unfold_of result.now ≡ trim_front (unfold_of raw.now) }
 {
@@ -108,7 +108,7 @@ fn next_octet(raw: &[u8]) -> Option<(u8, &[u8])>
     Some((*octet, after))
 }
 
-/// How many octets the line end has that stands first and that a blank follows.
+/// How many octets a line end has that comes first and that a blank follows.
 fn fold_len(raw: &[u8]) -> usize
     ensures value { result ≡ fold_len raw.now }
     ensures within { result ≤ length raw.now }
@@ -125,7 +125,7 @@ fn fold_len(raw: &[u8]) -> usize
     0
 }
 
-/// Whether LF and then a blank stand first.
+/// Whether the text begins with LF and then a blank.
 fn begins_feed_fold(text: &[u8]) -> bool
     ensures { result ≡ begins_feed_fold text.now }
 {
