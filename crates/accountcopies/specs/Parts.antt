@@ -1,4 +1,4 @@
--- What an account has, as the head and the parts of its text.
+-- An account, as the head and the parts of its text.
 use Rattle.std.specs.Prelude.{◌==◌, ◌++◌, ℕ, Bool, false, List, [], ◌∷◌, map, Option, Some, None, if◌then◌else◌}
 use Rattle.std.specs.FinMap.{entries}
 use Rattle.accountfiles.specs.declared.head.Head.{Head}
@@ -23,28 +23,28 @@ use Rattle.accountcopies.specs.declared.run.Run.{Run}
 abbrev pub owner_of : List ℕ → Account → Owner
 owner_of user a = record { name = user; address = a.address; salt = a.password.salt; digest = a.password.digest; active = a.active }
 
--- the counters of copies and of notices no account tells
+-- the counters of copies and of notices are not in an account
 abbrev pub numbers_of : Account → ℕ → ℕ → Numbers
 numbers_of a next_copy next_notice = record { rounds = a.password.rounds; next_copy = next_copy; next_out = a.next_out; next_notice = next_notice }
 
 abbrev pub head_of : List ℕ → Account → ℕ → ℕ → Head
 head_of user a next_copy next_notice = record { owner = owner_of user a; numbers = numbers_of a next_copy next_notice }
 
--- the same by what is read of it
+-- the same from what is read of it
 abbrev pub head_by : List ℕ → Profile → Counters → Head
 head_by user profile counters = record {
   owner = record { name = user; address = profile.address; salt = profile.salt; digest = profile.digest; active = profile.active };
   numbers = record { rounds = profile.rounds; next_copy = counters.copy; next_out = counters.out; next_notice = counters.notice };
 }
 
--- ---- copies of one message that stand one behind another
+-- ---- consecutive copies of one message
 
--- a copy with this number of its message goes on with the run
+-- a copy with this number of its message continues the run
 abbrev pub goes_on : Option Run → ℕ → Bool
 goes_on None id = false
 goes_on (Some run) id = id == run.id
 
--- the number of the first copy of the run in which this copy stands, by its own number and its message's
+-- the number of the first copy of the run that this copy is in, given its own number and its message's
 abbrev pub first_in : Option Run → ℕ → ℕ → ℕ
 first_in None n id = n
 first_in (Some run) n id = if id == run.id then run.first else n
@@ -61,7 +61,7 @@ script_part e = Script e.0 e.1
 abbrev pub reply_part : (List ℕ × List ℕ) × ℕ → Part
 reply_part e = Reply e.0.0 e.0.1 e.1
 
--- a copy behind one of the same message says no more than where it is, and its own flags
+-- a copy after one of the same message says only where it is, and its own flags
 abbrev pub copy_part : Option Run → KeptCopy → Part
 copy_part run c = if goes_on run c.id then Copy c.n c.folder (first_in run c.n c.id) c.flags else Mail c.n c.folder c.message c.flags
 

@@ -1,4 +1,4 @@
--- Where the parts of an account are.
+-- The places of the parts of an account.
 use Rattle.std.specs.Prelude.{◌≡◌, ◌++◌, ℕ, Bool, true, false, List, [], ◌∷◌, map, Option, Result, Some, None, if◌then◌else◌}
 use Rattle.std.specs.List.{list_any}
 use Rattle.std.specs.FinMap.{keys}
@@ -20,7 +20,7 @@ use Rattle.accountcopies.specs.declared.place.Place.TheVariants as place
 use Rattle.accountcopies.specs.declared.run.Run.{Run}
 use Rattle.accountcopies.specs.Parts.{first_in, goes_on, run_with}
 
--- whatever rows of our tables the database has, where the user's show the account, this holds of them
+-- whatever rows of our tables the database has, if the user's show the account, this holds of them
 abbrev pub OfShown : Database → (user : List ℕ) (a : Account) → ((own : Tables) → IsShown user own a → Type 0) → Type 0
 OfShown db user a P = (tables : Tables) → HoldsTables mail_schema db tables → (s : IsShown user (rows_of user tables) a) → P (rows_of user tables) s
 
@@ -60,13 +60,13 @@ AreCopyPlaces user old new db a = OfShown db user a (λ own s. new ≡ old ++ co
 abbrev pub AreNoticePlaces : List ℕ → List Place → List Place → Database → Account → Type 0
 AreNoticePlaces user old new db a = OfShown db user a (λ own s. new ≡ old ++ map place.Notice (map (λ e. e.0) s.notices.entries))
 
--- ---- what the calls promise of them, of an account that was entered and that the state before shows
+-- ---- the promises of the calls, for an account that was entered and that the state before shows
 
 -- the read of all places
 abbrev pub ListsPlaces : List ℕ → State → State → Result (List Place) Refusal → Type 0
 ListsPlaces user old new r = ReadsEntered user (λ places a. ArePlaces user places old.now a) old new r
 
--- the read of the copies, whose places join the others
+-- the read of the copies, whose places are appended to the others
 abbrev pub JoinsCopies : List ℕ → List Place → List Place → State → State → Result (Unit {0}) Refusal → Type 0
 JoinsCopies user before after old new r = ReadsEntered user (λ _ a. AreCopyPlaces user before after old.now a) old new r
 

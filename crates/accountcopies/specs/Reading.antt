@@ -28,7 +28,7 @@ pub record IsListOf (contents : Contents) (a : Account) (own : Tables) (s : IsSh
 abbrev pub AreFirst : List Part → (user : List ℕ) (a : Account) (own : Tables) → IsShown user own a → Type 0
 AreFirst parts user a own s = parts ≡ take (length parts) (parts_of a s.copies.entries s.notices.entries)
 
--- of the account that the database shows this was listed and these are the first parts, and a text may have them
+-- for the account that the database shows this was listed and these are the first parts, and a text may have them
 pub record AreRead (contents : Contents) (parts : List Part) (db : Database) (a : Account) : Type 0 where
   pub listed : OfShown db contents.head.owner.name a (IsListOf contents a)
   pub first : OfShown db contents.head.owner.name a (AreFirst parts contents.head.owner.name a)
@@ -36,17 +36,17 @@ pub record AreRead (contents : Contents) (parts : List Part) (db : Database) (a 
   pub active : has_active contents.head.owner.active contents.places ≡ true
   pub fit : AllByRecursion (MayHave contents.head.numbers) parts
 
--- where all parts before this place were read, it is the next one
+-- if all parts before this place were read, this is the next one
 abbrev pub IsNextPart : Contents → ℕ → Part → Database → Account → Type 0
 IsNextPart contents at part db a = (parts : List Part) → length parts ≡ at → AreRead contents parts db a → AreRead contents (parts ++ part ∷ []) db a
 
--- ---- what the calls promise of it, of the account that the state before shows
+-- ---- the promises of the calls, for the account that the state before shows
 
--- the read of what the user's open account has, of whose parts none is read yet
+-- the list of what the user's open account has, of whose parts none is read yet
 abbrev pub ListsContents : List ℕ → State → State → Result Contents Refusal → Type 0
 ListsContents user old new r = Reads user (λ contents a. AreRead contents [] old.now a) old new r
 
--- the same of an account that was entered, where this is its profile
+-- the same for an account that was entered, if this is its profile
 abbrev pub ListsEntered : List ℕ → Profile → State → State → Result Contents Refusal → Type 0
 ListsEntered user profile old new r = ReadsEntered user (λ contents a. profile ≡ profile_of a → AreRead contents [] old.now a) old new r
 

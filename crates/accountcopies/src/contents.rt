@@ -1,4 +1,4 @@
-//! What an account has, without its texts and messages.
+//! The contents of an account, without its texts and messages.
 ghost use Rattle.std.specs.Prelude.{◌≡◌, true, IfOk, IfErr};
 ghost use Rattle.sqlite.specs.Held.{state};
 ghost use Rattle.accountfiles.specs.Text.{IsHead};
@@ -14,22 +14,22 @@ use octets::{List, Octets};
 use sqlite::Alter;
 use std::alloc::{AllocError, Global};
 
-/// What an account has: what it has once, and where each of its parts is, in the order of its text. Memory is in proportion to names
-/// and numbers alone: it has no text of a script, no message, and no text of a notice.
+/// The contents of an account: what it has once, and the place of each of its parts, in the order of its text. Memory is in
+/// proportion to names and numbers only: it holds no script's text, no message, and no notice's text.
 #[derive(Debug, Drop)]
 pub struct Contents {
     pub head: Head,
     pub places: List<Place>,
 }
 
-/// What the user's open account has.
+/// Lists the contents of the user's open account.
 ///
 /// Time is linear in the rows of the account, memory in their names and numbers.
 ///
 /// # Errors
 ///
-/// `NoUser` without an account and where it is closed; `Memory`; `Store`, also of an account that has no text: a counter is past 2^63 - 1,
-/// or the active script isn't there.
+/// `NoUser` without an account and if it is closed; `Memory`; `Store`, also if the account can't have a text: a counter is past
+/// 2^63 - 1, or the active script isn't there.
 pub fn list_contents<S: Alter>(
     alloc: Global,
     store: &mut Store<S>,
@@ -42,7 +42,7 @@ pub fn list_contents<S: Alter>(
     list_of(alloc, store, user, profile)
 }
 
-/// What the account has that was entered, and of which this is the profile.
+/// The contents of the account that was entered and has this profile.
 fn list_of<S: Alter>(
     alloc: Global,
     store: &mut Store<S>,
@@ -83,7 +83,7 @@ fn head_of(
     Ok(Head { owner, numbers })
 }
 
-/// Both, where a text can have this head and the active script has a place.
+/// Both, if a text can have this head and the active script has a place.
 fn contents_of(head: Head, places: List<Place>) -> Result<Contents, Refusal>
     ensures made { IfOk result (λ contents. contents ≡ record { head = head; places = places }) }
     ensures head { IfOk result (λ contents. IsHead contents.head) }

@@ -14,7 +14,7 @@ pub fn copies_begin()
         → HasRead contents parts db accounts a → BeginsCopy contents parts a }
 {}
 
-/// Where each place was read, the parts make the account again: their text is a copy of it.
+/// If each place was read, the parts make the account again: their text is a copy of it.
 pub fn copies_are_whole()
     ensures { (contents : Contents) (parts : List Part) (db : Database) (accounts : Accounts) (a : Account)
         → HasRead contents parts db accounts a → length parts ≡ length contents.places → IsCopyOf (text_of contents.head parts) contents.head.owner.name a }

@@ -1,4 +1,4 @@
-//! An account of a store as the text that leaves it: what it has is listed, and each part is read when its turn comes.
+//! Reads an account of a store for its text: its contents are listed first, and then each part is read when it is needed.
 #![tactic(auto)]
 
 mod contents;

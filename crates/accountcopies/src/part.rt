@@ -16,13 +16,13 @@ use octets::Octets;
 use sqlite::Alter;
 use std::alloc::Global;
 
-/// The part at the place, of an account whose contents were listed and which is as it was.
+/// Reads the part at a place, in an account whose contents were listed and that hasn't changed since.
 ///
-/// One row is found by its key, of a message that folders have two; no other text is read. Memory is in proportion to the part.
+/// One row is found by its key, two for a message in a folder; no other text is read. Memory is in proportion to the part.
 ///
 /// # Errors
 ///
-/// `Memory`; `Store`, also where the part isn't there, and where no text can have it: a moment is past 2^63 - 1.
+/// `Memory`; `Store`, also if the part isn't there, or if no text can have it: a moment is past 2^63 - 1.
 pub fn read_part<S: Alter>(
     alloc: Global,
     store: &mut Store<S>,
@@ -40,7 +40,7 @@ pub fn read_part<S: Alter>(
     Ok(part)
 }
 
-/// What the account that was entered has at the place.
+/// The part of the account that was entered at the place.
 fn part_at<S: Alter>(
     alloc: Global,
     store: &mut Store<S>,
@@ -95,7 +95,7 @@ fn read_mail<S: Alter>(
     mail(alloc, copy, message)
 }
 
-/// A copy behind another one of the same message, which is there.
+/// A copy after another one of the same message, which is there.
 fn read_copy<S: Alter>(
     alloc: Global,
     store: &mut Store<S>,
@@ -162,7 +162,7 @@ fn mail(alloc: Global, copy: &Filing, message: Octets) -> Result<Part, Refusal>
     })
 }
 
-/// A copy behind another one; without another one it is refused.
+/// A copy after another one; without another one it is refused.
 fn copy_behind(alloc: Global, copy: &Filing, first: u64, is_shared: bool) -> Result<Part, Refusal>
     ensures made { IfOk result (λ part. part ≡ Part.Copy copy.now.n copy.now.folder first copy.now.flags) }
     ensures named { IfErr result IsTransient }

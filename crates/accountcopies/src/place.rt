@@ -1,4 +1,4 @@
-//! Where the parts of an account are.
+//! The places of an account's parts.
 ghost use Rattle.std.specs.Prelude.{◌≡◌, ◌++◌, List, None, OnOk, IfErr, map, option_copied};
 ghost use Rattle.std.specs.List.{list_any};
 ghost use Rattle.sqlite.specs.Held.{state};
@@ -13,16 +13,16 @@ use octets::{List, Octets, Texts};
 use sqlite::Alter;
 use std::alloc::Global;
 
-/// Where a part of an account is found.
+/// The place where a part of an account is found.
 #[derive(Debug, Drop)]
 pub enum Place {
     /// A script, by its name.
     Script(Octets),
     /// The moment of a reply, by its key.
     Reply(ReplyKey),
-    /// A copy in a folder, behind none of the same message.
+    /// A copy in a folder that doesn't follow one of the same message.
     Mail(Filing),
-    /// A copy in a folder, behind another one of the same message; `first` is the number of the first of these.
+    /// A copy in a folder that follows another one of the same message; `first` is the number of the first of these.
     Copy { copy: Filing, first: u64 },
     /// A message on its way out, by its number.
     Letter(u64),
@@ -30,7 +30,7 @@ pub enum Place {
     Notice(u64),
 }
 
-/// Where all parts of an account are that was entered, in the order of its text.
+/// The places of all parts of the account that was entered, in the order of its text.
 pub(crate) fn list_places<S: Alter>(
     alloc: Global,
     store: &mut Store<S>,
@@ -122,7 +122,7 @@ fn push_replies(places: &mut List<Place>, all: List<ReplyKey>) -> Result<(), Ref
     Ok(())
 }
 
-/// Each copy says whether it stands behind another one of the same message.
+/// Appends the places of copies, each with whether it follows another one of the same message.
 fn push_copies(places: &mut List<Place>, filings: List<Filing>) -> Result<(), Refusal>
     ensures pushed { OnOk result (places.new ≡ places.old ++ copy_places None filings) }
     ensures named { IfErr result IsTransient }
@@ -136,7 +136,7 @@ fn push_copies(places: &mut List<Place>, filings: List<Filing>) -> Result<(), Re
     Ok(())
 }
 
-/// The place of a copy behind this run.
+/// The place of a copy after this run.
 fn copy_place(run: Option<Run>, copy: Filing) -> Place
     ensures { result ≡ copy_place_of run copy }
 {

@@ -1,7 +1,7 @@
-//! Copies of one message that stand one behind another.
+//! Runs of copies of one message.
 ghost use Rattle.std.specs.Prelude.{◌≡◌};
 
-/// Copies of one message that stand one behind another, in the order of their numbers.
+/// Consecutive copies of one message, in the order of their numbers.
 #[derive(Clone, Copy)]
 pub(crate) struct Run {
     /// The number of their message.
@@ -13,7 +13,7 @@ pub(crate) struct Run {
 impl Run {
     ghost use Rattle.accountcopies.specs.Parts.{goes_on, run_with};
 
-    /// Whether a copy of the message with this number goes on with the run.
+    /// Whether a copy of the message with this number continues the run.
     pub(crate) fn goes_on(run: Option<Run>, id: u64) -> bool
         ensures { result ≡ goes_on run id }
     {
@@ -23,7 +23,7 @@ impl Run {
         }
     }
 
-    /// The run of a copy behind this one, by the copy's number and its message's.
+    /// The run after one more copy, given the copy's number and its message's.
     pub(crate) fn with(run: Option<Run>, n: u64, id: u64) -> Run
         ensures { result ≡ run_with run n id }
     {

@@ -14,7 +14,7 @@ use Rattle.accountfiles.specs.declared.part.Part.TheVariants.{Script, Reply, Mai
 abbrev pub version_fields : List (List ℕ)
 version_fields = codes "sieved-account" ∷ codes "1" ∷ []
 
--- a name that isn't there is no field
+-- a name that isn't there has no field
 abbrev pub owner_fields : Owner → List (List ℕ)
 owner_fields o = codes "account" ∷ o.name ∷ o.address ∷ o.salt ∷ o.digest ∷ option_to_list o.active
 
@@ -25,7 +25,7 @@ abbrev pub letter_word : LetterKind → List ℕ
 letter_word Redirect = codes "redirect"
 letter_word Answer = codes "answer"
 
--- where there are none, no field is written
+-- if there are none, no field is written
 abbrev pub flags_fields : List ℕ → List (List ℕ)
 flags_fields [] = []
 flags_fields (octet ∷ flags) = (octet ∷ flags) ∷ []
@@ -117,7 +117,7 @@ five_at word a b c d =
     cond (same_text word (codes "mail")) (where_flags d (mail_at a b c d))
     (cond (same_text word (codes "copy")) (where_flags d (copy_at a b c d)) (letter_at word a b c d))
 
--- the part that the fields say, if they say one
+-- the part in the fields, if they are one's
 unfoldable pub part_at : List (List ℕ) → Option Part
 part_at [] = None
 part_at (word ∷ []) = None
@@ -127,7 +127,7 @@ part_at (word ∷ a ∷ b ∷ c ∷ []) = four_at word a b c
 part_at (word ∷ a ∷ b ∷ c ∷ d ∷ []) = five_at word a b c d
 part_at (word ∷ a ∷ b ∷ c ∷ d ∷ e ∷ more) = None
 
--- the sum that the fields say, if they say one
+-- the sum in the fields, if they are one's
 unfoldable pub sum_at : List (List ℕ) → Option (List ℕ)
 sum_at [] = None
 sum_at (word ∷ []) = None

@@ -7,7 +7,7 @@ use Rattle.accountfiles.specs.declared.head.Numbers.{Numbers}
 use Rattle.accountfiles.specs.declared.part.Part.{Part}
 use Rattle.accountfiles.specs.declared.part.Part.TheVariants.{Script, Reply, Mail, Copy, Letter, Notice}
 
--- the fields of a part that are no numbers
+-- the fields of a part that aren't numbers
 abbrev pub texts_of : Part → List (List ℕ)
 texts_of (Script name text) = name ∷ text ∷ []
 texts_of (Reply handle sender moment) = handle ∷ sender ∷ []
@@ -16,7 +16,7 @@ texts_of (Copy number folder first flags) = folder ∷ flags_fields flags
 texts_of (Letter id kind sender target message) = sender ∷ target ∷ message ∷ []
 texts_of (Notice number moment text) = text ∷ []
 
--- the account gave its numbers, a database can have its moment, and its fields are such as memory holds
+-- the account gave its numbers, a database can hold its moment, and memory can hold its fields
 pub record MayHave (numbers : Numbers) (part : Part) : Type 0 where
   pub given : fits numbers part ≡ true
   pub small : AreFields (part_fields part)

@@ -1,4 +1,4 @@
--- Texts with their lengths before them, and lines of them.
+-- Texts preceded by their lengths, and lines of them.
 use Rattle.std.specs.Prelude.{◌≡◌, ◌<◌, ◌^◌, ◌==◌, ◌&&◌, Bool, true, not, ℕ, List, [], ◌∷◌, ◌++◌, length, decimal, nat_eq, nat_lt, Option, Some, None, cond, map}
 use Rattle.std.specs.Borrow.{Bor}
 use Rattle.std.specs.List.{flat_map, AllByRecursion, list_all}
@@ -13,18 +13,18 @@ netstring text = decimal (length text) ++ 58 ∷ (text ++ 44 ∷ [])
 unfoldable pub line : List (List ℕ) → List ℕ
 line fields = flat_map netstring fields ++ 10 ∷ []
 
--- a field has any length that memory has: no text there is longer
+-- a field has any length that memory can hold: no text there is longer
 abbrev pub IsField : List ℕ → Type 0
 IsField text = length text < 2 ^ 63
 
 abbrev pub AreFields : List (List ℕ) → Type 0
 AreFields = AllByRecursion IsField
 
--- what slices hold
+-- the texts of slices
 abbrev pub texts : List (Bor (List ℕ)) → List (List ℕ)
 texts = map (λ f. f.now)
 
--- the octet is no such mark
+-- the octet isn't this mark
 abbrev pub other : ℕ → ℕ → Bool
 other mark octet = not (octet == mark)
 
@@ -33,10 +33,10 @@ pub record CutsAt (mark : ℕ) (text front rest : List ℕ) : Type 0 where
   pub written : text ≡ front ++ mark ∷ rest
   pub first : list_all (other mark) front ≡ true
 
--- two texts are the same
+-- two texts are equal
 abbrev pub same_text : List ℕ → List ℕ → Bool
 same_text = pointwise nat_eq
 
--- the number below 2^63 that the digits write without zeros in front, if they write one so
+-- the number below 2^63 in decimal digits without leading zeros, if they are one
 unfoldable pub number_in : List ℕ → Option ℕ
 number_in text = cond (nat_lt (number_of text) (2 ^ 63) && same_text text (decimal (number_of text))) (Some (number_of text)) None

@@ -1,4 +1,4 @@
--- In which order the parts of an account stand, and which may stand there.
+-- The order of the parts of an account, and which part may follow which.
 use Rattle.std.specs.Prelude.{ℕ, ◌==◌, ◌&&◌, ◌^◌, Bool, true, false, List, [], ◌∷◌, nat_lt, nat_le, Option, Some, None}
 use Rattle.std.specs.List.{list_any}
 use Rattle.std.specs.declared.cmp.Ordering.{Ordering}
@@ -39,13 +39,13 @@ second_of part = []
 abbrev pub part_cmp : Part → Part → Ordering
 part_cmp = then_cmp (on rank_of nat_cmp) (then_cmp (on number_of nat_cmp) (then_cmp (on key_of (slice_cmp nat_cmp)) (on second_of (slice_cmp nat_cmp))))
 
--- the copy that the part before it is of the same message
+-- the part before is a copy of the same message
 abbrev pub has_come : ℕ → Option Part → Bool
 has_come first (Some (Mail number folder message flags)) = number == first
 has_come first (Some (Copy number folder other flags)) = other == first
 has_come first part = false
 
--- a copy stands behind its message or another copy of it
+-- a copy comes after its message or another copy of it
 abbrev pub joins : Option Part → Part → Bool
 joins last (Copy number folder first flags) = has_come first last
 joins last part = true
@@ -57,7 +57,7 @@ comes_after (Some last) part = is_lt (part_cmp last part)
 abbrev pub follows : Option Part → Part → Bool
 follows last part = comes_after last part && joins last part
 
--- the parts stand in this order behind the last one
+-- the parts come in this order after the last one
 abbrev pub are_chained : Option Part → List Part → Bool
 are_chained last [] = true
 are_chained last (part ∷ parts) = follows last part && are_chained (Some part) parts
@@ -66,7 +66,7 @@ are_chained last (part ∷ parts) = follows last part && are_chained (Some part)
 abbrev pub is_given : ℕ → ℕ → Bool
 is_given next number = nat_le 1 number && nat_lt number next
 
--- a part's numbers were given by the account, and a database can have its moment
+-- the account gave the part's numbers, and a database can hold its moment
 abbrev pub fits : Numbers → Part → Bool
 fits n (Script name text) = true
 fits n (Reply handle sender moment) = nat_lt moment (2 ^ 63)

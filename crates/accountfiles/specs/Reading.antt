@@ -46,7 +46,7 @@ entry_by None part = option_map entry.Part part
 abbrev pub entry_at : List (List ℕ) → Option Entry
 entry_at fields = entry_by (sum_at fields) (part_at fields)
 
--- whether what a line says may stand behind the last part
+-- whether the contents of a line may come after the last part
 abbrev pub stands : Numbers → Option Part → Entry → Bool
 stands numbers last (entry.Part part) = fits numbers part && follows last part
 stands numbers last (entry.Sum sum) = true
@@ -55,11 +55,11 @@ pub record MayStand (numbers : Numbers) (last : Option Part) (e : Entry) : Type 
   pub is : IsEntry e
   pub there : stands numbers last e ≡ true
 
--- whether the parts end: nothing is behind the sum, which is that of the body, and the active script is one of them
+-- whether the parts end: nothing comes after the sum, which is that of the body, and the active script is one of them
 abbrev pub ends : Head → List Part → List ℕ → List ℕ → List ℕ → Bool
 ends head parts body sum behind = length behind == 0 && (has_active head.owner.active parts && has_sum sum body)
 
--- a line that says this stands in front; or none that says such a thing does
+-- such a line is at the start; or none is
 pub record ReadsLine {X : Type 0} (fields_of : X → List (List ℕ)) (Fits : X → Type 0) (octets : List ℕ) (result : Result (X × Bor (List ℕ)) ReadError) : Type 0 where
   pub found : IfOk result (λ taken. octets ≡ line (fields_of taken.0) ++ taken.1.now)
   pub fits : IfOk result (λ taken. Fits taken.0)

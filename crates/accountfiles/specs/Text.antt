@@ -11,14 +11,14 @@ use Rattle.accountfiles.specs.declared.part.Part.{Part}
 
 -- ---- an account that has a text
 
--- the numbers are such that a database can have them, and the fields are such as memory holds
+-- a database can hold the numbers, and memory can hold the fields
 pub record IsHead (head : Head) : Type 0 where
   pub rounds : head.numbers.rounds < 2 ^ 32
   pub counters : are_numbers head.numbers ≡ true
   pub small : AreFields (owner_fields head.owner)
 
--- what is had once is such, the numbers of each part were given, the parts stand in their order, the active script is one of them, and the fields
--- are such as memory holds
+-- the head is one, the numbers of each part were given, the parts are in their order, the active script is one of them, and memory can
+-- hold the fields
 pub record IsAccount (head : Head) (parts : List Part) : Type 0 where
   pub once : IsHead head
   pub given : list_all (fits head.numbers) parts ≡ true
@@ -46,7 +46,7 @@ sum_line body = line (sum_fields (encode_lower (sha256 body)))
 abbrev pub text_of : Head → List Part → List ℕ
 text_of head parts = body_of head parts ++ sum_line (body_of head parts)
 
--- whether it is that SHA-256
+-- whether this is that SHA-256
 abbrev pub has_sum : List ℕ → List ℕ → Bool
 has_sum sum body = same_text sum (encode_lower (sha256 body))
 

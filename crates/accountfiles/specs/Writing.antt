@@ -1,4 +1,4 @@
--- What a writer has handed out.
+-- What a writer has returned.
 use Rattle.std.specs.Prelude.{ℕ, List, ◌++◌}
 use Rattle.sha2.specs.Hashers.{Holds256}
 use Rattle.accountfiles.specs.declared.writing.Writer.{Writer}

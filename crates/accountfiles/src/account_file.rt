@@ -1,4 +1,4 @@
-//! What an account's text says.
+//! The contents of an account's text.
 ghost use Rattle.std.proofs.Props.{props};
 ghost use Rattle.accountfiles.specs.Text.{IsAccount};
 
@@ -7,8 +7,8 @@ use crate::part::Part;
 use octets::List;
 use std::alloc::{AllocError, AllocFailed};
 
-/// What an account's text says: what the account has once, and its parts. They are those of an account: in their order, each number
-/// given, no field too long, and the active script among them. So whoever holds one may write it.
+/// The contents of an account's text: what the account has once, and its parts. They are those of an account: in their order, with
+/// numbers that were given, no field too long, and the active script among them. So whoever holds one may write it.
 #[derive(Debug, Drop)]
 pub struct AccountFile {
     pub head: Head,
@@ -16,12 +16,12 @@ pub struct AccountFile {
     pub ghost is_account: { IsAccount head parts } by { Prim.hlevel props },
 }
 
-/// Why a text isn't read.
+/// Why a text can't be read.
 #[derive(Clone, Copy, Debug, PartialEq, Eq)]
 pub enum ReadError {
     /// Memory ran out.
     Memory,
-    /// It is the text of no account, or of another version.
+    /// It is not the text of an account, or one of another version.
     NotAnAccount,
 }
 

@@ -1,4 +1,4 @@
-//! What the lines of a text say.
+//! The contents of the lines of a text.
 ghost use Rattle.std.specs.Prelude.{◌≡◌, ◌++◌, ⊤, ℕ, List, IfOk, IfErr};
 ghost use Rattle.accountfiles.specs.Netstring.{line, texts};
 ghost use Rattle.accountfiles.specs.Fields.{version_fields, owner_fields, numbers_fields};
@@ -12,7 +12,7 @@ use crate::part::Part;
 use octets::Octets;
 use std::alloc::{AllocError, Global};
 
-/// What a line behind the first ones says.
+/// The contents of a line after the first ones.
 #[derive(Drop)]
 pub(crate) enum Entry {
     Part(Part),
@@ -20,7 +20,7 @@ pub(crate) enum Entry {
     Sum(Octets),
 }
 
-/// What is behind the first line.
+/// Reads the first line, and returns the rest.
 pub(crate) fn take_version(alloc: Global, octets: &[u8]) -> Result<&[u8], ReadError>
     ensures found { IfOk result (λ rest. octets.now ≡ line version_fields ++ rest.now) }
     ensures none { IfErr result (λ e. e ≡ ReadError.NotAnAccount → (more : List ℕ) → octets.now ≡ line version_fields ++ more → ⊥) }
@@ -34,7 +34,7 @@ pub(crate) fn take_version(alloc: Global, octets: &[u8]) -> Result<&[u8], ReadEr
     Ok(rest)
 }
 
-/// Whose account it is, and what is behind that line.
+/// Reads the line on the account's owner, and returns it with the rest.
 pub(crate) fn take_owner(alloc: Global, octets: &[u8]) -> Result<(Owner, &[u8]), ReadError>
     ensures { ReadsLine owner_fields (λ _. ⊤) octets.now result }
 {
@@ -47,7 +47,7 @@ pub(crate) fn take_owner(alloc: Global, octets: &[u8]) -> Result<(Owner, &[u8]),
     Ok((owner, rest))
 }
 
-/// The account's numbers, and what is behind that line.
+/// Reads the line with the account's numbers, and returns them with the rest.
 pub(crate) fn take_numbers(alloc: Global, octets: &[u8]) -> Result<(Numbers, &[u8]), ReadError>
     ensures { ReadsLine numbers_fields AreSmall octets.now result }
 {
@@ -60,7 +60,7 @@ pub(crate) fn take_numbers(alloc: Global, octets: &[u8]) -> Result<(Numbers, &[u
     Ok((numbers, rest))
 }
 
-/// What the next line says, and what is behind it.
+/// Reads the next line, and returns its contents with the rest.
 pub(crate) fn take_entry(alloc: Global, octets: &[u8]) -> Result<(Entry, &[u8]), ReadError>
     ensures { ReadsLine entry_fields IsEntry octets.now result }
 {
@@ -73,7 +73,7 @@ pub(crate) fn take_entry(alloc: Global, octets: &[u8]) -> Result<(Entry, &[u8]),
     Ok((entry, rest))
 }
 
-/// What the fields say behind the first lines.
+/// The contents of a line after the first ones, from its fields.
 fn entry_of(alloc: Global, fields: &[&[u8]]) -> Result<Option<Entry>, AllocError>
     ensures { IfOk result (λ entry. entry ≡ entry_at (texts fields.now)) }
 {

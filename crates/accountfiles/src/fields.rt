@@ -1,4 +1,4 @@
-//! The parts of an account by the fields of a line.
+//! The parts of an account from the fields of a line.
 ghost use Rattle.std.specs.Prelude.{◌≡◌, ◌&&◌, IfOk, codes, option_map};
 ghost use Rattle.accountfiles.specs.Fields.{is_version, owner_at, owner_with as owner_by_word, rounds_in, counters_at, numbers_at, sum_at, part_at, script_at, reply_at, mail_at, copy_at, notice_at, four_at, where_flags, five_at, kind_at, letter_at};
 ghost use Rattle.accountfiles.specs.Netstring.{same_text, texts};
@@ -29,7 +29,7 @@ fn is_version_of(word: &[u8], version: &[u8]) -> bool
     word == b"sieved-account".as_slice() && version == b"1".as_slice()
 }
 
-/// Whose account it is; none where the fields don't say it.
+/// The account's owner; `None` if the fields aren't one's.
 #[tactic(auto, unfolding(crate::specs::Fields::owner_at))]
 pub(crate) fn owner_of(alloc: Global, fields: &[&[u8]]) -> Result<Option<Owner>, AllocError>
     ensures { IfOk result (λ owner. owner ≡ owner_at (texts fields.now)) }
@@ -105,7 +105,7 @@ fn counters_of(rounds: u32, copy: &[u8], out: &[u8], notice: &[u8]) -> Option<Nu
     })
 }
 
-/// The account's numbers; none where the fields don't say them.
+/// The account's numbers; `None` if the fields aren't these.
 #[tactic(auto, unfolding(crate::specs::Fields::numbers_at))]
 pub(crate) fn numbers_of(fields: &[&[u8]]) -> Option<Numbers>
     ensures { result ≡ numbers_at (texts fields.now) }
@@ -121,7 +121,7 @@ pub(crate) fn numbers_of(fields: &[&[u8]]) -> Option<Numbers>
     }
 }
 
-/// The sum at the end; none where the fields don't say it.
+/// The sum at the end; `None` if the fields aren't one.
 #[tactic(auto, unfolding(crate::specs::Fields::sum_at))]
 pub(crate) fn sum_of<'a>(fields: &[&'a [u8]]) -> Option<&'a [u8]>
     ensures { option_map (λ sum. sum.now) result ≡ sum_at (texts fields.now) }
@@ -132,7 +132,7 @@ pub(crate) fn sum_of<'a>(fields: &[&'a [u8]]) -> Option<&'a [u8]>
     }
 }
 
-/// The part that the fields say; none where they say none.
+/// The part in the fields; `None` if there is none.
 #[tactic(auto, unfolding(crate::specs::Fields::part_at))]
 pub(crate) fn part_of(alloc: Global, fields: &[&[u8]]) -> Found
     ensures { IfOk result (λ part. part ≡ part_at (texts fields.now)) }
@@ -158,7 +158,7 @@ fn script(alloc: Global, word: &[u8], name: &[u8], text: &[u8]) -> Found
     }))
 }
 
-/// A part of four fields.
+/// A part with four fields.
 #[tactic(auto, unfolding(crate::specs::Fields::four_at))]
 fn four(alloc: Global, word: &[u8], a: &[u8], b: &[u8], c: &[u8]) -> Found
     ensures { IfOk result (λ part. part ≡ four_at word.now a.now b.now c.now) }
@@ -176,7 +176,7 @@ fn four(alloc: Global, word: &[u8], a: &[u8], b: &[u8], c: &[u8]) -> Found
     }
 }
 
-/// A part of five fields: one of which the last field has flags, or a message on its way out.
+/// A part with five fields: one whose last field has flags, or a message on its way out.
 #[tactic(auto, unfolding(crate::specs::Fields::five_at))]
 fn five(alloc: Global, word: &[u8], a: &[u8], b: &[u8], c: &[u8], d: &[u8]) -> Found
     ensures { IfOk result (λ part. part ≡ five_at word.now a.now b.now c.now d.now) }

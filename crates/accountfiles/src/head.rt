@@ -1,7 +1,7 @@
 //! What an account has once.
 use octets::Octets;
 
-/// Whose account it is: name and address, what a password is tested against, and which script is active.
+/// Whose account it is: name, address and stored password, and which script is active.
 #[derive(Debug, Drop)]
 pub struct Owner {
     pub name: Octets,
@@ -15,7 +15,7 @@ pub struct Owner {
 /// An account's numbers. Each counter is at least 1 and below 2^63, and no number is given twice.
 #[derive(Clone, Copy, Debug)]
 pub struct Numbers {
-    /// How often the password was digested; a closed account has no rounds.
+    /// How many times the password was digested; a closed account has no rounds.
     pub rounds: u32,
     /// The number of the next copy of a message in a folder.
     pub next_copy: u64,

@@ -1,4 +1,4 @@
-//! An account as a text that leaves one store and enters another: lines of netstrings, in one order, and a SHA-256 at the end.
+//! An account as a text that is taken from one store to another: lines of netstrings, in one order, and a SHA-256 at the end.
 #![tactic(auto)]
 
 mod account_file;

@@ -12,7 +12,7 @@ use crate::order::{are_numbers, fits};
 use crate::part::Part;
 use octets::Octets;
 
-/// Whether a text can have this once: its counters are at least 1 and below 2^63. No field is too long: none in memory has 2^63 octets.
+/// Whether a text can have this head: its counters are at least 1 and below 2^63. No field is too long: none in memory has 2^63 octets.
 pub fn is_head(head: &Head) -> bool
     ensures { IsTrue result ↔ IsHead head.now }
 {
@@ -26,8 +26,8 @@ fn has_counters(numbers: Numbers) -> bool
     are_numbers(numbers)
 }
 
-/// Whether the text of an account with these numbers can have the part: the account gave its numbers, and its moment is below 2^63. No
-/// field is too long: none in memory has 2^63 octets.
+/// Whether the text of an account with these numbers can have the part: the account gave its numbers, and its moment is below 2^63.
+/// No field is too long: none in memory has 2^63 octets.
 pub fn may_have(numbers: Numbers, part: &Part) -> bool
     ensures { IsTrue result ↔ MayHave numbers part.now }
 {
@@ -50,7 +50,7 @@ fn has_owner_fields(owner: &Owner) -> bool
         && is_name(owner.active.as_ref())
 }
 
-/// Whether the name, if there is one, is a field.
+/// Whether the name, if there is one, fits a field.
 fn is_name(name: Option<&Octets>) -> bool
     ensures { IsTrue result ↔ AreFields (option_to_list (option_copied name.entry)) }
 {
@@ -60,14 +60,14 @@ fn is_name(name: Option<&Octets>) -> bool
     }
 }
 
-/// Whether the flags, if there are some, are a field.
+/// Whether the flags, if there are any, fit a field.
 fn are_flags(flags: &Octets) -> bool
     ensures { IsTrue result ↔ AreFields (flags_fields flags.now) }
 {
     is_field(flags)
 }
 
-/// Whether no text of the part is too long. A number never is.
+/// Whether no text of the part is too long for a field. A number never is.
 fn has_texts(part: &Part) -> bool
     ensures { IsTrue result ↔ AreFields (texts_of part.now) }
 {

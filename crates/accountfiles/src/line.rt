@@ -5,7 +5,7 @@ ghost use Rattle.accountfiles.specs.Netstring.{line, texts, AreFields};
 use crate::netstring::take_netstring;
 use std::alloc::{AllocError, Global};
 
-/// The fields of the line in front, and what is behind it; none where no line stands there.
+/// The fields of the line at the start, and the rest; `None` if there is no line.
 pub(crate) fn take_line(
     alloc: Global,
     octets: &[u8],
@@ -28,7 +28,7 @@ pub(crate) fn take_line(
     }
 }
 
-/// What is behind the LF in front; none where there is none.
+/// What comes after an LF at the start; `None` if there is none.
 fn after_feed(octets: &[u8]) -> Option<&[u8]>
     ensures found { IfSome result (λ rest. octets.now ≡ 10 ∷ rest.now) }
     ensures none { IfNone result ((rest : List ℕ) → octets.now ≡ 10 ∷ rest → ⊥) }

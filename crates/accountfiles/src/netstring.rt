@@ -1,4 +1,4 @@
-//! Texts with their lengths before them.
+//! Texts preceded by their lengths.
 ghost use Rattle.std.specs.Prelude.{◌≡◌, ◌≤◌, ◌++◌, ◌∷◌, [], ℕ, List, length, decimal, OnOk, IfSome, IfNone};
 ghost use Rattle.std.specs.List.{prefix_len};
 ghost use Rattle.accountfiles.specs.Netstring.{netstring, number_in, other, CutsAt, IsField};
@@ -7,10 +7,10 @@ use itoa::Buffer;
 use octets::{Octets, parse_decimal, write_decimal};
 use std::alloc::AllocError;
 
-/// How many octets a field has at most: no memory holds more.
+/// The largest length of a field in octets: no memory holds more.
 pub const MAX_FIELD: u64 = 9_223_372_036_854_775_807;
 
-/// Appends what stands before a text of that many octets.
+/// Appends what comes before a text of that many octets.
 pub(crate) fn push_length(out: &mut Octets, count: usize) -> Result<(), AllocError>
     ensures { OnOk result (out.new ≡ out.old ++ (decimal count ++ 58 ∷ [])) }
 {
@@ -18,7 +18,7 @@ pub(crate) fn push_length(out: &mut Octets, count: usize) -> Result<(), AllocErr
     out.push(b':')
 }
 
-/// Appends a text with its length before it.
+/// Appends a text preceded by its length.
 #[tactic(auto, unfolding(crate::specs::Netstring::netstring))]
 pub(crate) fn push_netstring(out: &mut Octets, text: &[u8]) -> Result<(), AllocError>
     ensures { OnOk result (out.new ≡ out.old ++ netstring text.now) }
@@ -28,7 +28,7 @@ pub(crate) fn push_netstring(out: &mut Octets, text: &[u8]) -> Result<(), AllocE
     out.push(b',')
 }
 
-/// Appends a number in decimal, with its length before it.
+/// Appends a number in decimal, preceded by its length.
 pub(crate) fn push_number(out: &mut Octets, number: u64) -> Result<(), AllocError>
     ensures { OnOk result (out.new ≡ out.old ++ netstring (decimal number)) }
 {
@@ -36,7 +36,7 @@ pub(crate) fn push_number(out: &mut Octets, number: u64) -> Result<(), AllocErro
     push_netstring(out, buffer.format(number).as_bytes())
 }
 
-/// The number that the digits write, without zeros in front; none where they write none, and from 2^63 on.
+/// The number in decimal digits, without leading zeros; `None` if it isn't one, or if it is 2^63 or more.
 #[tactic(auto, unfolding(crate::specs::Netstring::number_in))]
 pub(crate) fn number_of(text: &[u8]) -> Option<u64>
     ensures { result ≡ number_in text.now }
@@ -54,7 +54,7 @@ pub(crate) fn number_of(text: &[u8]) -> Option<u64>
     Some(number)
 }
 
-/// The text that stands in front with its length before it, and what is behind it; none where none does.
+/// Reads a text preceded by its length, and returns it with the rest; `None` if there is none.
 pub(crate) fn take_netstring(octets: &[u8]) -> Option<(&[u8], &[u8])>
     ensures found { IfSome result (λ taken. octets.now ≡ netstring taken.0.now ++ taken.1.now) }
     ensures field { IfSome result (λ taken. IsField taken.0.now) }
@@ -69,7 +69,7 @@ pub(crate) fn take_netstring(octets: &[u8]) -> Option<(&[u8], &[u8])>
     take_text(rest, size as usize)
 }
 
-/// The text of that many octets with a comma behind it, and what is behind that; none where it isn't there.
+/// The text of that many octets before a comma, and the rest after that; `None` if it isn't there.
 fn take_text(octets: &[u8], count: usize) -> Option<(&[u8], &[u8])>
     ensures found { IfSome result (λ taken. (octets.now ≡ taken.0.now ++ 44 ∷ taken.1.now) × (length taken.0.now ≡ count)) }
     ensures none { IfNone result ((text more : List ℕ) → length text ≡ count → octets.now ≡ text ++ 44 ∷ more → ⊥) }
@@ -84,7 +84,7 @@ fn take_text(octets: &[u8], count: usize) -> Option<(&[u8], &[u8])>
     }
 }
 
-/// What stands before the first colon and behind it; none where there is no colon.
+/// What comes before the first colon and after it; `None` if there is no colon.
 fn cut_at_colon(text: &[u8]) -> Option<(&[u8], &[u8])>
     ensures found { IfSome result (λ cut. CutsAt 58 text.now cut.0.now cut.1.now) }
     ensures none { IfNone result ((front rest : List ℕ) → text.now ≡ front ++ 58 ∷ rest → ⊥) }
@@ -97,7 +97,7 @@ fn cut_at_colon(text: &[u8]) -> Option<(&[u8], &[u8])>
     }
 }
 
-/// How many octets stand before the first colon.
+/// How many octets come before the first colon.
 fn length_before_colon(text: &[u8]) -> usize
     ensures value { result ≡ prefix_len (other 58) text.now }
     ensures within { result ≤ length text.now }

@@ -1,4 +1,4 @@
-//! In which order the parts of an account stand, and which may stand there.
+//! The order of the parts of an account, and which part may follow which.
 ghost use Rattle.std.specs.Prelude.{◌≡◌, ◌^◌, nat_lt, option_copied};
 ghost use Rattle.std.specs.List.{list_any};
 ghost use Rattle.accountfiles.specs.Order.{rank_of, number_of as number_in, key_of as key_in, second_of as second_in, part_cmp, has_come as has_come_in, joins as joins_in, follows as follows_in, fits as fits_in, is_given as is_given_by, are_numbers as are_numbers_in, is_counter as is_counter_of, has_active as has_active_in, is_script as is_script_of};
@@ -54,7 +54,7 @@ fn second(part: &Part) -> &[u8]
     }
 }
 
-/// By rank, by number, by the octets of the name or the handle, and by those of the sender.
+/// Compares by rank, by number, by the octets of the name or the handle, and by those of the sender.
 fn compare(a: &Part, b: &Part) -> Ordering
     ensures { result ≡ part_cmp a.now b.now }
 {
@@ -65,7 +65,7 @@ fn compare(a: &Part, b: &Part) -> Ordering
         .then(second(a).cmp(second(b)))
 }
 
-/// Whether the part before it is a copy of the same message.
+/// Whether the part before is a copy of the same message.
 fn has_come(first: u64, last: Option<&Part>) -> bool
     ensures { result ≡ has_come_in first (option_copied last.entry) }
 {
@@ -76,7 +76,7 @@ fn has_come(first: u64, last: Option<&Part>) -> bool
     }
 }
 
-/// Whether a copy stands behind its message or another copy of it.
+/// Whether a copy comes after its message or another copy of it.
 fn joins(last: Option<&Part>, part: &Part) -> bool
     ensures { result ≡ joins_in (option_copied last.entry) part.now }
 {
@@ -86,7 +86,7 @@ fn joins(last: Option<&Part>, part: &Part) -> bool
     }
 }
 
-/// Whether the part may stand behind the last one.
+/// Whether the part may come after the last one.
 pub(crate) fn follows(last: Option<&Part>, part: &Part) -> bool
     ensures { result ≡ follows_in (option_copied last.entry) part.now }
 {
@@ -97,21 +97,21 @@ pub(crate) fn follows(last: Option<&Part>, part: &Part) -> bool
     is_later && joins(last, part)
 }
 
-/// Whether the number was given, by a counter that gives this one next.
+/// Whether a counter that gives `next` next has given the number.
 fn is_given(next: u64, number: u64) -> bool
     ensures { result ≡ is_given_by next number }
 {
     1 <= number && number < next
 }
 
-/// Whether a database can have the moment.
+/// Whether a database can hold the moment.
 fn is_moment(moment: u64) -> bool
     ensures { result ≡ nat_lt moment (2 ^ 63) }
 {
     moment < 1 << 63
 }
 
-/// Whether the account gave the part's numbers, and a database can have its moment.
+/// Whether the account gave the part's numbers, and a database can hold its moment.
 pub(crate) fn fits(numbers: &Numbers, part: &Part) -> bool
     ensures { result ≡ fits_in numbers.now part.now }
 {
@@ -135,7 +135,7 @@ fn is_counter(next: u64) -> bool
     1 <= next && next < 1 << 63
 }
 
-/// Whether the counters are such that a database can have them.
+/// Whether a database can hold the counters.
 pub(crate) fn are_numbers(numbers: Numbers) -> bool
     ensures { result ≡ are_numbers_in numbers }
 {

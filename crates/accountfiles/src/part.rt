@@ -1,16 +1,16 @@
-//! One of the things of which an account may have many.
+//! The parts of an account, of which it may have many.
 use octets::Octets;
 
-/// Where a message on its way out comes from.
+/// Why a message goes out.
 #[derive(Clone, Copy, Debug, PartialEq, Eq)]
 pub enum LetterKind {
     /// A message that a script sends on (RFC 5228, section 4.2).
     Redirect,
-    /// The answer of a `vacation` (RFC 5230).
+    /// The reply of a `vacation` (RFC 5230).
     Answer,
 }
 
-/// A script, a moment of an answer, a message in a folder, a message on its way out, or a notice.
+/// A script, the moment of a reply, a message in a folder, a message on its way out, or a notice.
 #[derive(Debug, Drop)]
 pub enum Part {
     /// A script, and its text.
@@ -18,14 +18,14 @@ pub enum Part {
         name: Octets,
         text: Octets,
     },
-    /// When the sender was last answered under a handle: the handle's key, any octets, the sender in lower case, and seconds since
+    /// When the sender was last replied to under a handle: the handle's key, any octets, the sender in lower case, and seconds since
     /// 1970-01-01 UTC.
     Reply {
         handle: Octets,
         sender: Octets,
         moment: u64,
     },
-    /// A message in a folder, with the number of its copy there, and the text that names the copy's flags (empty: it has none).
+    /// A message in a folder, with the number of its copy there, and the text that names the copy's flags (empty if it has none).
     Mail {
         number: u64,
         folder: Octets,

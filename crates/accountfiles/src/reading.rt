@@ -1,4 +1,4 @@
-//! What an account's text says.
+//! Reads an account's text.
 ghost use Rattle.std.specs.Prelude.{◌≡◌, ◌++◌, ⊤, ℕ, List, option_copied, IfOk, IfErr};
 ghost use Rattle.accountfiles.specs.declared.head.Head.{Head};
 ghost use Rattle.accountfiles.specs.declared.part.Part.{Part};
@@ -13,15 +13,15 @@ use crate::part::Part;
 use sha2::{Digest, Sha256};
 use std::alloc::{AllocError, Global};
 
-/// The account of which this is the text, a part at a time.
+/// Reads the account whose text this is, a part at a time.
 ///
-/// A text that is cut or changed, one with octets behind its end and one of another version are that of no account. That nothing was
-/// changed is told by the SHA-256 at the end: it shows damage, and no forgery. Time is linear in the text, and memory too: a copy of
-/// each part is made.
+/// A text that is cut or changed, one with octets after its end and one of another version are not the text of an account. The
+/// SHA-256 at the end shows that nothing was changed: it detects damage, not forgery. Time and memory are linear in the text: each
+/// part is copied.
 ///
 /// # Errors
 ///
-/// `NotAnAccount` where it is the text of none, and `Memory`.
+/// `NotAnAccount` if it isn't the text of an account, and `Memory`.
 pub fn read(alloc: Global, text: &[u8]) -> Result<AccountFile, ReadError>
     ensures found { IfOk result (λ file. IsTextOf text.now file.head file.parts) }
     ensures none { IfErr result (λ e. e ≡ ReadError.NotAnAccount → (head : Head) (parts : List Part) → IsTextOf text.now head parts → ⊥) }
@@ -47,7 +47,7 @@ pub fn read(alloc: Global, text: &[u8]) -> Result<AccountFile, ReadError>
     }
 }
 
-/// Whether the parts are those of an account, with nothing behind the last line, and that has the SHA-256 of what is before it.
+/// Whether the parts are those of an account, nothing comes after the last line, and that line has the SHA-256 of all before it.
 fn is_end(
     alloc: Global,
     head: &Head,
@@ -65,7 +65,7 @@ fn is_end(
     Ok(sum == digest.as_bytes())
 }
 
-/// What the account has once, and what is behind it.
+/// What the account has once, and the rest.
 fn take_head(alloc: Global, text: &[u8]) -> Result<(Head, &[u8]), ReadError>
     ensures found { IfOk result (λ taken. text.now ≡ head_text taken.0 ++ taken.1.now) }
     ensures head { IfOk result (λ taken. IsHead taken.0) }
@@ -80,7 +80,7 @@ fn take_head(alloc: Global, text: &[u8]) -> Result<(Head, &[u8]), ReadError>
     Ok((Head { owner, numbers }, rest))
 }
 
-/// What the next line says, which may stand behind the last part, and what is behind it.
+/// The contents of the next line, if it may come after the last part, and the rest.
 fn take_next<'a>(
     alloc: Global,
     numbers: &Numbers,
@@ -96,7 +96,7 @@ fn take_next<'a>(
     Ok((entry, rest))
 }
 
-/// Whether what a line says may stand behind the last part.
+/// Whether the contents of a line may come after the last part.
 fn may_stand(numbers: &Numbers, last: Option<&Part>, entry: &Entry) -> bool
     ensures { result ≡ stands numbers.now (option_copied last.entry) entry.now }
 {

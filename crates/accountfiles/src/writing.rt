@@ -1,4 +1,4 @@
-//! The text of an account, a part at a time.
+//! Writes the text of an account, a part at a time.
 ghost use Rattle.std.specs.Prelude.{◌≡◌, ◌++◌, ℕ, List, [], ◌∷◌, codes, decimal, IfOk, OnOk, option_copied, option_to_list};
 ghost use Rattle.std.specs.List.{flat_map};
 ghost use Rattle.sha2.specs.Sha256.{sha256};
@@ -15,14 +15,14 @@ use octets::Octets;
 use sha2::{Digest, Sha256};
 use std::alloc::{AllocError, Global};
 
-/// Writes the text of an account, a part at a time: what it hands out is to be written in that order. It keeps nothing but a hash of
-/// what it has handed out. That the parts make an account (`IsAccount`) is for the caller to see.
+/// Writes the text of an account, a part at a time: what it returns has to be written in that order. It keeps only a hash of
+/// what it has returned. The caller has to see to it that the parts make an account (`IsAccount`).
 #[derive(Drop)]
 pub struct Writer {
     hasher: Sha256,
 }
 
-/// A line: its front, a text of the part that isn't copied, and what is behind that.
+/// A line: its start, a text of the part that isn't copied, and its end.
 #[derive(Drop)]
 pub struct Line<'a> {
     pub front: Octets,
@@ -44,7 +44,7 @@ impl Writer {
         Ok((Writer { hasher }, text))
     }
 
-    /// The line of the next part. Without memory nothing was written.
+    /// The line of the next part. If memory runs out, nothing was written.
     pub fn part<'a>(&mut self, alloc: Global, part: &'a Part) -> Result<Line<'a>, AllocError>
         ensures line { IfOk result (λ line. text_in line ≡ part_line part.now) }
         ensures written { IfOk result (λ line. (text : List ℕ) → HasWritten self.old text → HasWritten self.new (text ++ part_line part.now)) }
@@ -113,7 +113,7 @@ fn push_numbers(out: &mut Octets, numbers: Numbers) -> Result<(), AllocError>
     out.push(b'\n')
 }
 
-/// The flags, if there are some.
+/// The flags, if there are any.
 fn push_flags(out: &mut Octets, flags: &[u8]) -> Result<(), AllocError>
     ensures { OnOk result (out.new ≡ out.old ++ flat_map netstring (flags_fields flags.now)) }
 {
@@ -123,7 +123,7 @@ fn push_flags(out: &mut Octets, flags: &[u8]) -> Result<(), AllocError>
     push_netstring(out, flags)
 }
 
-/// A line that ends with this text behind other fields, and with the flags, if there are some.
+/// A line with this text after other fields, and with the flags, if there are any.
 #[tactic(auto, unfolding(crate::specs::Netstring::netstring))]
 fn ended<'a>(
     alloc: Global,
@@ -141,7 +141,7 @@ fn ended<'a>(
     Ok(Line { front, last, back })
 }
 
-/// A line that ends with this number behind other fields, and with the flags, if there are some.
+/// A line with this number after other fields, and with the flags, if there are any.
 #[tactic(auto, unfolding(crate::specs::Netstring::netstring))]
 fn counted<'a>(
     alloc: Global,

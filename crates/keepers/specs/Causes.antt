@@ -3,7 +3,7 @@ use Rattle.std.specs.Prelude.{ℕ, List, codes, Option, Some, None}
 use Rattle.std_io.specs.declared.io.kind.ErrorKind.{ErrorKind}
 use Rattle.std_io.specs.declared.io.kind.ErrorKind.TheVariants.{NotFound, PermissionDenied, ReadOnlyFilesystem, StorageFull, QuotaExceeded, FileTooLarge}
 
--- of a file that can't be opened, written or renamed
+-- if a file can't be opened, written or renamed
 abbrev pub file_text : ErrorKind → Option (List ℕ)
 file_text NotFound = Some (codes "no such directory")
 file_text PermissionDenied = Some (codes "permission denied")

@@ -19,12 +19,12 @@ abbrev pub database_in : Option (Held MemStore) → Database
 database_in (Some held) = (state over_memory held).now
 database_in None = no_database
 
--- what is told of the next close, of so many that come before the chosen one: that it failed, where it is the chosen one
+-- what is reported of the next close, if that many come before the chosen one: that it failed, if it is the chosen one
 abbrev pub told_of_close : Option ℕ → Option Refusal
 told_of_close None = None
 told_of_close (Some calls) = if calls == 0 then Some Store else None
 
--- how many come before the chosen one after a close; none is chosen once it was
+-- how many come before the chosen one after a close; none is chosen after it
 abbrev pub left_after : Option ℕ → Option ℕ
 left_after None = None
 left_after (Some zero) = None

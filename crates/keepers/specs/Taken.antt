@@ -6,8 +6,8 @@ use Rattle.mailstore.specs.Schema.{no_schema, mail_schema}
 use Rattle.mailstore.specs.Opening.{IsKnown}
 use Rattle.mailstore.specs.Shows.{Presents, OpensAs}
 
--- one that was there sees what `open` makes of the tables that were held, which were ours, of either version, and these as they were where they had
--- our schema; a new one has no accounts, and no table was held
+-- one that was there sees what `open` makes of the tables that were held, which were ours, of either version, and sees them as they were if
+-- they had our schema; a new one has no accounts, and no table was held
 abbrev pub IsTaken : Bool → Database → Database → Type 0
 IsTaken false held seen = OpensAs held seen × (held.schema ≡ mail_schema → seen ≡ held) × IsKnown held
 IsTaken true held seen = Presents seen no_accounts × (held.schema ≡ no_schema)

@@ -1,21 +1,21 @@
-//! What the system and SQLite say of a failure, as texts for a person.
+//! The causes that the system and SQLite give for a failure, as texts for a person.
 ghost use Rattle.std.specs.Prelude.{◌≡◌, option_copied};
 ghost use Rattle.keepers.specs.Causes.{file_text};
 
 use sqlite::ErrorCode;
 use std::io::ErrorKind;
 
-/// Of a disk without room for the store, and how room is made.
+/// A full disk, and how to make room.
 const NO_ROOM: &str = "disk is full: remove the reserve file beside the store";
 
-/// Of a file that isn't any more what was opened at its path.
+/// A file that isn't the one that was opened at its path any more.
 pub const FILE_IS_GONE: &str = "file was removed or replaced";
 
-/// Of a log that lies beside a file that took the place of its own.
+/// A log that belongs to a file that was replaced by this one.
 pub(crate) const LOG_OF_ANOTHER: &str =
     "log is that of a file that was replaced: move FILE-wal away";
 
-/// Of a file that can't be opened, written or renamed; none where nothing more is known of it.
+/// The cause if a file can't be opened, written or renamed; `None` if nothing more is known.
 pub fn of_file(kind: ErrorKind) -> Option<&'static str>
     ensures { option_copied result ≡ file_text kind }
 {
@@ -30,7 +30,7 @@ pub fn of_file(kind: ErrorKind) -> Option<&'static str>
     }
 }
 
-/// Of a port, or a file of a socket, at which nobody can listen; none where nothing more is known of it.
+/// The cause if a port, or the file of a socket, can't be listened on; `None` if nothing more is known.
 pub fn of_socket(kind: ErrorKind) -> Option<&'static str> {
     match kind {
         ErrorKind::AddrInUse => Some("port is taken"),
@@ -39,12 +39,12 @@ pub fn of_socket(kind: ErrorKind) -> Option<&'static str> {
     }
 }
 
-/// Of a lock's file that can't be opened or locked.
+/// The cause if a lock's file can't be opened or locked.
 pub(crate) fn of_lock(kind: ErrorKind) -> &'static str {
     of_file_of_store(kind).unwrap_or("lock file can't be used")
 }
 
-/// Of a file of the store, or beside it, that can't be made, opened or locked; none where nothing more is known of it.
+/// The cause if a file of the store, or beside it, can't be made, opened or locked; `None` if nothing more is known.
 pub(crate) fn of_file_of_store(kind: ErrorKind) -> Option<&'static str> {
     match kind {
         ErrorKind::StorageFull => Some(NO_ROOM),
@@ -52,7 +52,7 @@ pub(crate) fn of_file_of_store(kind: ErrorKind) -> Option<&'static str> {
     }
 }
 
-/// Of a call that SQLite refused; none where its own name says no more.
+/// The cause if SQLite refused a call; `None` if its code says no more.
 pub fn of_sqlite(code: ErrorCode) -> Option<&'static str> {
     match code {
         ErrorCode::CannotOpen => Some("file can't be opened"),

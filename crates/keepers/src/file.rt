@@ -15,17 +15,17 @@ use std::io::ErrorKind;
 use std::os::unix::fs::OpenOptionsExt;
 use std::{format, io};
 
-/// The permissions of a file that is made: its owner reads and writes it, and no one else does. All users' mail is in it.
+/// The permissions of a new file: its owner reads and writes it, and no one else does. All users' mail is in it.
 const OWNER_ALONE: u32 = 0o600;
 
-/// Keeps the store of one file after the other: asks for the lock on `FILE.lock`, opens, and closes.
+/// Keeps the store of one file at a time: takes the lock on `FILE.lock`, opens, and closes.
 ///
-/// The lock is given back when the store is handed back, or when the process ends. Where it is waited for, the lock on `FILE.wait` is
-/// held meanwhile. A daemon has that on `FILE.daemon` too, until its process ends. The files `FILE.lock`, `FILE.wait` and `FILE.daemon`
-/// stay.
+/// The lock is given back when the store is handed back, or when the process ends. While it waits for the lock, it holds the lock on
+/// `FILE.wait`. A daemon also holds the lock on `FILE.daemon`, until its process ends. The files `FILE.lock`, `FILE.wait` and
+/// `FILE.daemon` stay.
 ///
-/// `FILE.lock` says which file was opened last, and which log it had. A log that may have changes, and is that one, isn't read into a
-/// file that isn't.
+/// `FILE.lock` says which file was opened last, and which log it had. That log, if it may have changes, isn't read into another
+/// file.
 #[derive(Drop)]
 pub struct FileKeeper<'a> {
     rt: &'a HostRuntime,
@@ -36,11 +36,11 @@ pub struct FileKeeper<'a> {
     opened: Option<Identity>,
     waits: bool,
     cause: Option<&'static str>,
-    /// Why the file that was closed last couldn't be, until that is asked for.
+    /// Why the file that was closed last couldn't be closed, until that is asked for.
     unclosed: Option<Refusal>,
 }
 
-/// Why no store is given out, and what is known of it.
+/// Why no store is given out, and what is known of the cause.
 #[derive(Clone, Copy)]
 struct Failure {
     denial: Unavailable,
@@ -61,7 +61,7 @@ impl<'a> FileKeeper<'a> {
         }
     }
 
-    /// Opens a store whose lock is held, and keeps what is known of a failure.
+    /// Opens a store whose lock is held, and keeps the cause if it fails.
     fn open(&mut self, path: &str, fresh: bool) -> Result<Store<FileStore<Database>>, Unavailable>
         ensures kept { self.new.lock ≡ self.old.lock }
         ensures closed { self.new.unclosed ≡ self.old.unclosed }
@@ -78,7 +78,7 @@ impl<'a> FileKeeper<'a> {
         }
     }
 
-    /// Closes a store, and keeps what is known of a failure.
+    /// Closes a store, and keeps the cause if that fails.
     fn close(&mut self, store: Store<FileStore<Database>>)
         ensures told { IsToldOfClosing store self.new.unclosed }
         ensures named { IfSome self.new.unclosed IsTransient }
@@ -100,7 +100,7 @@ impl Keeper for FileKeeper<'_> {
 
     ghost tells = { false };
 
-    // Any, since it tells none.
+    // Any value, since it doesn't tell its tables.
     ghost holds = { λ _. no_database };
 
     ghost is_out = { λ k. is_some k.lock };
@@ -182,7 +182,7 @@ impl Keeper for FileKeeper<'_> {
         if let Some(store) = store.take() {
             self.close(store);
         }
-        // The lock goes last: until the file is closed no other one may open it.
+        // The lock is given back last: until the file is closed nobody else may open it.
         self.lock = None;
     }
 
@@ -204,7 +204,7 @@ fn close(conn: Connection<FileStore<Database>>) -> Result<(), Error>
     conn.close()
 }
 
-/// What is to be told of a file that was closed, or couldn't be.
+/// The refusal, if a file couldn't be closed.
 fn unclosed_of(closed: Result<(), Error>) -> Option<Refusal>
     ensures told { IsToldOf closed result }
     ensures named { IfSome result IsTransient }
@@ -215,7 +215,7 @@ fn unclosed_of(closed: Result<(), Error>) -> Option<Refusal>
     }
 }
 
-/// What SQLite said of the store's calls, or else of its closing.
+/// What SQLite said of the store's calls, or else of closing it.
 fn first_code(said: Option<ErrorCode>, closed: &Result<(), Error>) -> Option<ErrorCode>
     ensures { result ≡ code_at_end said closed.now }
 {
@@ -226,8 +226,8 @@ fn first_code(said: Option<ErrorCode>, closed: &Result<(), Error>) -> Option<Err
     }
 }
 
-/// The lock on `FILE.lock`, which lasts until the file is dropped. Who waits for it holds the lock on `FILE.wait` until then, so
-/// whoever has the store can see that somebody waits, and those who do come one after the other.
+/// Takes the lock on `FILE.lock`, which is held until the file is dropped. While it waits, it holds the lock on `FILE.wait`,
+/// so whoever has the store can see that somebody waits, and those who wait come one after the other.
 fn lock_file(rt: &HostRuntime, path: &str, waits: bool) -> Result<File, Failure> {
     if !waits {
         return try_lock_beside(rt, path, "lock");
@@ -238,7 +238,7 @@ fn lock_file(rt: &HostRuntime, path: &str, waits: bool) -> Result<File, Failure>
     Ok(lock)
 }
 
-/// The lock on a file beside the store, or Busy where another one has it.
+/// Takes the lock on a file beside the store; `Busy` if another process has it.
 fn try_lock_beside(rt: &HostRuntime, path: &str, ending: &str) -> Result<File, Failure> {
     let file = open_beside(rt, path, ending)?;
     match file.try_lock() {
@@ -251,7 +251,7 @@ fn try_lock_beside(rt: &HostRuntime, path: &str, ending: &str) -> Result<File, F
     }
 }
 
-/// The lock on a file beside the store, which is waited for where another one has it.
+/// Takes the lock on a file beside the store, and waits for it if another process has it.
 fn lock_beside(rt: &HostRuntime, path: &str, ending: &str) -> Result<File, Failure> {
     let file = open_beside(rt, path, ending)?;
     match file.lock() {
@@ -260,7 +260,7 @@ fn lock_beside(rt: &HostRuntime, path: &str, ending: &str) -> Result<File, Failu
     }
 }
 
-/// The file beside the store with this ending, which is made where it is absent.
+/// Opens the file beside the store with this ending, and makes it if it is absent.
 fn open_beside(rt: &HostRuntime, path: &str, ending: &str) -> Result<File, Failure> {
     let Ok(name) = format!(in rt.alloc(); "{path}.{ending}") else {
         return Err(Failure::from(Refusal::Memory));
@@ -274,7 +274,7 @@ fn open_beside(rt: &HostRuntime, path: &str, ending: &str) -> Result<File, Failu
     opened.map_err(lock_failure)
 }
 
-/// What the system says of a lock's file that it can't open or lock.
+/// The failure if the system can't open or lock a lock's file.
 fn lock_failure(error: io::Error) -> Failure {
     Failure {
         denial: Unavailable::Refused(Refusal::Store),
@@ -282,8 +282,8 @@ fn lock_failure(error: io::Error) -> Failure {
     }
 }
 
-/// The store of a file whose lock is held, and which file that is. Only a new one makes the file where it is absent. SQLite gives its
-/// log the permissions of the database's file.
+/// Opens the store of a file whose lock is held, and returns which file it is. Only a new store makes the file if it is absent.
+/// SQLite gives its log the permissions of the database's file.
 fn open_file(
     rt: &HostRuntime,
     lock: &Option<File>,
@@ -312,7 +312,7 @@ fn open_file(
     }
 }
 
-/// Which file a path leads to. One that isn't there is no store.
+/// Which file a path leads to. It is no store if the file isn't there.
 fn find_file(rt: &HostRuntime, path: &str) -> Result<Identity, Failure> {
     match Identity::at(rt, path) {
         Ok(Some(file)) => Ok(file),
@@ -321,7 +321,7 @@ fn find_file(rt: &HostRuntime, path: &str) -> Result<Identity, Failure> {
     }
 }
 
-/// Looks, before a file is opened, whether the log beside it is that of another one.
+/// Checks, before a file is opened, that the log beside it isn't that of another file.
 fn look_at_log(
     rt: &HostRuntime,
     lock: &Option<File>,
@@ -340,7 +340,7 @@ fn look_at_log(
     Ok(())
 }
 
-/// Behind the open: the path leads to the file still, and that it was opened, with its log, is noted before anything is written.
+/// After the open: checks that the path still leads to the file, and notes, before anything is written, that it was opened, with its log.
 fn settle_file(
     rt: &HostRuntime,
     lock: &Option<File>,
@@ -357,14 +357,14 @@ fn settle_file(
     note_file(lock, note)
 }
 
-/// What is to be noted of a file and its log.
+/// The note on a file and its log.
 fn note_of(rt: &HostRuntime, file: Identity, log: Log, lock: &File) -> Result<Note, Failure> {
     let found = lock.metadata().map_err(lock_failure)?;
     let note = Note::of(rt.alloc(), file, log.identity, Identity::of(&found))?;
     Ok(note)
 }
 
-/// Writes the note, where it isn't there. Where none was there, and there is no room for one, the store is opened without.
+/// Writes the note, unless it is there already. If there was none, and there is no room for one, the store is opened without it.
 fn note_file(lock: &File, note: Note) -> Result<(), Failure> {
     let noted = Note::read(lock).map_err(lock_failure)?;
     if noted == Some(note) {
@@ -376,8 +376,8 @@ fn note_file(lock: &File, note: Note) -> Result<(), Failure> {
     }
 }
 
-/// Makes an empty file for a new store, before anything is in it that others may not read. One that is there stays as it
-/// is: whether a store can be made in it is SQLite's to say.
+/// Makes an empty file for a new store, before it has anything that others may not read. A file that is there stays as it
+/// is: SQLite decides whether it can make a store in it.
 fn make_file(rt: &HostRuntime, path: &str) -> Result<(), Failure> {
     let made = OpenOptions::new()
         .write(true)
@@ -394,7 +394,7 @@ fn make_file(rt: &HostRuntime, path: &str) -> Result<(), Failure> {
     }
 }
 
-/// What SQLite says of a file that it can't open.
+/// The failure if SQLite can't open a file.
 fn open_failure(error: Error) -> Failure {
     let denial = match error {
         Error::SqliteFailure(ErrorCode::DatabaseBusy) => Unavailable::Busy,
@@ -431,7 +431,7 @@ fn refused_for(cause: &'static str) -> Failure {
     }
 }
 
-/// What the system says of a file that it can't look at, or that memory is lacking for its name.
+/// The failure if the system can't look at a file, or if there is no memory for its name.
 fn file_failure(error: io::Error) -> Failure {
     if error.kind() == ErrorKind::OutOfMemory {
         return Failure::from(Refusal::Memory);

@@ -3,10 +3,11 @@ use std::io::ErrorKind;
 use std::os::unix::fs::MetadataExt;
 use std::{format, fs, io};
 
-/// Of so many octets a log has no whole row of changes: its header of 32, that of a page of 24, and the least page of 512, but one.
+/// A log of at most this many octets has no complete row of changes: one octet less than its header of 32, a page's header of 24
+/// and the smallest page of 512.
 const EMPTY_LOG: u64 = 567;
 
-/// Which file it is, by its device and its number there.
+/// A file's identity: its device and its number there.
 #[derive(Clone, Copy, Debug, PartialEq, Eq)]
 pub(crate) struct Identity {
     pub device: u64,
@@ -14,7 +15,7 @@ pub(crate) struct Identity {
 }
 
 impl Identity {
-    /// Of the file to which a path leads; none where none is there. Links are followed, as an open follows them.
+    /// Of the file that a path leads to; `None` if there is none. Links are followed, as an open does.
     pub(crate) fn at(rt: &HostRuntime, path: &str) -> io::Result<Option<Identity>> {
         match fs::metadata(rt, path) {
             Ok(found) => Ok(Some(Identity::of(&found))),
@@ -23,7 +24,7 @@ impl Identity {
         }
     }
 
-    /// Of a file whose metadata these are.
+    /// Of the file with this metadata.
     pub(crate) fn of(found: &fs::Metadata) -> Identity {
         Identity {
             device: found.dev(),
@@ -36,12 +37,12 @@ impl Identity {
 #[derive(Clone, Copy, Debug, PartialEq, Eq)]
 pub(crate) struct Log {
     pub identity: Identity,
-    /// It may have changes that aren't in the file.
+    /// The log may have changes that aren't in the file.
     pub is_full: bool,
 }
 
 impl Log {
-    /// The one of the file to which a path leads; none where none is there. It lies where a link to the file leads.
+    /// Of the file that a path leads to; `None` if there is none. It is beside the file that a link leads to.
     pub(crate) fn beside(rt: &HostRuntime, path: &str) -> io::Result<Option<Log>> {
         let real = fs::canonicalize(rt, path)?;
         match fs::metadata(

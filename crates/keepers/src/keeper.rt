@@ -1,4 +1,4 @@
-//! What a keeper of a store promises.
+//! The contract of a store's keeper.
 ghost use Rattle.std.specs.Prelude.{◌≡◌, ⊤, ℕ, Bool, false, List, Option, None, is_some, IsTrue, IfOk, IfErr, IfSome, OnOk, OnErr, option_copied};
 ghost use Rattle.sqlite.specs.Effect.{Database};
 ghost use Rattle.sqlite.specs.Held as sqlite;
@@ -21,7 +21,7 @@ use std::alloc::Global;
 /// Why no store is given out.
 #[derive(Clone, Copy, Debug, PartialEq, Eq)]
 pub enum Unavailable {
-    /// Another one has it.
+    /// Another process has it.
     Busy,
     /// It can't be opened or made.
     Refused(Refusal),
@@ -40,16 +40,16 @@ impl From<Refusal> for Unavailable {
 
 /// Gives a store out to one caller at a time, and takes it back.
 pub trait Keeper {
-    /// What the database stands on.
+    /// The storage of the database.
     type S: Alter + Drop;
 
-    /// Whether it tells its tables. One over memory does, one over a file doesn't.
+    /// Whether it tells its tables. A keeper over memory does, one over a file doesn't.
     ghost tells: { Bool };
 
-    /// What the tables hold between two calls, where it tells them.
+    /// What the tables hold between two calls, if it tells them.
     ghost holds: { Self → Database };
 
-    /// Whether the lock is out, alone or with a store: it was acquired, and not given back yet.
+    /// Whether the lock is out, alone or with a store: it was taken, and not given back yet.
     ghost is_out: { Self → Bool };
 
     /// Why the store that was handed back last couldn't be closed, until that is asked for.
@@ -61,29 +61,30 @@ pub trait Keeper {
     /// What is known of the last failure.
     ghost said: { Self → Option (List ℕ) };
 
-    /// What may be told of the closing of a store that this keeper takes back.
+    /// What may be reported of closing a store that this keeper takes back.
     ghost closes: { Self → sqlite.Held Self.S → Option Refusal → Type 0 };
 
-    /// What is so of a keeper that gave its store out at a path. Only an Ok of `take` says it, so who can say it of any keeper took its
-    /// store at that path.
+    /// What is true of a keeper that gave its store out at a path. Only an Ok of `take` says it, so whoever can say it of any keeper
+    /// took its store at that path.
     ghost gives: { Self → List ℕ → Type 0 } = { λ _ _. ⊤ };
 
-    /// What is so of a keeper that refused the lock, which wasn't out, or the store at a path, and why. Only the refusals of `lock` and
-    /// `take` say it, so who can say it of any keeper asked it for that path, and was refused so.
+    /// What is true of a keeper that refused the lock, which wasn't out, or the store at a path, and why. Only the refusals of `lock`
+    /// and `take` say it, so whoever can say it of any keeper asked it for that path, and was refused with that cause.
     ghost refuses: { Self → List ℕ → Unavailable → Type 0 } = { λ _ _ _. ⊤ };
 
-    /// From now on a call of `lock` or `take` waits for a lock that another process has, or answers Busy.
+    /// Sets whether a call of `lock` or `take` waits for a lock that another process has, or answers Busy.
     fn wait_for_lock(&mut self, waits: bool)
         ensures asked { will_wait self.new ≡ waits }
         ensures same { IsTrue tells → holds self.new ≡ holds self.old }
         ensures kept { is_out self.new ≡ is_out self.old }
         ensures closed { unclosed self.new ≡ unclosed self.old };
 
-    /// The lock of the store at a path alone: nothing is opened. A store that is taken before it is given back is opened under it.
+    /// Takes the lock of the store at a path, without opening anything. A store that is taken before the lock is given back is
+    /// opened under it.
     ///
     /// # Errors
     ///
-    /// `Busy` where another process has the lock and there is no waiting; else why it can't be had. The tables stay as they are.
+    /// `Busy` if another process has the lock and there is no waiting; else why it can't be taken. The tables stay as they are.
     fn lock(&mut self, path: &str) -> Result<(), Unavailable>
         ensures same { IsTrue tells → holds self.new ≡ holds self.old }
         ensures out { OnOk result (IsTrue (is_out self.new)) }
@@ -91,36 +92,36 @@ pub trait Keeper {
         ensures denied { IfErr result (λ denial. is_out self.old ≡ false → refuses self.old path.now denial) }
         ensures closed { unclosed self.new ≡ unclosed self.old };
 
-    /// Whether somebody who waits for the lock of the store at a path says so. Nobody is waited for, and the lock is neither taken nor
-    /// given back.
+    /// Whether somebody waits for the lock of the store at a path. Doesn't wait, and neither takes the lock nor
+    /// gives it back.
     fn is_awaited(&mut self, path: &str) -> bool
         ensures same { IsTrue tells → holds self.new ≡ holds self.old }
         ensures kept { is_out self.new ≡ is_out self.old }
         ensures closed { unclosed self.new ≡ unclosed self.old };
 
-    /// The lock that a daemon of the store at a path has for life: no other one has it meanwhile. Nobody is waited for, and the store
-    /// and its own lock stay as they are.
+    /// Takes the lock that a daemon of the store at a path has for life: no other daemon has it meanwhile. Doesn't wait, and
+    /// leaves the store and its own lock as they are.
     ///
     /// # Errors
     ///
-    /// `Busy` where another daemon has it; else why it can't be had.
+    /// `Busy` if another daemon has it; else why it can't be taken.
     fn lock_for_life(&mut self, path: &str) -> Result<(), Unavailable>
         ensures same { IsTrue tells → holds self.new ≡ holds self.old }
         ensures kept { is_out self.new ≡ is_out self.old }
         ensures closed { unclosed self.new ≡ unclosed self.old };
 
-    /// Gives the lock back, under which no store is out.
+    /// Gives the lock back; no store is out under it.
     fn unlock(&mut self)
         ensures same { IsTrue tells → holds self.new ≡ holds self.old }
         ensures back { is_out self.new ≡ false }
         ensures closed { unclosed self.new ≡ unclosed self.old };
 
-    /// The store at a path: the one that is there, or with `fresh` a new one. Each one is handed back before the next. The lock is
-    /// asked for first, but where `lock` has taken it.
+    /// Gives out the store at a path: the one that is there, or with `fresh` a new one. Each store is handed back before the next
+    /// is taken. The lock is taken first, unless `lock` has taken it.
     ///
     /// # Errors
     ///
-    /// `Busy` where another process has the store and there is no waiting; else why it can't be opened, or made. The
+    /// `Busy` if another process has the store and there is no waiting; else why it can't be opened, or made. The
     /// tables stay as they are.
     fn take(&mut self, path: &str, fresh: bool) -> Result<Store<Self::S>, Unavailable>
         ensures taken { IfOk result (λ store. IsTrue tells → IsTaken fresh (holds self.old) (state Self.S.Store store).now) }
@@ -132,13 +133,13 @@ pub trait Keeper {
         ensures denied { IfErr result (refuses self.old path.now) }
         ensures closed { unclosed self.new ≡ unclosed self.old };
 
-    /// Whether the file at the path is the one that was opened there: it isn't removed, nor is another in its place. What a store said
-    /// that is out stands in the file at its path only where this is so.
+    /// Whether the file at the path is still the one that was opened there: it isn't removed, nor replaced. Only then is what the
+    /// store that is out has written in the file at its path.
     fn is_there(&self, path: &str) -> bool
         ensures there { IsTrue tells → IsTrue result };
 
-    /// Takes the store back out of the place that it is given in, closes it, and gives the lock back. Where it can't be closed what was
-    /// committed stays, and the next one to take the store finds it; `take_close_error` tells of it.
+    /// Takes the store back out of its place, closes it, and gives the lock back. If it can't be closed, what was
+    /// committed stays, and the next one to take the store finds it; `take_close_error` returns why.
     fn put_back(&mut self, store: &mut Option<Store<Self::S>>)
         requires { IsTrue (is_some store.old) }
         ensures held { IfSome store.old (λ given. IsTrue tells → holds self.new ≡ (state Self.S.Store given).now) }
@@ -158,8 +159,8 @@ pub trait Keeper {
         self.put_back(&mut given)
     }
 
-    /// Why the store that was handed back last couldn't be closed, `Store` or `Memory`, where nobody has asked for that
-    /// yet; none where it was closed.
+    /// Why the store that was handed back last couldn't be closed, `Store` or `Memory`, unless that was asked for
+    /// already; `None` if it was closed.
     fn take_close_error(&mut self) -> Option<Refusal>
         ensures error { result ≡ unclosed self.old }
         ensures asked { unclosed self.new ≡ None }
@@ -168,15 +169,15 @@ pub trait Keeper {
         ensures kept { is_out self.new ≡ is_out self.old };
 
     /// What the system or SQLite said of the last failure that this keeper, or a store that it took back, answered as
-    /// `Store`: a text for a person, without a line end. None where nothing is known of it.
+    /// `Store`: a text for a person, without a line end. `None` if nothing is known of it.
     fn cause(&self) -> Option<&'static str>
         ensures { option_copied result ≡ said self.now };
 
-    // Where it tells them, nothing shuts a store or makes it lie.
+    // If it tells them, nothing shuts a store or makes it lie.
     ghost sure: { (held : sqlite.Held Self.S) → IsTrue tells → HasCleanDisk (state Self.S.Store held) × IsTrue (state Self.S.Store held).is_open };
 }
 
-/// The store of a database: the one that is there, or with `fresh` a new one.
+/// Opens the store of a database: the one that is there, or with `fresh` a new one.
 pub(crate) fn store_of<S: Alter + Drop>(
     alloc: Global,
     conn: Connection<S>,

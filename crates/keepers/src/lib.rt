@@ -1,4 +1,4 @@
-//! Who keeps a store between two calls: a file with a lock beside it, or memory.
+//! Keeps a store between two calls: in a file with a lock beside it, or in memory.
 #![tactic(auto)]
 
 pub mod cause;

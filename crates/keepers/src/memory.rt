@@ -7,8 +7,8 @@ use mailstore::{Refusal, Store};
 use sqlite::{Connection, MemStore};
 use std::alloc::{AllocError, Global};
 
-/// Keeps one store in memory, whatever path it is asked for, answers one call for the lock that was chosen as Busy, and can't close
-/// at another one. Nobody waits for it, whether or not that is asked for.
+/// Keeps one store in memory, whatever path it is asked for, answers Busy to one chosen call for the lock, and fails to close
+/// at another one. It never waits, whether or not it is asked to.
 #[derive(Drop)]
 pub struct MemoryKeeper {
     conn: Option<Connection<MemStore>>,
@@ -17,9 +17,9 @@ pub struct MemoryKeeper {
     locked: bool,
     /// Whether a lock is to be waited for.
     waits: bool,
-    /// How many times the lock is asked for before the one that is answered as Busy.
+    /// The number of calls for the lock before the one that is answered Busy.
     busy_after: Option<u64>,
-    /// How many stores are handed back before the one that can't be closed.
+    /// The number of stores that are handed back before the one that can't be closed.
     unclosed_after: Option<u64>,
     /// Why the store that was handed back last couldn't be closed, until that is asked for.
     unclosed: Option<Refusal>,
@@ -31,7 +31,7 @@ impl MemoryKeeper {
         Ok(MemoryKeeper::over(alloc, Connection::open_in_memory(alloc)?))
     }
 
-    /// A keeper of the database that a connection has.
+    /// A keeper of a connection's database.
     pub fn over(alloc: Global, conn: Connection<MemStore>) -> MemoryKeeper {
         MemoryKeeper {
             conn: Some(conn),
@@ -44,17 +44,17 @@ impl MemoryKeeper {
         }
     }
 
-    /// Of the calls that ask for the lock (`lock`, and `take` where it isn't out) the one after that many others is Busy.
+    /// Of the calls for the lock (`lock`, and `take` if the lock isn't out), the one after that many others is answered Busy.
     pub fn be_busy_after(&mut self, calls: u64) {
         self.busy_after = Some(calls);
     }
 
-    /// The one store that is handed back after that many others can't be closed. What was committed stays.
+    /// The store that is handed back after that many others can't be closed. What was committed stays.
     pub fn fail_close_after(&mut self, calls: u64) {
         self.unclosed_after = Some(calls);
     }
 
-    /// Counts a call that asks for the lock, and says whether it is the one that is Busy.
+    /// Counts a call for the lock, and returns whether it is the one that is answered Busy.
     fn is_chosen(&mut self) -> bool
         ensures conn { self.new.conn ≡ self.old.conn }
         ensures locked { self.new.locked ≡ self.old.locked }

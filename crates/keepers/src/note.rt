@@ -1,4 +1,4 @@
-//! What stands in the file of a store's lock: which file was opened last, and which log it had.
+//! The contents of a store's lock file: which file was opened last, and which log it had.
 use crate::identity::Identity;
 use std::alloc::{AllocError, Global};
 use std::fs::File;
@@ -6,10 +6,10 @@ use std::io::ErrorKind;
 use std::os::unix::fs::FileExt;
 use std::{format, io};
 
-/// A line has two numbers of 20 digits, with a blank between, and a line end.
+/// The length of a line: two numbers of 20 digits, with a blank between them, and a line end.
 const LINE: usize = 42;
 
-/// A file, its log, and the file of the lock in which that stands, a line each. In a copy of that it says nothing.
+/// A file, its log, and the lock file in which these are noted, a line each. In a copy of the lock file it says nothing.
 #[derive(Clone, Copy, PartialEq, Eq)]
 pub(crate) struct Note {
     file: [u8; LINE],
@@ -18,7 +18,7 @@ pub(crate) struct Note {
 }
 
 impl Note {
-    /// Of a file and its log, under a lock.
+    /// The note on a file and its log, under a lock.
     pub(crate) fn of(
         alloc: Global,
         file: Identity,
@@ -32,7 +32,7 @@ impl Note {
         })
     }
 
-    /// The one that stands in the file of a lock; none where that is empty, or shorter.
+    /// The note in a lock file; `None` if the file is empty or shorter.
     pub(crate) fn read(lock: &File) -> io::Result<Option<Note>> {
         let mut note = Note {
             file: [0; LINE],
@@ -46,7 +46,7 @@ impl Note {
         }
     }
 
-    /// Writes it, over the one that stands there. On Ok it is on the disk.
+    /// Writes the note over the one that is there. After Ok it is on the disk.
     pub(crate) fn write(&self, lock: &File) -> io::Result<()> {
         lock.write_all_at(&self.file, 0)?;
         lock.write_all_at(&self.log, LINE as u64)?;
@@ -54,7 +54,7 @@ impl Note {
         lock.sync_data()
     }
 
-    /// Whether the other one has the log of this one, and another file, under the same lock.
+    /// Whether the other note has the same log, and another file, under the same lock.
     pub(crate) fn has_log_of(&self, other: &Note) -> bool {
         self.lock == other.lock && self.log == other.log && self.file != other.file
     }

@@ -1,5 +1,5 @@
--- Events of the accounts alone: a delivery, a new user, an account that comes whole, a row taken out of the queue, a message taken out of a folder (RFC 5228, 2.10).
--- What an administrator does to one account stands in `Upkeep`.
+-- Events of the accounts alone: a delivery, a new user, a whole account, a row taken out of the queue, a message taken out of a folder
+-- (RFC 5228, 2.10). What an administrator does to one account is in `Upkeep`.
 use Rattle.std.specs.Prelude.{◌≡◌, ℕ, true, cond, List, [], ◌∷◌, Option, Some, None, MatchBool}
 use Rattle.std.specs.FinMap.{empty, get, insert}
 use Rattle.accountfiles.specs.declared.head.Head.{Head}
@@ -32,7 +32,7 @@ pub record Refuses {X : Type 0} (refusal : Refusal) (x : X) (answer : Answer) (l
 
 -- ---- a delivery
 
--- the text of a script, where the name is one's
+-- the text of a script, if the name is one's
 abbrev pub text_named : Scripts → Option (List ℕ) → Option (List ℕ)
 text_named scripts None = None
 text_named scripts (Some name) = get scripts name
@@ -41,7 +41,7 @@ text_named scripts (Some name) = get scripts name
 abbrev pub active_text : Account → Option (List ℕ)
 active_text a = text_named a.scripts a.active
 
--- the text by which an account's mail is delivered: that of its active script, and where none is active the host's default, if there is one
+-- the text by which an account's mail is delivered: that of its active script, and if none is active the host's default, if there is one
 abbrev pub text_or : Option (List ℕ) → Option (List ℕ) → Option (List ℕ)
 text_or None default = default
 text_or (Some text) default = Some text
@@ -64,17 +64,17 @@ pub record DeliversUser (accounts : Accounts) (user : List ℕ) (terms : Terms) 
   pub reported : answer ≡ Delivered report
   pub changed : later ≡ insert accounts user account
 
--- why nothing is delivered where no account is open: one that is closed and not removed may be on its way to another machine
+-- why nothing is delivered if no account is open: one that is closed and not removed may be on its way to another machine
 abbrev pub absence : Option Account → Refusal
 absence None = NoUser
 absence (Some a) = cond (is_removed a) NoUser AccountClosed
 
--- by the open account of the user, if there is one
+-- depending on the open account of the user, if there is one
 abbrev pub DeliversIn : Accounts → List ℕ → Terms → Envelope → List ℕ → Option Account → Answer → Accounts → Type 0
 DeliversIn accounts user terms envelope message None answer later = Refuses (absence (get accounts user)) accounts answer later
 DeliversIn accounts user terms envelope message (Some a) answer later = DeliversUser accounts user terms envelope message a answer later
 
--- by the cause that stands against it, if there is one
+-- depending on the limit that forbids it, if there is one
 abbrev pub DeliversUnder : Option Refusal → Accounts → List ℕ → Terms → Envelope → List ℕ → Answer → Accounts → Type 0
 DeliversUnder (Some refusal) accounts user terms envelope message answer later = Refuses refusal accounts answer later
 DeliversUnder None accounts user terms envelope message answer later = DeliversIn accounts user terms envelope message (open_of accounts user) answer later
@@ -85,24 +85,24 @@ Delivery accounts user envelope message terms answer later =
 
 -- ---- a new user
 
--- the user is there with an empty account: the password is kept as its digest
+-- the user is there with an empty account: the password is stored as its digest
 pub record Adds (accounts : Accounts) (name address salt password : List ℕ) (answer : Answer) (later : Accounts) : Type 0 where
   pub added : answer ≡ Added
   pub changed : later ≡ new_user name address salt rounds (digest_of salt password rounds) accounts
 
--- a closed account is opened anew, empty but for the moments of its replies and its numbers
+-- a closed account is opened again, empty but for the moments of its replies and its numbers
 pub record Renews (accounts : Accounts) (name address salt password : List ℕ) (answer : Answer) (later : Accounts) : Type 0 where
   pub added : answer ≡ Added
   pub changed : later ≡ with_user accounts name (renews address (kept_password salt password))
 
--- over an account that has the name: one that is open stays, and so does one that is closed and has mail, so that nobody's mail goes or gets to another
+-- over an account that has the name: one that is open stays, and so does one that is closed and has mail, so that nobody's mail is lost or comes to another
 abbrev pub AddsOver : Accounts → List ℕ → List ℕ → List ℕ → List ℕ → Account → Answer → Accounts → Type 0
 AddsOver accounts name address salt password a answer later =
     MatchBool (is_closed a)
     (MatchBool (has_mail a) (Refuses UserHasMail accounts answer later) (Renews accounts name address salt password answer later))
     (Refuses UserExists accounts answer later)
 
--- by the account that has the name, if one has
+-- depending on the account that has the name, if one has
 abbrev pub AddsUnder : Accounts → List ℕ → List ℕ → List ℕ → List ℕ → Option Account → Answer → Accounts → Type 0
 AddsUnder accounts name address salt password None answer later = Adds accounts name address salt password answer later
 AddsUnder accounts name address salt password (Some a) answer later = AddsOver accounts name address salt password a answer later
@@ -112,7 +112,7 @@ Addition accounts name address salt password answer later =
     Where (IsNewUser name address password) (AddsUnder accounts name address salt password (get accounts name) answer later)
     (Refuses BadUser accounts answer later)
 
--- ---- an account that comes whole, as a text says it (`whole`)
+-- ---- a whole account, as a text says it (`whole`)
 
 -- an account of this text may be kept: its name is a user's, its password one that accounts have, its copies have no longer flags than a
 -- delivery gives them, and what the text makes is sound
@@ -127,19 +127,19 @@ pub record Imports (accounts : Accounts) (head : Head) (parts : List Part) (answ
   pub imported : answer ≡ Imported
   pub changed : later ≡ insert accounts head.owner.name (whole head parts empty)
 
--- it takes the place of a closed one, of whose moments of replies those stay that are later than the text's, or of which the text has none
+-- it takes the place of a closed one, of whose moments of replies those stay that are later than the text's, or that the text lacks
 pub record Replaces (accounts : Accounts) (head : Head) (parts : List Part) (answer : Answer) (later : Accounts) : Type 0 where
   pub imported : answer ≡ Imported
   pub changed : later ≡ with_user accounts head.owner.name (takes_whole head parts)
 
--- over an account that has the name: one that is open stays, and so does one that is closed and has mail, so that nobody's mail goes
+-- over an account that has the name: one that is open stays, and so does one that is closed and has mail, so that nobody's mail is lost
 abbrev pub ImportsOver : Accounts → Head → List Part → Account → Answer → Accounts → Type 0
 ImportsOver accounts head parts a answer later =
     MatchBool (is_closed a)
     (MatchBool (has_mail a) (Refuses UserHasMail accounts answer later) (Replaces accounts head parts answer later))
     (Refuses UserExists accounts answer later)
 
--- by the account that has the name, if one has
+-- depending on the account that has the name, if one has
 abbrev pub ImportsUnder : Accounts → Head → List Part → Option Account → Answer → Accounts → Type 0
 ImportsUnder accounts head parts None answer later = Imports accounts head parts answer later
 ImportsUnder accounts head parts (Some a) answer later = ImportsOver accounts head parts a answer later
@@ -151,7 +151,7 @@ Importing accounts head parts answer later =
 
 -- ---- a row taken out of the queue
 
--- the row is handed out, and no longer queued; its number isn't used again
+-- the row is returned, and no longer queued; its number isn't used again
 pub record Takes (accounts : Accounts) (user : List ℕ) (row : Outgoing) (answer : Answer) (later : Accounts) : Type 0 where
   pub taken : answer ≡ Taken row
   pub changed : later ≡ with_user accounts user (takes_out row.id)
@@ -169,12 +169,12 @@ Taking accounts user id answer later = TakesIn accounts user id (open_of account
 
 -- ---- a message taken out of a folder
 
--- the first message leaves the folder, which goes with its last one
+-- the first message leaves the folder, which disappears with its last one
 pub record LosesMail (accounts : Accounts) (user folder : List ℕ) (answer : Answer) (later : Accounts) : Type 0 where
   pub taken : answer ≡ MailTaken
   pub changed : later ≡ with_user accounts user (takes_mail folder 1)
 
--- by the messages that the folder has
+-- depending on the messages that the folder has
 abbrev pub TakesFirst : Accounts → List ℕ → List ℕ → List (List ℕ) → Answer → Accounts → Type 0
 TakesFirst accounts user folder [] answer later = Refuses NoRow accounts answer later
 TakesFirst accounts user folder (message ∷ more) answer later = LosesMail accounts user folder answer later

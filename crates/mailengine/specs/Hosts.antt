@@ -1,4 +1,4 @@
--- What a store and a map of sessions have of the machine.
+-- How a store and a map of sessions implement the machine.
 use Rattle.std.specs.Prelude.{◌≡◌, ℕ, true, ◌⊎◌, List, [], ◌∷◌, map, take, length, Some, None, Ok, Err, Result, IsTrue, IfSome, option_map}
 use Rattle.std.specs.FinMap.{get, from_entries}
 use Rattle.std.specs.Ordering.{nat_cmp}
@@ -57,14 +57,14 @@ pub record Host : Type 1 where
 abbrev pub host : State → Kept → Host
 host store sessions = record { store = store; sessions = sessions }
 
--- of the values that the code has
+-- from the values of the code
 abbrev pub host_with : {S : Type 0} → Ghosts S → Held S → Sessions → Host
 host_with g store clients = host (state g store) clients.sessions
 
 abbrev pub host_of : {S : Type 0} → Ghosts S → Machine S → Host
 host_of g machine = host_with g machine.store machine.clients
 
--- the store shows the machine's accounts (`HasAccounts`: of a connection that a fault of the disk has shut nothing is said), and the
+-- the store shows the machine's accounts (`HasAccounts`: if a fault of the disk has shut the connection nothing is said), and the
 -- sessions are the machine's
 pub record Implements (h : Host) (w : World) : Type 0 where
   pub accounts : HasAccounts h.store w.accounts
@@ -72,13 +72,13 @@ pub record Implements (h : Host) (w : World) : Type 0 where
 
 -- ---- one event
 
--- the event, of sessions alone, with this answer, of whatever world there was: no account changes
+-- the event, of sessions alone, with this answer, whatever the world was: no account changes
 abbrev pub IsSessionEvent : Event → Answer → Kept → Kept → Type 0
 IsSessionEvent event answer before after =
     (w : World) → HasClients before w.sessions
     → (clients : Clients) × Next w event answer (record { accounts = w.accounts; sessions = clients }) × HasClients after clients
 
--- whatever sessions there were, there are
+-- whatever sessions there were are still there
 abbrev pub KeepsClients : Kept → Kept → Type 0
 KeepsClients before after = (clients : Clients) → HasClients before clients → HasClients after clients
 
@@ -101,14 +101,14 @@ abbrev pub IsMade : Answer → Type 0
 IsMade (Refused refusal) = ⊥
 IsMade answer = Unit {0}
 
--- the event leads from this world to that, which the store and its sessions then are; and where it was made, over a connection that was
--- open, the connection is open still, the store shows that world's accounts, and so does what a crash leaves (`Lasts`)
+-- the event leads from this world to that, which the store and its sessions then implement; and if it was made, over a connection that was
+-- open, the connection is still open, the store shows that world's accounts, and so does what a crash leaves (`Lasts`)
 pub record Leads (w : World) (event : Event) (answer : Answer) (old new : Host) (next : World) : Type 0 where
   pub is_next : Next w event answer next
   pub implements : Implements new next
   pub lasts : IsMade answer → IsTrue old.store.is_open → Lasts w.accounts next.accounts old.store new.store
 
--- from one store and its sessions to another it is the event with this answer, of whatever world there was
+-- it leads from one store and its sessions to another by this event with this answer, whatever the world was
 abbrev pub IsEvent : Event → Answer → Host → Host → Type 0
 IsEvent event answer old new =
     HasCleanDisk new.store → (w : World) → Implements old w → (next : World) × Leads w event answer old new next
@@ -123,18 +123,18 @@ EventCrashLeaves event old trees =
 abbrev pub SurvivesEvent : Event → Host → Host → Type 0
 SurvivesEvent event old new = Survives old.store new.store (EventCrashLeaves event old)
 
--- a text that was made ready for the event: that of giving up, where it is one
+-- a text that was prepared for the event: that of giving up, if it is one
 abbrev pub IsPrepared : Event → Kept → List ℕ → Type 0
 IsPrepared (GiveUp s) kept text = IfSome (tree.get nat_cmp kept s) (λ session. text ≡ text_given_up session.client)
 IsPrepared event kept text = Unit {0}
 
--- ---- events in turn
+-- ---- events in order
 
 -- the events that were answered: the first ones, one for each answer
 abbrev pub answered : List Event → List Answer → List Event
 answered events answers = take (length answers) events
 
--- from one store and its sessions to another it is these events with these answers, of whatever world there was
+-- it leads from one store and its sessions to another by these events with these answers, whatever the world was
 abbrev pub IsRun : List Event → List Answer → Host → Host → Type 0
 IsRun events answers old new =
     HasCleanDisk new.store → (w : World) → Implements old w → (end : World) × Runs w events answers end × Implements new end
@@ -146,13 +146,13 @@ IsRunAlone events answers old new =
     HasCleanDisk new.store → (w : World) → Implements old w
     → (end : World) × (run : Runs w events answers end) × Implements new end × IsAlone w events answers end run
 
--- a run whose answers to senders are spaced by their periods
+-- a run whose replies to senders are spaced by their periods
 abbrev pub IsRunSpaced : List Event → List Answer → Host → Host → Type 0
 IsRunSpaced events answers old new =
     HasCleanDisk new.store → (w : World) → Implements old w
     → (end : World) × (run : Runs w events answers end) × Implements new end × IsSpaced w events answers end run
 
--- what a crash leaves of a run, where no fault of the disk has shut the connection at its end, shows the accounts of a world that some of
+-- what a crash leaves of a run, if no fault of the disk has shut the connection at its end, shows the accounts of a world that some of
 -- the first events lead to; what a run that goes on over a shut connection leaves is not said
 abbrev pub RunCrashLeaves : List Event → Host → Host → Trees → Type 0
 RunCrashLeaves events old new trees =
@@ -165,7 +165,7 @@ SurvivesRun events old new = Survives old.store new.store (RunCrashLeaves events
 
 -- ---- the calls on accounts
 
--- the answer that is told of what a call gives, or the refusal
+-- the answer for what a call returns, or the refusal
 abbrev pub answer_by : {X : Type 0} → (X → Answer) → Result X Refusal → Answer
 answer_by told (Ok x) = told x
 answer_by told (Err refusal) = Refused refusal
@@ -174,11 +174,11 @@ answer_by told (Err refusal) = Refused refusal
 abbrev pub answer_of : Result Answer Refusal → Answer
 answer_of = answer_by (λ answer. answer)
 
--- the row of an event of accounts: what it answers, and what they become
+-- the row of an event of accounts: its answer, and what the accounts become
 abbrev pub Row : Type 1
 Row = Accounts → Answer → Accounts → Type 0
 
--- the accounts turn by the row with this answer, or the event is refused without visible cause, where it may be, and they stay
+-- the accounts turn by the row with this answer, or the event is refused without visible cause, if it may be, and they stay
 abbrev pub TurnsBy : Row → (Refusal → Type 0) → Answer → Accounts → Accounts → Type 0
 TurnsBy By May answer accounts later =
     By accounts answer later ⊎ ((refusal : Refusal) × May refusal × (answer ≡ Refused refusal) × (later ≡ accounts))
@@ -187,28 +187,28 @@ TurnsBy By May answer accounts later =
 abbrev pub MayTurnBy : Row → Accounts → Accounts → Type 0
 MayTurnBy By accounts later = (answer : Answer) × By accounts answer later
 
--- what a call makes of the store by the row, with what is told of its result
+-- how a call changes the store by the row, with this answer for its result
 abbrev pub ActsBy : {X : Type 0} → Row → (Refusal → Type 0) → (X → Answer) → State → State → Result X Refusal → Type 0
 ActsBy By May told old new result = Acts (TurnsBy By May (answer_by told result)) (MayTurnBy By) old new result
 
--- without visible cause a delivery is refused only where no limit stands against it
+-- without visible cause a delivery is refused only if no limit forbids it
 abbrev pub MayRefuseDelivery : Envelope → List ℕ → ℕ → Refusal → Type 0
 MayRefuseDelivery envelope message moment refusal = IsTransient refusal × (limit_refusal envelope message moment ≡ None)
 
--- and a new user by the store only where the name, the address and the password are allowed
+-- and a new user by the store only if the name, the address and the password are allowed
 abbrev pub MayRefuseAddition : List ℕ → List ℕ → List ℕ → Refusal → Type 0
 MayRefuseAddition name address password refusal = (refusal ≡ Memory) ⊎ ((refusal ≡ Store) × IsNewUser name address password)
 
--- and an account of a text by the store only where it may be kept
+-- and an account of a text by the store only if it may be kept
 abbrev pub MayRefuseImport : Head → List Part → Refusal → Type 0
 MayRefuseImport head parts refusal = (refusal ≡ Memory) ⊎ ((refusal ≡ Store) × IsImportable head parts)
 
--- what a delivery makes of the store
+-- how a delivery changes the store
 abbrev pub ActsDelivery : List ℕ → Envelope → List ℕ → Terms → State → State → Result Report Refusal → Type 0
 ActsDelivery user envelope message terms =
     ActsBy (λ accounts. Delivery accounts user envelope message terms) (MayRefuseDelivery envelope message terms.when.moment) Delivered
 
--- a delivery is a run of one event, over whatever sessions there are, and the answer that it sends, if it sends one, is spaced by its period
+-- a delivery is a run of one event, whatever sessions there are, and the reply that it sends, if it sends one, is spaced by its period
 abbrev pub IsSpacedDelivery : List ℕ → Envelope → List ℕ → Terms → State → State → Result Report Refusal → Type 0
 IsSpacedDelivery user envelope message terms old new result =
     let events = Deliver user envelope message terms.when terms.default ∷ [] in
@@ -216,40 +216,40 @@ IsSpacedDelivery user envelope message terms old new result =
     HasCleanDisk new → (w : World) → HasAccounts old w.accounts
     → (end : World) × (run : Runs w events told end) × HasAccounts new end.accounts × IsSpaced w events told end run
 
--- what a new user makes of it
+-- how a new user changes it
 abbrev pub ActsAddition : List ℕ → List ℕ → List ℕ → List ℕ → State → State → Result (Unit {0}) Refusal → Type 0
 ActsAddition name address salt password =
     ActsBy (λ accounts. Addition accounts name address salt password) (MayRefuseAddition name address password) (λ done. Added)
 
--- what an account of a text makes of it
+-- how an account of a text changes it
 abbrev pub ActsImport : Head → List Part → State → State → Result (Unit {0}) Refusal → Type 0
 ActsImport head parts = ActsBy (λ accounts. Importing accounts head parts) (MayRefuseImport head parts) (λ done. Imported)
 
--- what a row that is taken out makes of it
+-- how taking out a row changes it
 abbrev pub ActsTaking : List ℕ → ℕ → State → State → Result Outgoing Refusal → Type 0
 ActsTaking user id = ActsBy (λ accounts. Taking accounts user id) IsTransient Taken
 
--- what a message that is taken out of a folder makes of it
+-- how taking a message out of a folder changes it
 abbrev pub ActsMailTaking : List ℕ → List ℕ → State → State → Result (Unit {0}) Refusal → Type 0
 ActsMailTaking user folder = ActsBy (λ accounts. MailTaking accounts user folder) IsTransient (λ done. MailTaken)
 
--- without visible cause an administrator's act is refused only where nothing that was handed in stands against it
+-- without visible cause an administrator's act is refused only if nothing in its arguments forbids it
 abbrev pub MayRefuseKeeping : Upkeep → Refusal → Type 0
 MayRefuseKeeping upkeep refusal = ((refusal ≡ Memory) × MayLackFor upkeep) ⊎ ((refusal ≡ Store) × IsFit upkeep)
 
--- what such an act makes of it
+-- how such an act changes it
 abbrev pub ActsKeeping : List ℕ → Upkeep → State → State → Result Answer Refusal → Type 0
 ActsKeeping user upkeep = ActsBy (λ accounts. Keeping accounts user upkeep) (MayRefuseKeeping upkeep) (λ answer. answer)
 
 -- ---- refusals, by name
 
--- a delivery is refused by the limit that stands against it; where none does, for want of an open account, or without visible cause
+-- a delivery is refused by the limit that forbids it; if none does, for lack of an open account, or without visible cause
 abbrev pub RefusesDelivery : Envelope → List ℕ → ℕ → Refusal → Type 0
 RefusesDelivery envelope message moment refusal =
     (limit_refusal envelope message moment ≡ Some refusal)
     ⊎ ((limit_refusal envelope message moment ≡ None) × ((refusal ≡ NoUser) ⊎ (refusal ≡ AccountClosed) ⊎ IsTransient refusal))
 
--- a new user is refused where the name, the address or the password isn't allowed, where the name has an open account, or a closed one
+-- a new user is refused if the name, the address or the password isn't allowed, if the name has an open account, or a closed one
 -- with mail, or without visible cause
 abbrev pub RefusesAddition : List ℕ → List ℕ → List ℕ → Refusal → Type 0
 RefusesAddition name address password refusal =
@@ -258,7 +258,7 @@ RefusesAddition name address password refusal =
     ⊎ ((refusal ≡ UserHasMail) × IsNewUser name address password)
     ⊎ MayRefuseAddition name address password refusal
 
--- an account of a text is refused where it may not be kept, where its name has an open account, or a closed one with mail, or without
+-- an account of a text is refused if it may not be kept, if its name has an open account, or a closed one with mail, or without
 -- visible cause
 abbrev pub RefusesImport : Head → List Part → Refusal → Type 0
 RefusesImport head parts refusal =
@@ -267,7 +267,7 @@ RefusesImport head parts refusal =
     ⊎ ((refusal ≡ UserHasMail) × IsImportable head parts)
     ⊎ MayRefuseImport head parts refusal
 
--- a row is refused where the user has no open account, where no row has the number, or without visible cause; a message so where the folder
--- has none
+-- taking out a row is refused if the user has no open account, if no row has the number, or without visible cause; taking out a message
+-- likewise if the folder has none
 abbrev pub RefusesTaking : Refusal → Type 0
 RefusesTaking refusal = (refusal ≡ NoUser) ⊎ (refusal ≡ NoRow) ⊎ IsTransient refusal

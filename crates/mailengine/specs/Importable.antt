@@ -1,4 +1,4 @@
--- What is asked of the scripts, the flags and the password of a text, so that its account may be kept.
+-- What the scripts, the flags and the password of a text have to be, so that its account may be kept.
 use Rattle.std.specs.Prelude.{◌≤◌, ◌==◌, ◌&&◌, ◌||◌, ℕ, Bool, true, false, not, nat_le, List, length}
 use Rattle.std.specs.List.{AllByRecursion, count_by, list_all}
 use Rattle.accountfiles.specs.declared.part.Part.{Part}
@@ -17,12 +17,12 @@ abbrev pub is_a_script : Part → Bool
 is_a_script (Script name text) = true
 is_a_script part = false
 
--- each script may be kept, and there are no more of them than may be
+-- each script may be kept, and there are no more of them than the limit
 pub record HasSoundScripts (parts : List Part) : Type 0 where
   pub each : AllByRecursion IsSoundPart parts
   pub few : count_by is_a_script parts ≤ scripts_limit
 
--- how many octets the flags of a copy have at most, as a text: a hundred names of 128 octets, with a blank between two
+-- the largest text of a copy's flags, in octets: a hundred names of 128 octets, with a blank between two
 abbrev pub flags_limit : ℕ
 flags_limit = 12899
 
@@ -36,12 +36,12 @@ has_short_flags part = true
 abbrev pub have_short_flags : List Part → Bool
 have_short_flags parts = list_all has_short_flags parts
 
--- how many octets the salt of such a password has at most
+-- the largest salt of such a password, in octets
 abbrev pub salt_limit : ℕ
 salt_limit = 64
 
--- a password that may be kept: each login hashes its salt as often as it says, so it says what that of each account says, or none where the account is
--- closed; and it has a digest, without which the account would be a removed one
+-- a password that may be kept: each login hashes its salt as often as it says, so it has the rounds of every account, or none if the account
+-- is closed; and it has a digest, without which the account would be a removed one
 abbrev pub may_guard : Password → Bool
 may_guard password =
     (password.rounds == 0 || password.rounds == rounds) && (nat_le (length password.salt) salt_limit && not (length password.digest == 0))

@@ -1,4 +1,4 @@
--- What the engine takes: users, addresses, sizes and moments.
+-- The limits of the engine: users, addresses, sizes and moments.
 use Rattle.std.specs.Prelude.{◌≡◌, ℕ, Bool, true, cond, not, ◌&&◌, ◌||◌, ◌==◌, nat_le, nat_lt, List, length, Option, Some, None}
 use Rattle.std.specs.List.{list_all, list_any}
 use Rattle.octets.specs.Ascii.{is_letter, is_digit}
@@ -26,7 +26,7 @@ is_password password = nat_le 1 (length password) && nat_le (length password) 10
 abbrev pub IsOwnAddress : List ℕ → Type 0
 IsOwnAddress text = (address : Addr) × IsBareAddress text address
 
--- what an account can be made of
+-- the name, address and password that a new account may have
 pub record IsNewUser (name address password : List ℕ) : Type 0 where
   pub named : is_user_name name ≡ true
   pub addressed : IsOwnAddress address
@@ -38,15 +38,15 @@ pub record IsNewUser (name address password : List ℕ) : Type 0 where
 abbrev pub message_limit : ℕ
 message_limit = 33554432
 
--- an octet that no envelope address has: NUL, LF, CR
+-- an octet that no envelope address may have: NUL, LF, CR
 abbrev pub is_forbidden_octet : ℕ → Bool
 is_forbidden_octet octet = octet == 0 || octet == 10 || octet == 13
 
--- an envelope address that is taken, the null sender among them
+-- an envelope address that is accepted, including the null sender
 abbrev pub is_envelope_address : List ℕ → Bool
 is_envelope_address text = nat_le (length text) 1024 && not (list_any is_forbidden_octet text)
 
--- both addresses are taken
+-- both addresses are accepted
 abbrev pub is_envelope : Envelope → Bool
 is_envelope envelope = is_envelope_address envelope.from && is_envelope_address envelope.to
 

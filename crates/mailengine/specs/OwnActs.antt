@@ -39,7 +39,7 @@ use Rattle.mailengine.specs.World.{World, Runs}
 
 -- ---- acts
 
--- an act of one user, with its answer: nothing of tables, of sessions or of other accounts is in it
+-- an act of one user, with its answer: it has nothing of tables, of sessions or of other accounts
 pub data Act : Type 0 where
   -- a command of a session in which the user is logged in, and the octets that answer it
   Commands : Command → List ℕ → Act
@@ -49,7 +49,7 @@ pub data Act : Type 0 where
   Receives : Envelope → List ℕ → Terms → Answer → Act
   -- the user is to be added, with an address, a salt and a password
   Joins : List ℕ → List ℕ → List ℕ → Answer → Act
-  -- the account of a text is to appear whole under the user's name
+  -- the account of a text is to be made under the user's name
   IsImported : Head → List Part → Answer → Act
   -- a row of the queue is to be taken out
   TakesOut : ℕ → Answer → Act
@@ -60,13 +60,13 @@ pub data Act : Type 0 where
 
 -- ---- the machine of one account: there is one, open or closed, or there is none
 
--- what is answered to a command of the user; two of them look at no account, and of the others each is early where the account isn't open
+-- what is answered to a command of the user; two of them need no account, and each of the others is early if the account isn't open
 abbrev pub RepliesAlone : Option Account → Command → Reply → Type 0
 RepliesAlone account Unauthenticate reply = reply ≡ done
 RepliesAlone account (CheckScript text) reply = RepliesToCheck text reply
 RepliesAlone account command reply = RepliesOf (open_one account) command reply
 
--- a command is answered by a reply of its row, and the account becomes what the reply's word says
+-- a command is answered by a reply of its row, and the account becomes what the reply's status says
 pub record CommandsAlone (account : Option Account) (command : Command) (octets : List ℕ) (later : Option Account) : Type 0 where
   pub reply : Reply
   pub replies : RepliesAlone account command reply
@@ -82,7 +82,7 @@ pub record LogsInAlone (account : Option Account) (password : List ℕ) (succeed
   pub says : succeeds ≡ admits password (open_one account)
   pub stays : later ≡ account
 
--- a message that no limit stands against is delivered to the account
+-- a message that no limit forbids is delivered to the account
 pub record ReceivesAlone (envelope : Envelope) (message : List ℕ) (terms : Terms) (a : Account) (answer : Answer) (later : Option Account) : Type 0 where
   pub report : Report
   pub after : Account
@@ -90,7 +90,7 @@ pub record ReceivesAlone (envelope : Envelope) (message : List ℕ) (terms : Ter
   pub says : answer ≡ Delivered report
   pub changed : later ≡ Some after
 
--- by the open account, if there is one
+-- depending on the open account, if there is one
 abbrev pub ReceivesOpen : Option Account → Option Account → Envelope → List ℕ → Terms → Answer → Option Account → Type 0
 ReceivesOpen account None envelope message terms answer later = Refuses (absence account) account answer later
 ReceivesOpen account (Some a) envelope message terms answer later = ReceivesAlone envelope message terms a answer later
@@ -107,7 +107,7 @@ pub record JoinsAlone (address salt password : List ℕ) (answer : Answer) (late
   pub says : answer ≡ Added
   pub changed : later ≡ Some (fresh address salt password)
 
--- a closed account is opened anew over what it remembers
+-- a closed account is opened again over what it remembers
 pub record RenewsAlone (a : Account) (address salt password : List ℕ) (answer : Answer) (later : Option Account) : Type 0 where
   pub says : answer ≡ Added
   pub changed : later ≡ Some (renews address (kept_password salt password) a)
@@ -149,7 +149,7 @@ abbrev pub TakesRowAlone : Account → Option Outgoing → Answer → Option Acc
 TakesRowAlone a None answer later = Refuses NoRow (Some a) answer later
 TakesRowAlone a (Some row) answer later = TakesAlone a row answer later
 
--- by the open account, if there is one
+-- depending on the open account, if there is one
 abbrev pub TakesOpen : Option Account → Option Account → ℕ → Answer → Option Account → Type 0
 TakesOpen account None id answer later = Refuses NoUser account answer later
 TakesOpen account (Some a) id answer later = TakesRowAlone a (row_with id a.queue) answer later
@@ -165,7 +165,7 @@ abbrev pub TakesFirstAlone : Account → List ℕ → List (List ℕ) → Answer
 TakesFirstAlone a folder [] answer later = Refuses NoRow (Some a) answer later
 TakesFirstAlone a folder (message ∷ more) answer later = TakesMailAlone a folder answer later
 
--- by the open account, if there is one
+-- depending on the open account, if there is one
 abbrev pub TakesMailOpen : Option Account → Option Account → List ℕ → Answer → Option Account → Type 0
 TakesMailOpen account None folder answer later = Refuses NoUser account answer later
 TakesMailOpen account (Some a) folder answer later = TakesFirstAlone a folder (messages_in a.folders folder) answer later
@@ -187,7 +187,7 @@ ActsAlone user account (TakesOut id answer) later = TakesAloneIn account id answ
 ActsAlone user account (TakesMail folder answer) later = TakesMailAloneIn account folder answer later
 ActsAlone user account (IsKept upkeep answer) later = KeepingAlone account upkeep answer later
 
--- acts in turn, from one account or none
+-- acts in order, from one account or none
 abbrev pub Alone : List ℕ → Option Account → List Act → Option Account → Type 0
 Alone user account [] end = end ≡ account
 Alone user account (act ∷ acts) end = (later : Option Account) × ActsAlone user account act later × Alone user later acts end
@@ -197,7 +197,7 @@ Alone user account (act ∷ acts) end = (later : Option Account) × ActsAlone us
 abbrev pub is_user : List ℕ → List ℕ → Bool
 is_user user name = is_eq (bytes_cmp user name)
 
--- the act, where it is this user's
+-- the act, if it is this user's
 abbrev pub when_of : List ℕ → Option (List ℕ) → Act → List Act
 when_of user None act = []
 when_of user (Some name) act = cond (is_user user name) (act ∷ []) []
@@ -209,7 +209,7 @@ welcome = spelled (accepted (codes "Logged in."))
 abbrev pub is_welcome : List ℕ → Bool
 is_welcome octets = pointwise nat_eq octets welcome
 
--- a login that a text says, if it says one
+-- a login in a text, if there is one
 abbrev pub login_acts : List ℕ → Option (List ℕ × List ℕ) → List ℕ → List Act
 login_acts user None octets = []
 login_acts user (Some login) octets = when_of user (Some login.0) (LogsIn login.1 (is_welcome octets))
@@ -231,7 +231,7 @@ abbrev pub step_acts : List ℕ → Option Client → Answer → List Act
 step_acts user (Some c) (Out progress octets) = cond c.closed [] (item_acts user c (item_in c) octets)
 step_acts user _ answer = []
 
--- whether an answer is a refusal for memory or by the store
+-- whether an answer is a refusal for lack of memory or by the store
 abbrev pub is_lost : Answer → Bool
 is_lost (Refused Memory) = true
 is_lost (Refused Store) = true

@@ -14,7 +14,7 @@ pub record IsSoundScript (name text : List ℕ) : Type 0 where
   pub short : length text ≤ script_limit
   pub valid : IsValid text
 
--- an account whose address is an addr-spec, in which each script may be kept, there are no more of them than may be, the
+-- an account whose address is an addr-spec, in which each script may be kept, there are no more of them than the limit, the
 -- active name is one of theirs, and no folder is empty
 pub record IsSound (a : Account) : Type 0 where
   pub address : IsOwnAddress a.address
@@ -27,7 +27,7 @@ pub record IsSound (a : Account) : Type 0 where
 abbrev pub AreSound : Accounts → Type 0
 AreSound accounts = (user : List ℕ) (a : Account) → get accounts user ≡ Some a → IsSound a
 
--- where the store showed sound accounts, all that it shows later are sound
+-- if the store showed sound accounts, all that it shows later are sound
 abbrev pub KeepsSound : State → State → Type 0
 KeepsSound old new =
     HasCleanDisk new → (before later : Accounts) → Presents old.now before → AreSound before → IsTrue new.is_open → Presents new.now later → AreSound later

@@ -1,4 +1,4 @@
--- When a user answers one sender again under one handle: at least the later answer's period later (RFC 5230, 4.2).
+-- When a user replies again to one sender under one handle: at least the later reply's period later (RFC 5230, 4.2).
 use Rattle.std.specs.Prelude.{◌≡◌, ℕ, ◌+◌, ◌<◌, ◌≤◌, List, [], ◌∷◌, ◌++◌, Option, Some, None}
 use mathlib.Core.Logic.{inl, inr}
 use Rattle.std.specs.FinMap.{get}
@@ -26,13 +26,13 @@ use Rattle.mailengine.specs.AccountEvents.{DeliversTo, DeliversIn, DeliversUnder
 use Rattle.mailengine.specs.Terms.{Terms, terms}
 use Rattle.mailengine.specs.World.{World, Happens, Next, Runs}
 
--- to whom an answer went: whose it is, by what it is known, and the sender, case ignored
+-- to whom a reply went: the user, the handle's key, and the sender, ignoring case
 pub record Thread : Type 0 where
   pub user : List ℕ
   pub handle : Handle
   pub sender : List ℕ
 
--- an answer that was sent
+-- a reply that was sent
 pub record Entry : Type 0 where
   pub thread : Thread
   -- when, in seconds since 1970-01-01 UTC
@@ -46,17 +46,17 @@ abbrev pub entry_of : List ℕ → List ℕ → ℕ → VacArgs → Entry
 entry_of user sender moment args =
     record { thread = record { user = user; handle = handle_of args; sender = lowered sender }; moment = moment; period = period_of args }
 
--- the entry of a `vacation` that was executed, where the report says that an answer was sent
+-- the entry of a `vacation` that was executed, if the report says that a reply was sent
 abbrev pub entries_if : VacationReport → List ℕ → List ℕ → ℕ → Option VacArgs → List Entry
 entries_if V.Sent user sender moment (Some args) = entry_of user sender moment args ∷ []
 entries_if vacation user sender moment reply = []
 
--- the `vacation` that is executed where a message comes to this
+-- the `vacation` that is executed if a message comes to this
 abbrev pub vacation_in : Disposition → Option VacArgs
 vacation_in (Acts deeds) = deeds.reply
 vacation_in (Tells text) = None
 
--- of a delivery to the user's account, as it stands
+-- for a delivery to the user's account as it is
 abbrev pub sent_to : List ℕ → (terms : Terms) (envelope : Envelope) (message : List ℕ) (a : Account) (report : Report) (a2 : Account)
     → DeliversTo terms envelope message a report a2 → List Entry
 sent_to user terms envelope message a report a2 made = entries_if report.vacation user envelope.from terms.when.moment (vacation_in made.delivers.disposition)
@@ -78,12 +78,12 @@ sent_by w (Deliver user envelope message when default) answer next made =
     sent_under (limit_refusal envelope message when.moment) w.accounts user (terms when default) envelope message answer made.0 made.1
 sent_by w event answer next made = []
 
--- of one event; one that is refused sends nothing
+-- for one event; one that is refused sends nothing
 abbrev pub sent_at : (w : World) (event : Event) (answer : Answer) (next : World) → Next w event answer next → List Entry
 sent_at w event answer next (inl made) = sent_by w event answer next made
 sent_at w event answer next (inr refused) = []
 
--- the answers that a run sends, in their order
+-- the replies that a run sends, in their order
 abbrev pub sent : (w : World) (events : List Event) (told : List Answer) (end : World) → Runs w events told end → List Entry
 sent w [] [] end run = []
 sent w (event ∷ events) (answer ∷ told) end run = sent_at w event answer run.0 run.1 ++ sent run.0 events told end run.2
@@ -92,7 +92,7 @@ sent w (event ∷ events) [] end run = []
 
 -- ---- how they are spaced
 
--- the moment that an account keeps of an answer, if one is kept; a closed or removed one keeps it too
+-- the moment that an account keeps of a reply, if one is kept; a closed or removed one keeps it too
 abbrev pub kept_in : Option Account → Thread → Option ℕ
 kept_in None thread = None
 kept_in (Some a) thread = get a.replies (key_of thread.handle, thread.sender)
@@ -100,7 +100,7 @@ kept_in (Some a) thread = get a.replies (key_of thread.handle, thread.sender)
 abbrev pub kept : Accounts → Thread → Option ℕ
 kept accounts thread = kept_in (get accounts thread.user) thread
 
--- a moment is at least a period later than the one that is kept, if one is; a period of 0 asks nothing
+-- a moment is at least a period later than the one that is kept, if one is; a period of 0 requires nothing
 abbrev pub IsPast : Option ℕ → ℕ → ℕ → Type 0
 IsPast None period moment = Unit {0}
 IsPast (Some last) period moment = 0 < period → last + period ≤ moment
@@ -110,12 +110,12 @@ abbrev pub ComeAfter : Accounts → List Entry → Type 0
 ComeAfter accounts [] = Unit {0}
 ComeAfter accounts (entry ∷ more) = IsPast (kept accounts entry.thread) entry.period entry.moment × ComeAfter accounts more
 
--- each of these is its period later than the entry, where it goes to the same and has a period
+-- each of these is its period later than the entry, if it goes to the same and has a period
 abbrev pub Follow : Entry → List Entry → Type 0
 Follow entry [] = Unit {0}
 Follow entry (later ∷ more) = (entry.thread ≡ later.thread → 0 < later.period → entry.moment + later.period ≤ later.moment) × Follow entry more
 
--- any two entries that go to the same are spaced by the later one's period, where it has one
+-- any two entries that go to the same are spaced by the later one's period, if it has one
 abbrev pub AreSpaced : List Entry → Type 0
 AreSpaced [] = Unit {0}
 AreSpaced (entry ∷ more) = Follow entry more × AreSpaced more
@@ -129,19 +129,19 @@ abbrev pub AreKept : Accounts → List Entry → Type 0
 AreKept accounts [] = Unit {0}
 AreKept accounts (entry ∷ more) = IsAtLeast (kept accounts entry.thread) entry.moment × AreKept accounts more
 
--- the answers of a run, from these accounts to those
+-- the replies of a run, from these accounts to those
 pub record IsSpacing (start end : Accounts) (entries : List Entry) : Type 0 where
   pub after_start : ComeAfter start entries
   pub spaced : AreSpaced entries
   pub kept_in_the_end : AreKept end entries
 
--- a run's answers are
+-- a run's replies are
 abbrev pub IsSpaced : (w : World) (events : List Event) (told : List Answer) (end : World) → Runs w events told end → Type 0
 IsSpaced w events told end run = IsSpacing w.accounts end.accounts (sent w events told end run)
 
--- ---- where an account moves
+-- ---- an account that moves
 
--- a user's account goes out of these accounts as a text, and comes in among others
+-- a user's account is taken out of these accounts as a text, and added to others
 pub record IsMove (user : List ℕ) (left here came : Accounts) : Type 0 where
   pub account : Account
   pub had : get left user ≡ Some account
@@ -152,7 +152,7 @@ pub record IsMove (user : List ℕ) (left here came : Accounts) : Type 0 where
   pub read : IsTextOf text head parts
   pub imported : Importing here head parts Imported came
 
--- of the earlier entries each one of the user's is followed by these
+-- each of the user's earlier entries is followed by these
 abbrev pub GoOn : List ℕ → List Entry → List Entry → Type 0
 GoOn user [] later = Unit {0}
 GoOn user (entry ∷ more) later = (entry.thread.user ≡ user → Follow entry later) × GoOn user more later

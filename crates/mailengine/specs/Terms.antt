@@ -1,4 +1,4 @@
--- On what terms a message is delivered: when, and by which script where the account has no active one.
+-- The terms of a delivery: the moment, and the script if the account has no active one.
 use Rattle.std.specs.Prelude.{List, ℕ, Option}
 use Rattle.std.specs.Borrow.{Bor}
 use Rattle.mailtables.specs.Cells.{contents}
@@ -12,6 +12,6 @@ pub record Terms : Type 0 where
 abbrev pub terms : When → Option (List ℕ) → Terms
 terms when default = record { when = when; default = default }
 
--- of the values that the code has
+-- from the values of the code
 abbrev pub terms_of : When → Option (Bor (List ℕ)) → Terms
 terms_of when default = terms when (contents default)

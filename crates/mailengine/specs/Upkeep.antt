@@ -1,4 +1,4 @@
--- What an administrator does to one account: what is answered, and what becomes of the account.
+-- What an administrator does to one account: the answer, and what the account becomes.
 use Rattle.std.specs.Prelude.{◌≡◌, ℕ, ◌≤◌, Bool, true, cond, not, ◌&&◌, List, length, Option, Some, None, MatchBool}
 use Rattle.std.specs.FinMap.{get, insert}
 use Rattle.saslplain.specs.Password.{digest_of}
@@ -15,15 +15,15 @@ use Rattle.mailengine.specs.Limits.{is_password, IsOwnAddress}
 
 -- ---- passwords
 
--- how often the digest of a new password is hashed again
+-- how many times the digest of a new password is hashed again
 abbrev pub rounds : ℕ
 rounds = 10000
 
--- a password as it is kept
+-- a password as it is stored
 abbrev pub kept_password : List ℕ → List ℕ → Password
 kept_password salt password = record { salt = salt; rounds = rounds; digest = digest_of salt password rounds }
 
--- ---- an answer, and what the account becomes: another one, or, where none is said, it stays as it is
+-- ---- an answer, and what the account becomes: another one, or, if none is given, it stays as it is
 
 -- this is answered, and the account becomes that
 pub record Alters (said : Answer) (account : Account) (answer : Answer) (change : Option Account) : Type 0 where
@@ -35,22 +35,22 @@ pub record Tells (said : Answer) (answer : Answer) (change : Option Account) : T
   pub says : answer ≡ said
   pub stays : change ≡ None
 
--- of the account that is found this; where none is, there is no such user
+-- for the account that is found this; if there is none, there is no such user
 abbrev pub InAccount : Option Account → (Account → Answer → Option Account → Type 0) → Answer → Option Account → Type 0
 InAccount None row answer change = Tells (Refused NoUser) answer change
 InAccount (Some a) row answer change = row a answer change
 
 -- ---- row by row
 
--- the script takes the place of one that has its name; it becomes the active one, or what is active stays so
+-- the script takes the place of one that has its name; it becomes the active one, or the active one stays
 abbrev pub stores : List ℕ → List ℕ → Bool → Account → Account
 stores name text activate a = cond activate (keeps_active name text a) (keeps_script name text a)
 
--- what is wrong with the text is told: a fault on one of its lines; which one is open
+-- what is wrong with the text is answered: a fault on one of its lines; which one isn't specified
 abbrev pub TellsFault : List ℕ → Answer → Option Account → Type 0
 TellsFault text answer change = (fault : ScriptFault) × IsVerdict text (Some fault) × Tells (Invalid fault) answer change
 
--- the script is stored where there is room for its name and the text means a tree
+-- the script is stored if there is room for its name and the text means a tree
 abbrev pub Stores : List ℕ → List ℕ → Bool → Account → Answer → Option Account → Type 0
 Stores name text activate a answer change =
     Where (HasRoom a name)
@@ -61,12 +61,12 @@ Stores name text activate a answer change =
 abbrev pub Opens : Account → Answer → Option Account → Type 0
 Opens a answer change = MatchBool (is_closed a) (Alters Opened (opens rounds a) answer change) (Tells (Refused UserIsOpen) answer change)
 
--- the account is removed, its mail too only where that is said
+-- the account is removed, its mail too only if asked for
 abbrev pub Removes : Bool → Account → Answer → Option Account → Type 0
 Removes mail a answer change =
     MatchBool (not mail && has_mail a) (Tells (Refused UserHasMail) answer change) (Alters Removed (removes a) answer change)
 
--- ---- the table: what is answered, and what the account becomes, if there is one
+-- ---- the table: the answer, and what the account becomes, if there is one
 
 abbrev pub Keeps : Upkeep → Option Account → Answer → Option Account → Type 0
 Keeps (SetPassword salt password) account answer change =
@@ -90,7 +90,7 @@ Keeps (TakeNotices until) account answer change = InAccount (open_one account) (
 
 -- ---- the accounts, and one of them
 
--- the account that was said, or the one that there was
+-- the account that was given, or the one that there was
 abbrev pub instead : Option Account → Option Account → Option Account
 instead None account = account
 instead (Some a) account = Some a
@@ -100,18 +100,18 @@ abbrev pub put_instead : Option Account → List ℕ → Accounts → Accounts
 put_instead None user accounts = accounts
 put_instead (Some a) user accounts = insert accounts user a
 
--- what is done to the user's account, and no other changes
+-- this is done to the user's account, and no other changes
 abbrev pub Keeping : Accounts → List ℕ → Upkeep → Answer → Accounts → Type 0
 Keeping accounts user upkeep answer later =
     (change : Option Account) × Keeps upkeep (get accounts user) answer change × (later ≡ put_instead change user accounts)
 
--- the same of the user's account alone
+-- the same for the user's account alone
 abbrev pub KeepingAlone : Option Account → Upkeep → Answer → Option Account → Type 0
 KeepingAlone account upkeep answer later = (change : Option Account) × Keeps upkeep account answer change × (later ≡ instead change account)
 
 -- ---- what may be refused without visible cause
 
--- whether nothing that is handed in stands against it
+-- whether nothing in its arguments forbids it
 abbrev pub IsFit : Upkeep → Type 0
 IsFit (SetPassword salt password) = is_password password ≡ true
 IsFit (SetAddress address) = IsOwnAddress address
@@ -121,7 +121,7 @@ IsFit OpenAccount = Unit {0}
 IsFit (RemoveAccount mail) = Unit {0}
 IsFit (TakeNotices until) = Unit {0}
 
--- whether memory may lack: an address is looked at with memory, whatever it is
+-- whether memory may be lacking: checking an address takes memory, whatever it is
 abbrev pub MayLackFor : Upkeep → Type 0
 MayLackFor (SetAddress address) = Unit {0}
 MayLackFor upkeep = IsFit upkeep

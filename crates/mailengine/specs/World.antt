@@ -44,7 +44,7 @@ pub record Ignores (w : World) (answer : Answer) (next : World) : Type 0 where
   pub ignored : answer ≡ Ignored
   pub stays : next ≡ w
 
--- this is answered, and the world is so afterwards
+-- this is answered, and the world is this afterwards
 pub record Becomes (said : Answer) (later : World) (answer : Answer) (next : World) : Type 0 where
   pub says : answer ≡ said
   pub changed : next ≡ later
@@ -54,7 +54,7 @@ abbrev pub Opens : World → ℕ → Option Client → Answer → World → Type
 Opens w s None answer next = Becomes (Out progress.Done (spelled (capabilities None))) (with_session s new_client w) answer next
 Opens w s (Some c) answer next = Ignores w answer next
 
--- of an open session this; on a number that isn't open nothing
+-- for an open session this; on a number that isn't open nothing
 abbrev pub InSession : World → Option Client → (Client → Answer → World → Type 0) → Answer → World → Type 0
 InSession w None row answer next = Ignores w answer next
 InSession w (Some c) row answer next = row c answer next
@@ -75,7 +75,7 @@ pub record Steps (w : World) (s : ℕ) (c : Client) (answer : Answer) (next : Wo
 abbrev pub with_accounts : World → (Answer → Accounts → Type 0) → Answer → World → Type 0
 with_accounts w row answer next = (later : Accounts) × row answer later × (next ≡ record { accounts = later; sessions = w.sessions })
 
--- what the machine answers to an event, and how it is afterwards
+-- what the machine answers to an event, and the world after it
 abbrev pub Happens : World → Event → Answer → World → Type 0
 Happens w (Open s) answer next = Opens w s (get w.sessions s) answer next
 Happens w (Give s piece) answer next =
@@ -104,12 +104,12 @@ abbrev pub is_closed : Option Client → Bool
 is_closed None = true
 is_closed (Some c) = false
 
--- whether no limit stands against a delivery
+-- whether no limit forbids a delivery
 abbrev pub is_within : Option Refusal → Bool
 is_within None = true
 is_within (Some refusal) = false
 
--- whether the event may be refused for memory
+-- whether the event may be refused for lack of memory
 abbrev pub MayLack : World → Event → Type 0
 MayLack w (Open s) = is_closed (get w.sessions s) ≡ true
 MayLack w (Give s piece) = if_open (λ c. true) (get w.sessions s) ≡ true
@@ -139,7 +139,7 @@ MayRefuse w event Memory = MayLack w event
 MayRefuse w event Store = MayFail w event
 MayRefuse w event _ = ⊥
 
--- the event is refused for memory or by the store, and nothing changes
+-- the event is refused for lack of memory or by the store, and nothing changes
 pub record IsRefused (w : World) (event : Event) (answer : Answer) (next : World) : Type 0 where
   pub refusal : Refusal
   pub may : MayRefuse w event refusal
@@ -152,7 +152,7 @@ pub record IsRefused (w : World) (event : Event) (answer : Answer) (next : World
 abbrev pub Next : World → Event → Answer → World → Type 0
 Next w event answer next = Happens w event answer next ⊎ IsRefused w event answer next
 
--- events in turn, each with its answer
+-- events in order, each with its answer
 abbrev pub Runs : World → List Event → List Answer → World → Type 0
 Runs w [] [] end = end ≡ w
 Runs w (event ∷ events) (answer ∷ told) end = (next : World) × Next w event answer next × Runs next events told end

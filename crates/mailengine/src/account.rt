@@ -13,15 +13,15 @@ use mailstore::{NumberedMessage, Outgoing, Profile, Refusal, Store};
 use octets::{Octets, Texts};
 use sqlite::Alter;
 
-/// What the store keeps of an account, with the text of its active script.
+/// What the store has of an account, with the text of its active script.
 #[derive(Drop)]
 pub(crate) struct ActiveScript {
     pub profile: Profile,
-    /// The text, if a script is active.
+    /// The script's text, if a script is active.
     pub text: Option<Octets>,
 }
 
-/// What the store keeps of the user's open account.
+/// What the store has of the user's open account.
 pub(crate) fn profile<S: Alter>(store: &mut Store<S>, user: &[u8]) -> Result<Profile, Refusal>
     ensures { LooksUp user.now (λ profile a. profile ≡ profile_of a) (state S.Store store.old) (state S.Store store.new) result }
 {
@@ -65,12 +65,12 @@ pub(crate) fn outgoing<S: Alter>(
     store.outgoing_of(user, id)
 }
 
-/// The first message of the user's folder, with its number; none where the folder is absent. No other is read: memory is in
+/// The first message of the user's folder, with its number; `None` if the folder is absent. No other message is read: memory is in
 /// proportion to it.
 ///
 /// # Errors
 ///
-/// [`Refusal::NoUser`]; [`Refusal::Memory`] and [`Refusal::Store`] may come at any place.
+/// [`Refusal::NoUser`]; [`Refusal::Memory`] and [`Refusal::Store`] may come at any point.
 pub fn first_message<S: Alter>(
     store: &mut Store<S>,
     user: &[u8],

@@ -1,4 +1,4 @@
-//! Sessions by their numbers, and what happens to one.
+//! Sessions by their numbers, and the events of one.
 ghost use Rattle.std.specs.Prelude.{◌≡◌, [], IfOk, IfSome, IfNone, IsTrue};
 ghost use Rattle.std.specs.BTreeMap as tree;
 ghost use Rattle.std.specs.Option.{option_copied};
@@ -41,7 +41,7 @@ impl Clients {
         self.sessions.get(&number)
     }
 
-    /// Octets come from a client, without a copy of the piece: the event [`Event::Give`](crate::Event::Give).
+    /// Octets come from a client: the event [`Event::Give`](crate::Event::Give), without a copy of the piece.
     pub fn give(&mut self, number: u32, piece: &[u8]) -> Answer
         ensures { IsSessionEvent (Give number piece.now) result self.old.sessions self.new.sessions }
     {
@@ -52,7 +52,7 @@ impl Clients {
     }
 }
 
-/// A client comes: it is greeted, and its session begins. A number that is open stays so.
+/// A client connects: it is greeted, and its session begins. A session that is open under the number stays.
 pub fn open(
     alloc: Global,
     sessions: &mut BTreeMap<u32, Session>,
@@ -87,7 +87,7 @@ pub fn give(
     Ok(Answer::Out(session.progress(), Octets::new(alloc)))
 }
 
-/// The first item that a client sent is taken off and answered.
+/// Takes off the first item that a client sent, and answers it.
 pub fn step<S: Alter>(
     alloc: Global,
     sessions: &mut BTreeMap<u32, Session>,
@@ -106,7 +106,7 @@ pub fn step<S: Alter>(
     Ok(Answer::Out(progress, out))
 }
 
-/// The first item that a client sent, where it asks nothing of the accounts: it is taken off and answered. None where it asks,
+/// Takes off the first item that a client sent, and answers it, if it asks nothing of the accounts. `None` if it does,
 /// and no session changes then.
 pub fn step_free(
     alloc: Global,
@@ -128,7 +128,7 @@ pub fn step_free(
     }
 }
 
-/// What giving up on a client's first item would answer.
+/// The answer that giving up on a client's first item would have.
 pub fn text_given_up(
     alloc: Global,
     sessions: &BTreeMap<u32, Session>,
@@ -142,8 +142,8 @@ pub fn text_given_up(
     Octets::from_slice(alloc, session.text_given_up())
 }
 
-/// The first item that a client sent can't be answered now, and is dropped. Takes no memory: the text that is answered is
-/// handed in.
+/// Drops the first item that a client sent, which can't be answered now. Takes no memory: the caller passes the text
+/// of the answer.
 pub fn give_up(sessions: &mut BTreeMap<u32, Session>, number: u32, text: Octets) -> Answer
     requires { IsPrepared (GiveUp number) sessions.old text }
     ensures { IsSessionEvent (GiveUp number) result sessions.old sessions.new }
@@ -156,7 +156,7 @@ pub fn give_up(sessions: &mut BTreeMap<u32, Session>, number: u32, text: Octets)
     Answer::Out(progress, text)
 }
 
-/// A client goes. Takes no memory.
+/// A client disconnects. Takes no memory.
 pub fn close(alloc: Global, sessions: &mut BTreeMap<u32, Session>, number: u32) -> Answer
     ensures { IsSessionEvent (Close number) result sessions.old sessions.new }
 {

@@ -1,4 +1,4 @@
-//! One script tried on one message.
+//! Tries one script on one message.
 ghost use Rattle.std.specs.Prelude.{◌≡◌, ◌≤◌, ◌+◌, ℕ, List, IfOk};
 ghost use Rattle.mailhead.specs.Heads.{size_of};
 ghost use Rattle.mailfronts.specs.Fronts.{HasHeaderOf};
@@ -15,16 +15,16 @@ use sieveexec::{Envelope, Mail, Outcome, When};
 use sievelex::ScriptError;
 use std::alloc::Global;
 
-/// What a script does with a message that is delivered then (RFC 5228, 2.10), or why it is no valid script.
+/// What a script does with a message that is delivered at that moment (RFC 5228, 2.10), or why it is no valid script.
 ///
 /// Nothing is filed, sent or answered: the outcome says what would be. Script, envelope and message have no limit
-/// on their size. The script is compiled in time linear in it, and each of its tests is asked once at most; the
-/// values of a field are decoded once, where a test asks for them. Memory is in proportion to the script, to the
+/// on their size. The script is compiled in time linear in it, and each of its tests is asked at most once; the
+/// values of a field are decoded once, when a test asks for them. Memory is in proportion to the script, to the
 /// names of the message's fields and to the values that tests ask for; the message isn't copied.
 ///
 /// # Errors
 ///
-/// [`ScriptError::Fault`] where the text is no valid script, and [`ScriptError::Memory`] where memory was refused.
+/// [`ScriptError::Fault`] if the text is no valid script, and [`ScriptError::Memory`] if memory was refused.
 pub fn attempt(
     alloc: Global,
     script: &[u8],
@@ -43,14 +43,14 @@ pub fn attempt(
     outcome_on(alloc, script, &mail)
 }
 
-/// What a script does with a message of which a front is here, one with an empty line, and the size is known: the same as `attempt`
-/// says of the message, whatever follows the front.
+/// What a script does with a message of which a prefix with an empty line, and the size, are known: the same as `attempt`
+/// says of the message, whatever follows the prefix.
 ///
-/// Time and memory are those of `attempt` on the front.
+/// Time and memory are those of `attempt` on the prefix.
 ///
 /// # Errors
 ///
-/// As those of [`attempt`].
+/// Those of [`attempt`].
 pub fn attempt_on_front(
     alloc: Global,
     script: &[u8],

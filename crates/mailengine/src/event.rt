@@ -1,13 +1,13 @@
-//! What happens to the accounts and the sessions, one event after the other.
+//! The events that change accounts and sessions, one after the other.
 use crate::upkeep::Upkeep;
 use accountfiles::AccountFile;
 use octets::Octets;
 use sieveexec::{Envelope, When};
 
-/// What happens, with all that it brings from outside. A session goes by a number.
+/// An event, with all that comes from outside. A session is known by a number.
 #[derive(Drop)]
 pub enum Event {
-    /// A client comes.
+    /// A client connects.
     Open(u32),
     /// Octets come from a client.
     Give(u32, Octets),
@@ -15,7 +15,7 @@ pub enum Event {
     Step(u32),
     /// The first item that a client sent can't be answered now, and is dropped.
     GiveUp(u32),
-    /// A client goes.
+    /// A client disconnects.
     Close(u32),
     /// A message is delivered to a user.
     Deliver {
@@ -25,11 +25,11 @@ pub enum Event {
         /// The octets that were received.
         message: Octets,
         when: When,
-        /// The text of the host's default script, if it has one: an account without an active script is treated as if this were
-        /// its active one.
+        /// The text of the host's default script, if it has one: it is used for an account without an active script as if it were the
+        /// active one.
         default: Option<Octets>,
     },
-    /// An account is made, or a closed one that has no mail is opened anew.
+    /// An account is made, or a closed one that has no mail is opened again.
     AddUser {
         /// The user's name.
         name: Octets,
@@ -37,7 +37,7 @@ pub enum Event {
         address: Octets,
         /// Octets that no other account has, hashed before the password.
         salt: [u8; 16],
-        /// The password; its digest is kept.
+        /// The password; its digest is stored.
         password: Octets,
     },
     /// A row of a user's queue is taken out.
@@ -54,9 +54,9 @@ pub enum Event {
         /// The folder's name.
         folder: Octets,
     },
-    /// The account of a text appears whole, under a name that has no account, or a closed one without mail.
+    /// The account of a text is made whole, under a name that has no account, or a closed one without mail.
     Import(AccountFile),
-    /// Something is done to a user's account by an administrator.
+    /// An administrator maintains a user's account.
     Keep {
         /// The user's name.
         user: Octets,

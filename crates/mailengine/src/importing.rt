@@ -1,4 +1,4 @@
-//! An account that comes whole, as its text says.
+//! Makes a whole account from its text.
 ghost use Rattle.std.specs.Prelude.{◌≡◌, OnOk, IfOk, IfErr, MatchBool};
 ghost use Rattle.sqlite.specs.Held.{state};
 ghost use Rattle.sqlite.specs.State.{HasCleanDisk};
@@ -19,26 +19,26 @@ use sessions::scripts::{MAX_SCRIPT, MAX_SCRIPTS, fault_in};
 use sqlite::Alter;
 use std::alloc::{AllocError, Global};
 
-/// How many octets the salt of a password that comes with an account has at most.
+/// The largest salt of an imported password, in octets.
 const MAX_SALT: usize = 64;
 
-/// How many octets the flags of a copy have at most, as a text: a hundred names of 128 octets, with a blank between two.
+/// The largest text of a copy's flags, in octets: a hundred names of 128 octets, with a blank between two.
 const MAX_FLAGS: usize = 12_899;
 
-/// Makes the account of a text whole, in one transaction, which is its last act: its scripts, folders, queue, notices, moments of
+/// Makes the account of a text whole, in one transaction, which is the last step: its scripts, folders, queue, notices, moments of
 /// replies and numbers, open or closed as the text says. A closed account of the name that has no mail is replaced: of its moments of
-/// replies those stay that are later than the text's, or of which the text has none.
+/// replies those stay that are later than the text's, or that the text lacks.
 ///
 /// Time and memory are in proportion to the text, and for each of its scripts as for `check`.
 ///
 /// # Errors
 ///
-/// In this order: [`Refusal::BadAccount`] where the name is no user's name, the address isn't an addr-spec alone (RFC 5322, 3.4.1), the
+/// In this order: [`Refusal::BadAccount`] if the name isn't a user's name, the address isn't an addr-spec alone (RFC 5322, 3.4.1), the
 /// password has rounds that are neither 10,000 nor 0, a salt of more than 64 octets or no digest, a copy has flags of more than 12,899
-/// octets, a script isn't valid, has more than 262,144 octets or a name that none may have, or there are more than 32: the store isn't
-/// asked then. Then [`Refusal::UserExists`] for a name whose account is open, and [`Refusal::UserHasMail`] for a closed one with
-/// messages, which would go. [`Refusal::Memory`] may come at any place, [`Refusal::Store`] at any place after the first. The store then stays
-/// as it was.
+/// octets, a script isn't valid, has more than 262,144 octets or a name that no script may have, or there are more than 32: the store
+/// isn't asked then. Then [`Refusal::UserExists`] for a name whose account is open, and [`Refusal::UserHasMail`] for a closed one with
+/// messages, which would be lost. [`Refusal::Memory`] may come at any point, [`Refusal::Store`] at any point after the first. The
+/// store then stays as it was.
 pub fn import<S: Alter>(
     alloc: Global,
     store: &mut Store<S>,
@@ -63,7 +63,7 @@ pub fn import<S: Alter>(
     store.add_whole(&file.head, file.parts.as_slice())
 }
 
-/// Whether an account of the text may be kept. Its active script is one of the scripts, and no folder is empty: so it is with each text.
+/// Whether an account of the text may be kept. Its active script is one of the scripts, and no folder is empty: every text is so.
 fn is_importable(alloc: Global, file: &AccountFile) -> Result<bool, AllocError>
     ensures { IfOk result (λ holds. MatchBool holds (IsImportable file.now.head file.now.parts) (IsImportable file.now.head file.now.parts → ⊥)) }
 {
@@ -83,7 +83,7 @@ fn is_importable(alloc: Global, file: &AccountFile) -> Result<bool, AllocError>
     has_sound_scripts(alloc, file.parts.as_slice())
 }
 
-/// Whether no copy has longer flags than a delivery gives: they are read as the message moves.
+/// Whether no copy has longer flags than a delivery gives: they are read when the message moves.
 fn have_short_flags(parts: &[Part]) -> bool
     ensures { result ≡ have_short_flags parts.now }
 {
@@ -99,7 +99,7 @@ fn has_short_flags(part: &Part) -> bool
     }
 }
 
-/// Whether a password of so many rounds may be kept: each login takes their time, by anyone and with any password.
+/// Whether a password with that many rounds may be kept: each login takes their time, by anyone and with any password.
 fn may_guard(owner: &Owner, rounds: u32) -> bool
     ensures { result ≡ may_guard (record { salt = owner.now.salt; rounds = rounds; digest = owner.now.digest }) }
 {

@@ -19,30 +19,30 @@ ghost use Rattle.mailstore.specs.Whole.{whole, IsCopyOf};
 ghost use Rattle.mailengine.specs.OwnActs.{Act, Alone, IsAlone};
 ghost use Rattle.mailengine.specs.Spacing.{Entry, GoOn, IsMove, IsSpaced, IsSpacing};
 
-/// What becomes of a user's account, and what is answered to the user's own acts, is by these acts alone.
+/// What happens to a user's account, and what is answered to the user's own acts, depends on these acts alone.
 pub fn each_user_alone()
     ensures { (events : List Event) (told : List Answer) (w end : World) (run : Runs w events told end) → IsAlone w events told end run }
 {}
 
-/// The same acts leave a user with the same account: what others did between, and in what order, is nowhere in it.
+/// The same acts leave a user with the same account, whatever others did in between and in whatever order.
 pub fn account_by_acts()
     ensures { (user : List ℕ) (acts : List Act) (account one two : Option Account) → Alone user account acts one → Alone user account acts two → one ≡ two }
 {}
 
-/// Two answers of one user to one sender under one handle are apart by at least the later one's period.
+/// Two replies of one user to one sender under one handle are apart by at least the later one's period.
 pub fn answers_spaced()
     ensures { (events : List Event) (told : List Answer) (w end : World) (run : Runs w events told end) → IsSpaced w events told end run }
 {}
 
-/// And so they are where the user's account moves, from one machine to another: what the other one answers keeps its distance from
-/// what the first one had answered.
+/// This holds too if the user's account moves from one machine to another: the replies of the other one keep their distance from
+/// those of the first.
 pub fn spaced_across_a_move()
     ensures { (user : List ℕ) (start left here came end : Accounts) (first second : List Entry)
         → IsSpacing start left first → IsMove user left here came → IsSpacing came end second → GoOn user first second }
 {}
 
-/// A text of an account, imported under a name that nobody has, is just that account again, however it is read. Its password is one
-/// that accounts have, and its copies have no longer flags than deliveries give.
+/// A text of an account, imported under a name that nobody has, is that account again, however it is read. Its password is one
+/// that accounts may have, and its copies have no longer flags than deliveries give.
 pub fn copy_comes_back()
     ensures read { (text user : List ℕ) (a : Account) (head : Head) (parts : List Part) → IsCopyOf text user a → IsTextOf text head parts → (head.owner.name ≡ user) × (whole head parts empty ≡ a) }
     ensures imported { (text user : List ℕ) (a : Account) (head : Head) (parts : List Part) (accounts later : Accounts) (answer : Answer)

@@ -1,4 +1,4 @@
-//! What is taken: sizes, names and moments.
+//! Limits on sizes, names and moments.
 ghost use Rattle.std.specs.Prelude.{◌≡◌};
 ghost use Rattle.std.specs.List.{list_any};
 ghost use Rattle.mailengine.specs.Limits as limits;
@@ -8,12 +8,12 @@ use mailstore::Refusal;
 use sieveexec::Envelope;
 use vacreply::MAX_MOMENT;
 
-/// How many octets a message may have.
+/// The largest message, in octets.
 pub const MAX_MESSAGE: usize = 33_554_432;
-/// How many octets an envelope address may have.
+/// The largest envelope address, in octets.
 pub const MAX_ENVELOPE_ADDRESS: usize = 1_024;
 
-/// Why a delivery is refused before anything is looked up, the first cause in the order of these. Takes no memory.
+/// Why a delivery is refused before anything is looked up, the first cause in this order. Takes no memory.
 pub fn limit_refusal(envelope: &Envelope, message: &[u8], moment: u64) -> Option<Refusal>
     ensures { result ≡ limits.limit_refusal envelope.now message.now moment }
 {
@@ -29,7 +29,7 @@ pub fn limit_refusal(envelope: &Envelope, message: &[u8], moment: u64) -> Option
     None
 }
 
-/// Whether an envelope address is taken.
+/// Whether an envelope address is accepted.
 fn is_address(text: &[u8]) -> bool
     ensures { result ≡ is_envelope_address text.now }
 {

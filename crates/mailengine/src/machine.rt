@@ -28,7 +28,7 @@ use std::collections::BTreeMap;
 /// The accounts of a store and the sessions of its clients, which events change one after the other. Dropping it closes
 /// the store.
 pub struct World<S: Alter> {
-    /// Where the accounts are kept.
+    /// The store of the accounts.
     pub store: Store<S>,
     pub clients: Clients,
 }
@@ -43,7 +43,7 @@ impl<S: Alter + Drop> Drop for World<S> {
 }
 
 impl<S: Alter> World<S> {
-    /// The world whose accounts the store has, without sessions. Takes no memory.
+    /// The world with the store's accounts and without sessions. Takes no memory.
     pub fn new(alloc: Global, store: Store<S>) -> World<S>
         ensures store { result.store ≡ store }
         ensures sessions { result.clients.sessions.entries ≡ [] }
@@ -54,7 +54,7 @@ impl<S: Alter> World<S> {
         }
     }
 
-    /// The store, with its accounts as they are; the sessions are gone. Takes no memory.
+    /// The store, with its accounts as they are; the sessions are dropped. Takes no memory.
     pub fn into_store(self) -> Store<S>
         ensures { result ≡ self.store }
     {
@@ -63,13 +63,13 @@ impl<S: Alter> World<S> {
     }
 }
 
-/// Applies one event to a store and the sessions beside it, in one transaction at most, and answers it. A refused event changes
-/// nothing that is seen. Which store it is may change between two calls, and what others do to it.
+/// Applies one event to a store and the sessions beside it, in at most one transaction, and answers it. A refused event changes
+/// nothing that is seen. Between two calls the store may be another one, and others may have changed it.
 ///
 /// # Errors
 ///
 /// Lack of memory for the text of giving up ([`Event::GiveUp`]), which may not be refused: nothing has changed then. Any other lack
-/// is an answer, [`Refusal::Memory`].
+/// of memory is an answer, [`Refusal::Memory`].
 pub fn apply<S: Alter>(
     clients: &mut Clients,
     store: &mut Store<S>,
@@ -85,8 +85,8 @@ pub fn apply<S: Alter>(
     Ok(carry_out(clients.alloc, store, &mut clients.sessions, event, text))
 }
 
-/// Applies an event that asks no store: a client that comes, octets of one, giving one's first item up, one that goes, and the
-/// first item of one that asks nothing of the accounts. None where the event asks a store, and no session changes then.
+/// Applies an event that asks no store: a client connects, sends octets, disconnects, its first item is given up, or its
+/// first item asks nothing of the accounts. `None` if the event asks a store, and no session changes then.
 ///
 /// # Errors
 ///
@@ -102,7 +102,7 @@ pub fn apply_free(clients: &mut Clients, event: &Event) -> Result<Option<Answer>
     Ok(carry_out_free(clients.alloc, &mut clients.sessions, event, text))
 }
 
-/// What an event answers is had before it, where it may not be refused for memory: the text of giving up.
+/// Prepares the answer before the event, if the event may not be refused for memory: the text of giving up.
 fn prepare(
     alloc: Global,
     sessions: &BTreeMap<u32, Session>,
@@ -117,7 +117,7 @@ fn prepare(
     }
 }
 
-/// Carries out one event, in one transaction at most, and answers it. A refused event changes nothing.
+/// Carries out one event, in at most one transaction, and answers it. A refused event changes nothing.
 fn carry_out<S: Alter>(
     alloc: Global,
     store: &mut Store<S>,
@@ -188,7 +188,7 @@ fn carry_out<S: Alter>(
     }
 }
 
-/// Carries out an event that asks no store, and answers it; none for one that asks.
+/// Carries out an event that asks no store, and answers it; `None` if it asks one.
 fn carry_out_free(
     alloc: Global,
     sessions: &mut BTreeMap<u32, Session>,
@@ -217,7 +217,7 @@ fn carry_out_free(
     }
 }
 
-/// A delivery with a borrowed envelope. It is copied once no limit stands against the delivery, so those causes are told
+/// A delivery with a borrowed envelope. It is copied only if no limit forbids the delivery, so those causes are reported
 /// without memory.
 fn carry_out_delivery<S: Alter>(
     alloc: Global,

@@ -1,4 +1,4 @@
-//! Events in turn.
+//! Events in order.
 ghost use Rattle.std.specs.Prelude.{◌≡◌, ◌↔◌, IsTrue, length};
 ghost use Rattle.sqlite.specs.Held.{state};
 ghost use Rattle.mailengine.specs.Hosts.{answered, host_of, IsRun, IsRunAlone, IsRunSpaced, SurvivesRun};
@@ -9,20 +9,20 @@ use crate::event::Event;
 use crate::machine::{World, apply};
 use sqlite::Alter;
 
-/// What came of a list of events.
+/// The result of a list of events.
 #[derive(Drop)]
 pub struct Ran {
     /// The answers to the first events, in their order: one for each event that was carried out or refused.
     pub answers: Vec<Answer>,
-    /// Whether all events were answered. Else there was no memory for the place of the next answer.
+    /// Whether all events were answered. If not, there was no memory for the next answer.
     pub whole: bool,
 }
 
-/// Lets the events happen one after the other.
+/// Carries out the events one after the other.
 ///
 /// The place of an answer is reserved before its event, and so is the text of an answer whose event may not be refused for
-/// memory: where there is no memory for it the run ends before that event, and `whole` is false. An event that is refused
-/// changes nothing that is seen, and the next one follows. Events are borrowed, and a message is not copied. Memory beside
+/// memory: if there is no memory for it, the run ends before that event, and `whole` is false. An event that is refused
+/// changes nothing that is seen, and the next one follows. Events are borrowed, and a message is not copied. Memory besides
 /// that of the events themselves is in proportion to their number and to what the sessions hold.
 pub fn run<S: Alter>(world: &mut World<S>, events: &[Event]) -> Ran
     ensures runs { IsRun (answered events.now result.answers.items) result.answers.items (host_of S.Store world.old) (host_of S.Store world.new) }
@@ -35,7 +35,7 @@ pub fn run<S: Alter>(world: &mut World<S>, events: &[Event]) -> Ran
     run_events(world, events)
 }
 
-/// The events in turn. What else `run` promises is true of every run.
+/// Carries out the events in order. What else `run` promises is true of every run.
 fn run_events<S: Alter>(world: &mut World<S>, events: &[Event]) -> Ran
     ensures runs { IsRun (answered events.now result.answers.items) result.answers.items (host_of S.Store world.old) (host_of S.Store world.new) }
     ensures whole { IsTrue result.whole ↔ (length result.answers.items ≡ length events.now) }

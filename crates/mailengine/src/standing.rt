@@ -1,11 +1,11 @@
-//! How a user's account stands.
+//! The state of a user's account.
 ghost use Rattle.sqlite.specs.Held.{state};
 ghost use Rattle.mailengine.specs.Lookups.{ReadsStanding};
 
 use mailstore::{Refusal, Store};
 use sqlite::Alter;
 
-/// How an account stands: what decides whether it can be opened, removed or made anew.
+/// The state of an account: what decides whether it can be opened, removed or made again.
 #[derive(Clone, Copy)]
 pub(crate) struct Standing {
     pub is_closed: bool,
@@ -15,7 +15,7 @@ pub(crate) struct Standing {
     pub has_mail: bool,
 }
 
-/// How the user's account stands, open or closed; none without an account. Time is linear in its messages.
+/// The state of the user's account, open or closed; `None` without an account. Time is linear in its messages.
 pub(crate) fn read_standing<S: Alter>(
     store: &mut Store<S>,
     user: &[u8],

@@ -1,4 +1,4 @@
-//! Rows taken out of the queue, and messages out of folders.
+//! Takes rows out of the queue, and messages out of folders.
 ghost use Rattle.std.specs.Prelude.{◌≡◌, OnOk, IfErr};
 ghost use Rattle.sqlite.specs.Held.{state};
 ghost use Rattle.sqlite.specs.State.{HasCleanDisk};
@@ -9,15 +9,15 @@ use crate::account::{first_message, outgoing};
 use mailstore::{Outgoing, Refusal, Store};
 use sqlite::Alter;
 
-/// Takes a row out of the user's queue and hands it out, in one transaction, which is its last act. The number isn't used
+/// Takes a row out of the user's queue and returns it, in one transaction, which is the last step. The number isn't used
 /// again.
 ///
-/// The row is read by its number, and no other. Memory is in proportion to it.
+/// Only the row with the number is read. Memory is in proportion to it.
 ///
 /// # Errors
 ///
-/// In this order: [`Refusal::NoUser`], and [`Refusal::NoRow`] where no row has the number. [`Refusal::Memory`] and
-/// [`Refusal::Store`] may come at any place. The store then stays as it was.
+/// In this order: [`Refusal::NoUser`], and [`Refusal::NoRow`] if no row has the number. [`Refusal::Memory`] and
+/// [`Refusal::Store`] may come at any point. The store then stays as it was.
 pub fn take_out<S: Alter>(store: &mut Store<S>, user: &[u8], id: u64) -> Result<Outgoing, Refusal>
     ensures acts { ActsTaking user.now id (state S.Store store.old) (state S.Store store.new) result }
     ensures settled { HasCleanDisk (state S.Store store.new) → OnOk result (IsSettled (state S.Store store.new)) }
@@ -30,15 +30,15 @@ pub fn take_out<S: Alter>(store: &mut Store<S>, user: &[u8], id: u64) -> Result<
     Ok(row)
 }
 
-/// Takes the first message out of the user's folder, in one transaction, which is its last act. The folder goes with its last
-/// message. The message's number isn't used again.
+/// Takes the first message out of the user's folder, in one transaction, which is the last step. The folder disappears with its
+/// last message. The message's number isn't used again.
 ///
-/// The message is read, and no other: memory is in proportion to it.
+/// Only this message is read: memory is in proportion to it.
 ///
 /// # Errors
 ///
-/// In this order: [`Refusal::NoUser`], and [`Refusal::NoRow`] where the folder has no message. [`Refusal::Memory`] and
-/// [`Refusal::Store`] may come at any place. The store then stays as it was.
+/// In this order: [`Refusal::NoUser`], and [`Refusal::NoRow`] if the folder has no message. [`Refusal::Memory`] and
+/// [`Refusal::Store`] may come at any point. The store then stays as it was.
 pub fn take_mail<S: Alter>(store: &mut Store<S>, user: &[u8], folder: &[u8]) -> Result<(), Refusal>
     ensures acts { ActsMailTaking user.now folder.now (state S.Store store.old) (state S.Store store.new) result }
     ensures settled { HasCleanDisk (state S.Store store.new) → OnOk result (IsSettled (state S.Store store.new)) }

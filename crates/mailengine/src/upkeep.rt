@@ -1,4 +1,4 @@
-//! What an administrator does to one account.
+//! Maintains one account, for an administrator.
 ghost use Rattle.std.specs.Prelude.{◌≡◌, ◌&&◌, not};
 ghost use Rattle.sqlite.specs.Held.{state};
 ghost use Rattle.mailstore.specs.Promises.{WritesUser};
@@ -18,62 +18,62 @@ use sessions::scripts::{MAX_SCRIPT, fault_in, has_room};
 use sqlite::Alter;
 use std::alloc::Global;
 
-/// What is done to one account, with all that it brings from outside. Of a user without an open account only `OpenAccount` and
-/// `RemoveAccount` make anything, and of a removed one nothing.
+/// What is done to one account, with all that comes from outside. For a user without an open account only `OpenAccount` and
+/// `RemoveAccount` do anything, and for a removed one nothing does.
 #[derive(Drop)]
 pub enum Upkeep {
-    /// Another password takes the place of the old one.
+    /// Replaces the password.
     SetPassword {
         /// Octets that no other account has, hashed before the password.
         salt: [u8; 16],
-        /// The password; its digest is kept.
+        /// The password; its digest is stored.
         password: Octets,
     },
-    /// Another address takes the place of the old one.
+    /// Replaces the address.
     SetAddress {
         /// The user's own address, an addr-spec (RFC 5322, 3.4.1).
         address: Octets,
     },
-    /// A script is kept, as PUTSCRIPT does it (RFC 5804, 2.6).
+    /// Stores a script, as PUTSCRIPT does it (RFC 5804, 2.6).
     StoreScript {
         /// The script's name.
         name: Octets,
         /// The script.
         text: Octets,
-        /// Whether it becomes the active one.
+        /// Whether the script becomes the active one.
         activate: bool,
     },
-    /// The account is closed; nothing of it is taken away.
+    /// Closes the account; nothing of it is removed.
     CloseAccount,
-    /// A closed account is opened as it was.
+    /// Opens a closed account as it was.
     OpenAccount,
-    /// The account is closed, and all goes but its address, the moments of its replies and its numbers.
+    /// Closes the account, and removes all but its address, the moments of its replies and its numbers.
     RemoveAccount {
-        /// Whether messages in folders and on their way out go too.
+        /// Whether messages in folders and on their way out are removed too.
         mail: bool,
     },
-    /// Notices are taken.
+    /// Takes notices.
     TakeNotices {
-        /// The moment of the last one that goes, in seconds since 1970-01-01 UTC.
+        /// The moment of the last one that is taken, in seconds since 1970-01-01 UTC.
         until: u64,
     },
 }
 
-/// Does this to the user's account, in one transaction at most, which is its last act. Whoever is logged in stays so: a session
-/// whose account is closed is told so at its next command about scripts.
+/// Does this to the user's account, in at most one transaction, which is the last step. Whoever is logged in stays logged in: a
+/// session whose account was closed is told so at its next command about scripts.
 ///
-/// A password is kept as its digest after 10,000 rounds under the salt, some milliseconds of work. What an account keeps of
-/// replies to senders stays, whatever is done to it. Memory is in proportion to the names of the scripts, and where an account
-/// is removed to what its queue says of its messages; a script is checked besides.
+/// A password is stored as its digest after 10,000 rounds under the salt, some milliseconds of work. The moments of replies to
+/// senders stay, whatever is done to the account. Memory is in proportion to the names of the scripts, and if the account
+/// is removed also to its queue without the messages; a script is also checked.
 ///
 /// # Errors
 ///
 /// In this order, and before the store is asked: [`Refusal::BadUser`] for a password or an address that no account may have,
-/// [`Refusal::BadScriptName`], [`Refusal::ScriptTooLarge`]. Then [`Refusal::NoUser`] without an account and where it is
-/// removed, and for a closed one at all but `OpenAccount` and `RemoveAccount`. Then [`Refusal::TooManyScripts`],
-/// [`Refusal::UserIsOpen`], [`Refusal::UserHasMail`]. [`Refusal::Memory`] and [`Refusal::Store`] may come at any place after
-/// the first ones, and lack of memory where an address is looked at. The store then stays as it was. A script that is none is
-/// no error: [`Answer::Invalid`].
+/// [`Refusal::BadScriptName`], [`Refusal::ScriptTooLarge`]. Then [`Refusal::NoUser`] without an account and if it is
+/// removed, and for a closed one unless this is `OpenAccount` or `RemoveAccount`. Then [`Refusal::TooManyScripts`],
+/// [`Refusal::UserIsOpen`], [`Refusal::UserHasMail`]. [`Refusal::Memory`] and [`Refusal::Store`] may come at any point after
+/// the first ones, and lack of memory also when an address is checked. The store then stays as it was. A text that is no script
+/// is not an error: [`Answer::Invalid`].
 pub fn keep<S: Alter>(
     alloc: Global,
     store: &mut Store<S>,
@@ -106,7 +106,7 @@ pub fn keep<S: Alter>(
     }
 }
 
-/// Another password, in place of the old one.
+/// Replaces the password.
 fn set_password<S: Alter>(
     store: &mut Store<S>,
     user: &[u8],
@@ -124,7 +124,7 @@ fn set_password<S: Alter>(
     changed.and(Ok(Answer::Changed))
 }
 
-/// Another address, in place of the old one.
+/// Replaces the address.
 fn set_address<S: Alter>(
     alloc: Global,
     store: &mut Store<S>,
@@ -141,7 +141,7 @@ fn set_address<S: Alter>(
     changed.and(Ok(Answer::Changed))
 }
 
-/// A script is kept, as PUTSCRIPT does it (RFC 5804, 2.6).
+/// Stores a script, as PUTSCRIPT does it (RFC 5804, 2.6).
 fn store_script<S: Alter>(
     alloc: Global,
     store: &mut Store<S>,
@@ -169,7 +169,7 @@ fn store_script<S: Alter>(
     stored.and(Ok(Answer::Stored))
 }
 
-/// Writes a script, and makes it the active one where that is said.
+/// Writes a script, and makes it the active one if asked to.
 fn put<S: Alter>(
     store: &mut Store<S>,
     user: &[u8],
@@ -185,7 +185,7 @@ fn put<S: Alter>(
     store.put_script(user, name, text)
 }
 
-/// The account is closed, and all of it stays.
+/// Closes the account; all of it stays.
 fn close_account<S: Alter>(store: &mut Store<S>, user: &[u8]) -> Result<Answer, Refusal>
     ensures { ActsKeeping user.now upkeep.CloseAccount (state S.Store store.old) (state S.Store store.new) result }
 {
@@ -194,7 +194,7 @@ fn close_account<S: Alter>(store: &mut Store<S>, user: &[u8]) -> Result<Answer, 
     closed.and(Ok(Answer::Closed))
 }
 
-/// A closed account is opened as it was.
+/// Opens a closed account as it was.
 fn open_account<S: Alter>(store: &mut Store<S>, user: &[u8]) -> Result<Answer, Refusal>
     ensures { ActsKeeping user.now upkeep.OpenAccount (state S.Store store.old) (state S.Store store.new) result }
 {
@@ -211,7 +211,7 @@ fn open_account<S: Alter>(store: &mut Store<S>, user: &[u8]) -> Result<Answer, R
     opened.and(Ok(Answer::Opened))
 }
 
-/// The account is removed, its mail only where that is said.
+/// Removes the account, its mail only if asked to.
 fn remove_account<S: Alter>(
     store: &mut Store<S>,
     user: &[u8],
@@ -232,14 +232,14 @@ fn remove_account<S: Alter>(
     removed.and(Ok(Answer::Removed))
 }
 
-/// Whether the account's mail stands against its removal.
+/// Whether the account's mail forbids its removal.
 fn is_in_the_way(standing: Standing, mail: bool) -> bool
     ensures { result ≡ (not mail && standing.has_mail) }
 {
     !mail && standing.has_mail
 }
 
-/// The notices up to the moment are taken.
+/// Takes the notices up to the moment.
 fn take_notices<S: Alter>(store: &mut Store<S>, user: &[u8], until: u64) -> Result<Answer, Refusal>
     ensures { ActsKeeping user.now (upkeep.TakeNotices until) (state S.Store store.old) (state S.Store store.new) result }
 {

@@ -1,4 +1,4 @@
-//! New users.
+//! Adds users.
 ghost use Rattle.std.specs.Prelude.{◌≡◌, ◌==◌, OnOk, IfOk, IfErr, MatchBool};
 ghost use Rattle.std.specs.List.{list_all, list_any};
 ghost use Rattle.sqlite.specs.Held.{state};
@@ -18,24 +18,24 @@ use saslplain::{ROUNDS, digest};
 use sqlite::Alter;
 use std::alloc::{AllocError, Global};
 
-/// How many octets a user's name may have: it stands in words and file names of other programs.
+/// The longest name of a user, in octets: names are arguments and file names of other programs.
 pub const MAX_USER_NAME: usize = 64;
-/// How many octets a password may have: each round of its digest hashes it whole.
+/// The longest password, in octets: each round of its digest hashes all of it.
 pub const MAX_PASSWORD: usize = 1_024;
 
-/// Makes an account without scripts, folders and replies, in one transaction, which is its last act. A closed account of the
-/// name that has no mail is opened anew: its scripts and notices go, and what it keeps of replies to senders stays.
+/// Makes an account without scripts, folders and replies, in one transaction, which is the last step. A closed account of the
+/// name that has no mail is opened again: its scripts and notices are removed, and the moments of its replies to senders stay.
 ///
-/// The password is kept as its digest after 10,000 rounds under the salt, some milliseconds of work. The salt is to be
-/// random, another one for each user.
+/// The password is stored as its digest after 10,000 rounds under the salt, some milliseconds of work. The salt has to be
+/// random, a different one for each user.
 ///
 /// # Errors
 ///
-/// In this order: [`Refusal::BadUser`] for a name that isn't 1 to 64 of letters, digits and `. _ - @`, an address that
+/// In this order: [`Refusal::BadUser`] for a name that isn't 1 to 64 letters, digits and `. _ - @`, an address that
 /// isn't an addr-spec alone (RFC 5322, 3.4.1), or a password that isn't 1 to 1,024 octets without NUL: the store isn't
 /// asked then. Then [`Refusal::UserExists`] for a name whose account is open, and [`Refusal::UserHasMail`] for a closed one
-/// with messages, which would go or get to another person. [`Refusal::Memory`] may come at any place, [`Refusal::Store`] at any
-/// place after the first. The store then stays as it was.
+/// with messages, which would be lost or come to another person. [`Refusal::Memory`] may come at any point, [`Refusal::Store`] at any
+/// point after the first. The store then stays as it was.
 pub fn add_user<S: Alter>(
     alloc: Global,
     store: &mut Store<S>,
@@ -64,7 +64,7 @@ pub fn add_user<S: Alter>(
     store.add_user(name, address, &salt, ROUNDS, &digest)
 }
 
-/// Why no account can take the name where one stands so, if it stands against it.
+/// Why no new account can have the name, given the state of the one that has it; `None` if one can.
 pub(crate) fn refusal_over(found: Option<Standing>) -> Option<Refusal>
     ensures { result ≡ over_standing found }
 {
@@ -78,7 +78,7 @@ pub(crate) fn refusal_over(found: Option<Standing>) -> Option<Refusal>
     None
 }
 
-/// Whether an account can be made of these.
+/// Whether these may be an account's name, address and password.
 fn is_new_user(
     alloc: Global,
     name: &[u8],

@@ -10,7 +10,7 @@ use Rattle.mailstore.specs.Account.{Account}
 
 -- ---- what rows show
 
--- the row of an account; the counters of copies and of notices no account tells
+-- the row of an account; the counters of copies and of notices are not in an account
 abbrev pub account_row : List ℕ → Account → ℕ → ℕ → Row
 account_row user a next_copy next_notice =
     Blob user ∷ Blob a.address ∷ Blob a.password.salt ∷ Int (pos a.password.rounds) ∷ Blob a.password.digest ∷ or_null a.active
@@ -36,7 +36,7 @@ counter_cells c = Int (pos c.copy) ∷ Int (pos c.out) ∷ Int (pos c.notice) �
 abbrev pub profile_row : Account → Row
 profile_row a = Blob a.address ∷ Blob a.password.salt ∷ Int (pos a.password.rounds) ∷ Blob a.password.digest ∷ or_null a.active ∷ []
 
--- what the store answers of an account
+-- what the store returns of an account
 abbrev pub profile_of : Account → Profile
 profile_of a = record { address = a.address; salt = a.password.salt; rounds = a.password.rounds; digest = a.password.digest; active = a.active }
 
@@ -46,7 +46,7 @@ IsProfileIn p row =
     (column row 0 ≡ Blob p.address) × (column row 1 ≡ Blob p.salt) × (column row 2 ≡ Int (pos p.rounds)) × (column row 3 ≡ Blob p.digest)
     × (column row 4 ≡ or_null p.active)
 
--- the same, and there is one where there is a row
+-- the same, and there is one if there is a row
 abbrev pub IsRead : Option Profile → Option Row → Type 0
 IsRead None None = Unit {0}
 IsRead None (Some row) = ⊥

@@ -1,4 +1,4 @@
--- What rows show of the copies of a user's messages, which are the folders, and what is read of them.
+-- What rows show of the copies of a user's messages, which make up the folders, and what is read of them.
 use Rattle.std.specs.Prelude.{◌≡◌, ◌≤◌, ◌==◌, ◌&&◌, Bool, not, ℕ, ℤ, pos, List, [], ◌∷◌, filter, fold, map, Option, option_map, slice_get}
 use Rattle.std.specs.List.{AllByRecursion, list_any}
 use Rattle.std.specs.FinMap.{empty}
@@ -35,7 +35,7 @@ IsBare copy = copy.flags ≡ []
 abbrev pub message_of : Copy → Message
 message_of copy = record { id = copy.id; bytes = copy.message }
 
--- to each folder what the copies have in it, in the order of their numbers
+-- for each folder what the copies have in it, in the order of their numbers
 abbrev pub filed_from : (Copy → List ℕ) → List Copy → Folders
 filed_from what = fold (λ folders copy. filed folders copy.folder (what copy)) empty
 
@@ -50,13 +50,14 @@ flags_from = filed_from (λ copy. copy.flags)
 abbrev pub HasCopy : List Copy → Message → Type 0
 HasCopy copies m = (c : Copy) × Has copies c × (c.id ≡ m.id)
 
--- each copy's message is kept, and each message that is kept has a copy; its number is that of its first copy, which may be gone since
+-- each copy's message is kept, and each message that is kept has a copy; its number is that of its first copy, which may be gone
 pub record AreKept (copies : List Copy) (messages : List Message) : Type 0 where
   pub present : AllByRecursion (λ c. Has messages (message_of c)) copies
   pub used : AllByRecursion (HasCopy copies) messages
   pub first : AllByRecursion (λ c. c.id ≤ c.n) copies
 
--- the rows are those of the user's copies and of their messages: a folder is the list of its copies in the order of their numbers, and one without copies isn't there
+-- the rows are those of the user's copies and of their messages: a folder is the list of its copies in the order of their numbers, and there is no
+-- folder without copies
 pub record ShowsCopies (user : List ℕ) (rows message_rows : List Row) (folders flags : Folders) (next : ℕ) : Type 0 where
   pub entries : List Copy
   pub messages : List Message
@@ -76,7 +77,7 @@ copies_in folder copies = filter (is_in folder) copies
 
 -- ---- what is read of them
 
--- where a copy is, its number, its message's and its flags
+-- the place of a copy, its number, its message's and its flags
 abbrev pub filing_of : Copy → Filing
 filing_of c = record { folder = c.folder; n = c.n; id = c.id; flags = c.flags }
 
@@ -96,15 +97,15 @@ leaving_of copies c = record { copy = filing_of c; is_shared = list_any (is_othe
 abbrev pub numbered_of : Copy → NumberedMessage
 numbered_of c = record { number = c.n; message = c.message; flags = c.flags }
 
--- it is the first of the messages, and none where there is none
+-- it is the first of the messages, or none if there is none
 abbrev pub HasFirst : Option NumberedMessage → List (List ℕ) → Type 0
 HasFirst first messages = option_map (λ m. m.message) first ≡ slice_get messages 0
 
--- its flags are the first of these, and there are none where it is none
+-- its flags are the first of these, or there are none if it is none
 abbrev pub HasFirstFlags : Option NumberedMessage → List (List ℕ) → Type 0
 HasFirstFlags first flags = option_map (λ m. m.flags) first ≡ slice_get flags 0
 
--- it is the first message of the account's folder, with its flags there, and none where the folder is absent
+-- it is the first message of the account's folder, with its flags there, or none if the folder is absent
 pub record IsFirstIn (folder : List ℕ) (first : Option NumberedMessage) (a : Account) : Type 0 where
   pub message : HasFirst first (messages_in a.folders folder)
   pub flags : HasFirstFlags first (flags_in a.flags folder)
@@ -113,11 +114,11 @@ pub record IsFirstIn (folder : List ℕ) (first : Option NumberedMessage) (a : A
 abbrev pub AreMessagesOf : List ℕ → List (List ℕ) → Account → Type 0
 AreMessagesOf folder messages a = messages ≡ messages_in a.folders folder
 
--- it is the message of the folder after that many, and none where there are no more
+-- it is the message of the folder after that many, or none if there are no more
 abbrev pub IsMessageAt : List ℕ → ℕ → Option (List ℕ) → Account → Type 0
 IsMessageAt folder at message a = message ≡ slice_get (messages_in a.folders folder) at
 
--- the same of a number as the database has it
+-- the same for a number as the database has it
 abbrev pub IsNthMessage : List ℕ → ℤ → Option (List ℕ) → Account → Type 0
 IsNthMessage folder count message a = (n : ℕ) → count ≡ pos n → IsMessageAt folder n message a
 

@@ -7,7 +7,7 @@ use Rattle.mailstore.specs.declared.queue.Outgoing.{Outgoing}
 use Rattle.mailstore.specs.declared.head.Head.{Head}
 use Rattle.mailstore.specs.Account.{Account}
 
--- a message on its way out without its octets, which are so many
+-- a message on its way out without its octets, with how many they are
 abbrev pub head_of : Outgoing → Head
 head_of out = record { id = out.id; kind = out.kind; sender = out.sender; target = out.target; len = length out.message }
 

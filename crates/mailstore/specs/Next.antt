@@ -1,4 +1,4 @@
--- What comes next over all users: a message in a folder, and a row of a queue.
+-- The next message in a folder, and the next row of a queue, over all users.
 use Rattle.std.specs.Prelude.{◌≡◌, ◌⊎◌, ◌<◌, ℕ, ℤ, pos, List, [], ◌∷◌, map, Option, Some, None, option_map, slice_get, Result, IfOk}
 use Rattle.std.specs.declared.cmp.Ordering.{Ordering}
 use Rattle.std.specs.declared.cmp.Ordering.TheVariants.{Less}
@@ -21,7 +21,7 @@ pub record FindsAll {X E : Type 0} (Part : X → Tables → Type 0) (old new : S
   pub found : HasCleanDisk new → OverTables old (λ tables. IfOk result (λ x. Part x tables))
   pub keeps : Keeps old new result
 
--- ---- where messages and rows are, and in which order
+-- ---- the places of messages and rows, and their order
 
 -- by the octets of the user, the octets of the folder, and the number
 abbrev pub filed_cmp : Filed → Filed → Ordering
@@ -47,7 +47,7 @@ IsQueued tables q = Has (map first_two (tables outgoing_tree)) (queued_cells q)
 
 -- ---- the least of those that come after
 
--- of those that are there and of which this holds it is one, and none of them comes before it; it is none where there is none
+-- of those that are there and of which this holds it is one, and none of them comes before it; it is none if there is none
 abbrev pub IsLeast : {X : Type 0} → (X → X → Ordering) → (X → Type 0) → (X → Type 0) → Option X → Type 0
 IsLeast {X} cmp There Holds None = (x : X) → There x → Holds x → ⊥
 IsLeast {X} cmp There Holds (Some least) = There least × Holds least × ((x : X) → There x → Holds x → ¬ (cmp x least ≡ Less))
@@ -96,7 +96,7 @@ ShowFiled Holds rows tables = ShowLeast filed_cells first_three filed_cmp (IsFil
 abbrev pub ShowQueued : (Queued → Type 0) → List Row → Tables → Type 0
 ShowQueued Holds rows tables = ShowLeast queued_cells first_two queued_cmp (IsQueued tables) Holds rows
 
--- of a number as the database has it
+-- for a number as the database has it
 abbrev pub ShowLaterNumber : List ℕ → List ℕ → ℤ → List Row → Tables → Type 0
 ShowLaterNumber user folder n rows tables = (m : ℕ) → n ≡ pos m → ShowFiled (IsLaterNumber user folder m) rows tables
 

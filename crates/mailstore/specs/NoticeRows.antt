@@ -19,7 +19,7 @@ AreNoticeRows rows a = rows ≡ map notice_cells a.notices
 abbrev pub notice_row : List ℕ → ℕ × Notice → Row
 notice_row user entry = notice_row_cells user (pos entry.0) (pos entry.1.moment) entry.1.text
 
--- the rows are those of the user's notices, which stand in the order of their numbers
+-- the rows are those of the user's notices, which are in the order of their numbers
 pub record ShowsNotices (user : List ℕ) (rows : List Row) (notices : List Notice) (next : ℕ) : Type 0 where
   pub entries : List (ℕ × Notice)
   pub numbered : AreNumbered (λ e. e.0) (notice_row user) rows entries next

@@ -1,4 +1,4 @@
--- Which accounts the tables of version 1 show, row by row: all is as in version 3, but that each copy has its own message and no flags.
+-- Which accounts the tables of version 1 show, row by row: all is as in version 3, except that each copy has its own message and no flags.
 use Rattle.std.specs.Prelude.{◌≡◌, ◌⊎◌, ℕ, pos, List, [], ◌∷◌, codes, filter, Option, Some, None}
 use Rattle.std.specs.List.{AllByRecursion}
 use Rattle.std.specs.FinMap.{get}
@@ -28,8 +28,8 @@ use Rattle.mailstore.specs.OwnRows.{rows_of}
 abbrev pub old_copy_row : List ℕ → Copy → Row
 old_copy_row user copy = value.Blob user ∷ value.Blob copy.folder ∷ value.Int (pos copy.n) ∷ value.Blob copy.message ∷ []
 
--- the rows are those of the user's copies: a folder is the list of its copies in the order of their numbers, and each is a copy of a message of its own, without
--- flags
+-- the rows are those of the user's copies: a folder is the list of its copies in the order of their numbers, and each is a copy of a
+-- message of its own, without flags
 pub record ShowsOldCopies (user : List ℕ) (rows : List Row) (folders flags : Folders) (next : ℕ) : Type 0 where
   pub entries : List Copy
   pub numbered : AreNumbered (λ c. c.n) (old_copy_row user) rows entries next
@@ -65,12 +65,12 @@ IsShownOldOrAbsent user own (Some a) = IsShownOld user own a
 abbrev pub old_version_row : Row
 old_version_row = value.Text (codes "version") ∷ value.Int (pos 1) ∷ []
 
--- the tables of version 1 show the accounts: of the version there is the one row
+-- the tables of version 1 show the accounts: the version has its one row
 pub record ShowsOldAccounts (tables : Tables) (accounts : Accounts) : Type 0 where
   pub version : filter (has_key version_key) (tables meta_tree) ≡ old_version_row ∷ []
   pub users : (user : List ℕ) → IsShownOldOrAbsent user (rows_of user tables) (get accounts user)
 
--- a database of version 1 has these rows, told as with the copies last: with the copies fourth each table has them elsewhere
+-- a database of version 1 has these rows, numbered as with the copies last: with the copies fourth each table has them elsewhere
 abbrev pub HoldsOld : Database → Tables → Type 0
 HoldsOld db tables = HoldsTables old_schema db tables ⊎ ((there : Tables) × HoldsTables oldest_schema db there × IsMoved there tables)
 

@@ -51,7 +51,7 @@ HasNoOpen user accounts = open_of accounts user ≡ None
 abbrev pub OfOpen : Accounts → List ℕ → (Account → Type 0) → Type 0
 OfOpen accounts user P = (a : Account) × (open_of accounts user ≡ Some a) × P a
 
--- ---- what is said over our tables
+-- ---- what holds over our tables
 
 -- whatever rows our tables had, this holds of them
 abbrev pub OverTables : State → (Tables → Type 0) → Type 0
@@ -63,14 +63,15 @@ OverAccounts old P = (accounts : Accounts) → Presents old.now accounts → P a
 
 -- ---- reads
 
--- reads keep all, whatever they answer: over our tables what is seen stays; after Ok the connection is open, and one that a fault of the disk has shut stays shut; a crash leaves what it left before
+-- reads keep all, whatever they return: over our tables what is seen stays; after Ok the connection is open, and one that a fault of the disk has
+-- shut stays shut; a crash leaves what it left before
 pub record Keeps {X E : Type 0} (old new : State) (result : Result X E) : Type 0 where
   pub same : HasCleanDisk new → HasOurTables old.now → StaysSame old new
   pub live : HasCleanDisk new → OnOk result (IsTrue new.is_open)
   pub shut : HasCleanDisk new → IsTrue new.is_open → IsTrue old.is_open
   pub crash : Survives old new (λ _. HasOurTables old.now → ⊥)
 
--- reads in turn, and maybe none: over our tables what is seen and the last commit stay, after Ok whatever the connection is; a crash leaves what it left before
+-- reads in order, maybe none: over our tables what is seen and the last commit stay, after Ok whatever the connection is; a crash leaves what it left before
 pub record KeepsSeen {X E : Type 0} (old new : State) (result : Result X E) : Type 0 where
   pub same : HasCleanDisk new → HasOurTables old.now → StaysSame old new
   pub seen : HasCleanDisk new → HasOurTables old.now → OnOk result ((new.now ≡ old.now) × (new.committed ≡ old.committed))
@@ -86,7 +87,8 @@ pub record Finds {E : Type 0} (user : List ℕ) (Part : List Row → Account →
   pub found : HasCleanDisk new → OverAccounts old (λ accounts. IfOk result (λ rows. IfSome (get accounts user) (Part rows.items)))
   pub keeps : Keeps old new result
 
--- a read of one user's open account: this holds of the answer and the account; NoUser is answered only where there is no open account, over an open connection that stays open, and no other refusal but those that may come without visible cause
+-- a read of one user's open account: this holds of the answer and the account; NoUser is answered only if there is no open account, over an open
+-- connection that stays open, and other refusals only if they may come without visible cause
 pub record Reads {X : Type 0} (user : List ℕ) (Part : X → Account → Type 0) (old new : State) (result : Result X Refusal) : Type 0 where
   pub found : HasCleanDisk new → OverAccounts old (λ accounts. IfOk result (λ x. OfOpen accounts user (Part x)))
   pub absent : HasCleanDisk new → OverAccounts old (λ accounts. IfErr result (λ e. e ≡ NoUser → HasNoOpen user accounts))
@@ -94,7 +96,8 @@ pub record Reads {X : Type 0} (user : List ℕ) (Part : X → Account → Type 0
   pub keeps : Keeps old new result
   pub named : IfErr result (λ e. (e ≡ NoUser) ⊎ IsTransient e)
 
--- a read of an account that was entered, so no test for it: this holds of the answer and of the account, if there is one; it is refused without visible cause alone
+-- a read of an account that was entered, so without a check for it: this holds of the answer and of the account, if there is one; it is refused only
+-- without visible cause
 pub record ReadsEntered {X : Type 0} (user : List ℕ) (Part : X → Account → Type 0) (old new : State) (result : Result X Refusal) : Type 0 where
   pub found : HasCleanDisk new → OverAccounts old (λ accounts. IfOk result (λ x. IfSome (get accounts user) (Part x)))
   pub keeps : Keeps old new result
@@ -112,7 +115,7 @@ pub record FindsAmong {X E : Type 0} (user : List ℕ) (Part : X → Tables → 
   pub found : HasCleanDisk new → OverTables old (λ tables. IfOk result (λ x. Part x (rows_of user tables)))
   pub keeps : Keeps old new result
 
--- a read of one user's rows: this holds of the answer and of all that the user has, and the user has an open account; NoUser is answered only where there is none
+-- a read of one user's rows: this holds of the answer and of all that the user has, and the user has an open account; NoUser is answered only if there is none
 pub record ReadsOwn {X : Type 0} (user : List ℕ) (Part : X → Tables → Type 0) (old new : State) (result : Result X Refusal) : Type 0 where
   pub found : HasCleanDisk new → OverTables old (λ tables. IfOk result (λ x. Part x (rows_of user tables)))
   pub there : HasCleanDisk new → OverAccounts old (λ accounts. OnOk result (HasOpen user accounts))
@@ -121,7 +124,7 @@ pub record ReadsOwn {X : Type 0} (user : List ℕ) (Part : X → Tables → Type
   pub keeps : Keeps old new result
   pub named : IfErr result (λ e. (e ≡ NoUser) ⊎ IsTransient e)
 
--- the read of what the store keeps of an account, open or closed; it answers none without an account
+-- the read of what the store has of an account, open or closed; it returns none without an account
 pub record ReadsProfile (user : List ℕ) (old new : State) (result : Result (Option Profile) Refusal) : Type 0 where
   pub found : HasCleanDisk new → OverAccounts old (λ accounts. IfOk result (λ profile. profile ≡ option_map profile_of (get accounts user)))
   pub keeps : Keeps old new result
@@ -139,7 +142,7 @@ abbrev pub StoresOnce : {X E : Type 0} → List ℕ → Plan → State → State
 StoresOnce user plan old new result =
     HasCleanDisk new → OverTables old (λ tables. OnOk result (HasStoredOnce user plan (tables message_tree) new.now))
 
--- where the old tables show accounts that fit, the new ones show them with the change
+-- if the old tables show accounts that fit, the new ones show them with the change
 abbrev pub Turns : (Accounts → Type 0) → (Accounts → Accounts) → Database → Database → Type 0
 Turns Fit change old new = (accounts : Accounts) → Presents old accounts → Fit accounts → Presents new (change accounts)
 
@@ -147,7 +150,8 @@ Turns Fit change old new = (accounts : Accounts) → Presents old accounts → F
 abbrev pub CrashLeavesAccounts : (Accounts → Type 0) → (Accounts → Accounts) → State → Trees → Type 0
 CrashLeavesAccounts Fit change s trees = (accounts : Accounts) → Presents s.now accounts → Fit accounts → ShowsIn trees (change accounts)
 
--- a write in one transaction: after Ok the change is made of accounts that fit, and the connection is settled; after a refusal all is as before; a crash leaves what it left before, or the accounts with the change
+-- a write in one transaction: after Ok the change is made in accounts that fit, and the connection is settled; after a refusal all is as before; a
+-- crash leaves what it left before, or the accounts with the change
 pub record Writes {X : Type 0} (Fit : Accounts → Type 0) (change : Accounts → Accounts) (old new : State) (result : Result X Refusal) : Type 0 where
   pub made : HasCleanDisk new → OnOk result (Turns Fit change old.now new.now)
   pub settled : HasCleanDisk new → OnOk result (IsSettled new)
@@ -159,15 +163,15 @@ pub record Writes {X : Type 0} (Fit : Accounts → Type 0) (change : Accounts �
 abbrev pub WritesUser : {X : Type 0} → List ℕ → (Account → Account) → State → State → Result X Refusal → Type 0
 WritesUser user change = Writes (HasUser user) (λ all. with_user all user change)
 
--- the same of an account of which this is known
+-- the same for an account of which this is known
 abbrev pub WritesKnown : {X : Type 0} → List ℕ → (Account → Type 0) → (Account → Account) → State → State → Result X Refusal → Type 0
 WritesKnown user Known change = Writes (λ all. OfUser all user Known) (λ all. with_user all user change)
 
--- a write that gives a script another name, where its text and the active name are known
+-- a write that gives a script another name, if its text and the active name are known
 abbrev pub Renames : {X : Type 0} → List ℕ → List ℕ → List ℕ → Option (List ℕ) → Option (List ℕ) → State → State → Result X Refusal → Type 0
 Renames user name other text active = WritesKnown user (IsRenaming name other text active) (renames_script name other)
 
--- a write of one user's account that first asks whether there is one; NoUser is answered only where there is no open one
+-- a write of one user's account that first checks whether there is one; NoUser is answered only if there is no open one
 pub record WritesAccount {X : Type 0} (user : List ℕ) (change : Account → Account) (old new : State) (result : Result X Refusal) : Type 0 where
   pub made : HasCleanDisk new → OnOk result (Turns (HasUser user) (λ all. with_user all user change) old.now new.now)
   pub settled : HasCleanDisk new → OnOk result (IsSettled new)

@@ -13,7 +13,7 @@ use Rattle.mailstore.specs.Account.{Account, Scripts, other_name}
 abbrev pub script_row : List ℕ → List ℕ × List ℕ → Row
 script_row user entry = script_cells user entry.0 entry.1
 
--- no two keys are the same
+-- no two keys are equal
 abbrev pub AreApart : {K X : Type 0} → List (K × X) → Type 0
 AreApart = IsAscending (λ a b. a.0 ≢ b.0)
 
@@ -34,10 +34,10 @@ HasTextRow name rows a = slice_get rows 0 ≡ option_map (λ text. Blob text ∷
 abbrev pub AreNameRows : List Row → Account → Type 0
 AreNameRows rows a = rows ≡ map (λ name. Blob name ∷ []) (keys a.scripts)
 
--- the text of the name's script and the name of the active one, where there are such
+-- the text of the name's script and the name of the active one, if there are any
 abbrev pub HasTextAndActive : List ℕ → Option (List ℕ) × Option (List ℕ) → Account → Type 0
 HasTextAndActive name both a = (both.0 ≡ get a.scripts name) × (both.1 ≡ a.active)
 
--- the text is the name's, where there is such a script, and the active name is what it is once that script has the other name
+-- the text is the name's, if there is such a script, and the active name is what it is after that script has the other name
 abbrev pub IsRenaming : List ℕ → List ℕ → Option (List ℕ) → Option (List ℕ) → Account → Type 0
 IsRenaming name other text active a = (text ≡ get a.scripts name) × (active ≡ option_map (other_name name other) a.active)

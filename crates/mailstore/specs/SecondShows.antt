@@ -1,4 +1,4 @@
--- Which accounts the tables of version 2 show, row by row: all is as in version 3, but that no copy has flags.
+-- Which accounts the tables of version 2 show, row by row: all is as in version 3, except that no copy has flags.
 use Rattle.std.specs.Prelude.{◌≡◌, ◌⊎◌, ℕ, pos, List, [], ◌∷◌, codes, filter, Option, Some, None}
 use Rattle.std.specs.List.{AllByRecursion}
 use Rattle.std.specs.FinMap.{get}
@@ -69,12 +69,12 @@ IsShownSecondOrAbsent user own (Some a) = IsShownSecond user own a
 abbrev pub second_version_row : Row
 second_version_row = value.Text (codes "version") ∷ value.Int (pos 2) ∷ []
 
--- the tables of version 2 show the accounts: of the version there is the one row
+-- the tables of version 2 show the accounts: the version has its one row
 pub record ShowsSecondAccounts (tables : Tables) (accounts : Accounts) : Type 0 where
   pub version : filter (has_key version_key) (tables meta_tree) ≡ second_version_row ∷ []
   pub users : (user : List ℕ) → IsShownSecondOrAbsent user (rows_of user tables) (get accounts user)
 
--- a database of version 2 has these rows: with the index of the copies by their messages or, made before there was one, without it
+-- a database of version 2 has these rows: with the index of the copies by their messages or, if it was made before that was introduced, without it
 abbrev pub HoldsSecond : Database → Tables → Type 0
 HoldsSecond db tables = HoldsTables second_schema db tables ⊎ HoldsTables second_unindexed_schema db tables
 

@@ -62,7 +62,7 @@ abbrev pub IsShownOrAbsent : List ℕ → Tables → Option Account → Type 0
 IsShownOrAbsent user own None = IsAbsent own
 IsShownOrAbsent user own (Some a) = IsShown user own a
 
--- the tables show the accounts: of the version there is the one row, whatever other rows stand beside it, and each user's rows, of every name
+-- the tables show the accounts: the version has its one row, whatever other rows are beside it, and each user's rows, for every name
 pub record ShowsAccounts (tables : Tables) (accounts : Accounts) : Type 0 where
   pub version : filter (has_key version_key) (tables meta_tree) ≡ version_row ∷ []
   pub users : (user : List ℕ) → IsShownOrAbsent user (rows_of user tables) (get accounts user)
@@ -71,7 +71,7 @@ pub record ShowsAccounts (tables : Tables) (accounts : Accounts) : Type 0 where
 abbrev pub Presents : Database → Accounts → Type 0
 Presents db accounts = (tables : Tables) × HoldsTables mail_schema db tables × ShowsAccounts tables accounts
 
--- a database that `open` takes, of any version, whose tables show the accounts
+-- a database of any version that `open` accepts, whose tables show the accounts
 abbrev pub Offers : Database → Accounts → Type 0
 Offers db accounts = Presents db accounts ⊎ (OffersSecond db accounts ⊎ OffersOld db accounts)
 
@@ -83,7 +83,7 @@ OffersNothing db = (accounts : Accounts) → ¬ Offers db accounts
 abbrev pub ShowsIn : Trees → Accounts → Type 0
 ShowsIn trees accounts = (db : Database) × Presents db accounts × (trees ≡ db.trees)
 
--- what is seen has the trees of a database that offers the accounts; of one of an earlier version the schema too, since its schemas share their trees
+-- what is seen has the trees of a database that offers the accounts; for one of an earlier version the schema too, since its schemas share their trees
 pub record OffersIn (seen : Database) (accounts : Accounts) : Type 0 where
   pub db : Database
   pub offers : Offers db accounts
@@ -98,10 +98,10 @@ OnlyLeaves P s = HasCleanDisk s → (trees : Trees) → s.may_leave trees → P 
 abbrev pub StillShows : State → State → Type 0
 StillShows old new = HasCleanDisk new → (accounts : Accounts) → OffersIn old.now accounts → Presents new.now accounts
 
--- ---- a database that is opened: `Becomes` (oldtables) tells what becomes of its tables, `OpensAs` of the accounts too; of what a crash leaves
--- of it `MayBecome` (oldtables) and `CrashLeavesOpened` tell the same; `OpensKnown` (oldtables) is all that `open_known` promises
+-- ---- a database that is opened: `Becomes` (oldtables) says what its tables become, `OpensAs` what the accounts become too; of what a crash
+-- leaves of it `MayBecome` (oldtables) and `CrashLeavesOpened` say the same; `OpensKnown` (oldtables) is all that `open_known` promises
 
--- what `open` makes of a database: of version 3 it is as it was; of version 2 or 1 it has become version 3; it shows the accounts that it offered
+-- what `open` makes of a database: version 3 stays as it was; version 2 or 1 has become version 3; it shows the accounts that it offered
 pub record OpensAs (old new : Database) : Type 0 where
   pub tables : IsOurSchema old.schema → IsOpenedAs old new
   pub second : IsSecondSchema old.schema → TurnsThird old new
@@ -109,7 +109,7 @@ pub record OpensAs (old new : Database) : Type 0 where
   pub fourth : old.schema ≡ oldest_schema → TurnsNewest old new
   pub shown : (accounts : Accounts) → Offers old accounts → Presents new accounts
 
--- what a crash may leave of an open, beside what it left before: of a database of an earlier version, what `open` makes of it
+-- what a crash may leave of an open, besides what it left before: of a database of an earlier version, what `open` makes of it
 pub record CrashLeavesOpened (seen : Database) (trees : Trees) : Type 0 where
   pub behind : IsBehind seen.schema
   pub db : Database
@@ -118,11 +118,11 @@ pub record CrashLeavesOpened (seen : Database) (trees : Trees) : Type 0 where
 
 -- ---- what is read of the copies
 
--- of the copies that the user's rows show, whatever else they show, this holds
+-- for the copies that the user's rows show, whatever else they show, this holds
 abbrev pub OfCopies : List ℕ → Tables → (List Copy → Type 0) → Type 0
 OfCopies user own P = (a : Account) (s : IsShown user own a) → P s.copies.entries
 
--- of a number as the database has it: the row is that of the folder's copy after that many, or there is none
+-- for a number as the database has it: the row is that of the folder's copy after that many, or there is none
 abbrev pub AreNthRows : List ℕ → List ℕ → ℤ → List Row → Tables → Type 0
 AreNthRows user folder count rows own =
     OfCopies user own (λ copies. (n : ℕ) → count ≡ pos n → rows ≡ take 1 (drop n (map filing_cells (map filing_of (copies_in folder copies)))))
@@ -136,7 +136,7 @@ IsNthFiling user folder count filing own =
 abbrev pub message_rows : List ℕ → ℤ → Tables → List Row
 message_rows user id own = filter (has_key (message_key user id)) (own message_tree)
 
--- the rows are the octets of the user's message with the number, where it has a row
+-- the rows are the octets of the user's message with the number, if it has a row
 abbrev pub AreOctetRows : List ℕ → ℤ → List Row → Tables → Type 0
 AreOctetRows user id rows own = rows ≡ map (λ r. column r bytes_column ∷ []) (message_rows user id own)
 
@@ -144,16 +144,16 @@ AreOctetRows user id rows own = rows ≡ map (λ r. column r bytes_column ∷ []
 abbrev pub HasOctets : List ℕ → ℕ → List ℕ → Tables → Type 0
 HasOctets user id octets own = slice_get (map (λ r. column r bytes_column) (message_rows user (pos id) own)) 0 ≡ Some (Blob octets)
 
--- it is the folder's message after that many, with the number of its copy, that the user's rows show, or none where they show none
+-- it is the folder's message after that many, with the number of its copy, that the user's rows show, or none if they show none
 abbrev pub IsNthOf : List ℕ → List ℕ → ℤ → Option NumberedMessage → Tables → Type 0
 IsNthOf user folder count message own =
     OfCopies user own (λ copies. (n : ℕ) → count ≡ pos n → message ≡ option_map numbered_of (slice_get (copies_in folder copies) n))
 
--- it is the first message of the folder, with the number of its copy, that the user's rows show, or none where they show none
+-- it is the first message of the folder, with the number of its copy, that the user's rows show, or none if they show none
 abbrev pub IsFirstOf : List ℕ → List ℕ → Option NumberedMessage → Tables → Type 0
 IsFirstOf user folder first own = OfCopies user own (λ copies. first ≡ option_map numbered_of (find (is_in folder) copies))
 
--- of a copy whose numbers the database has as these: one row where another copy of its message is there, and none where there isn't
+-- for a copy whose numbers the database has as these: one row if there is another copy of its message, and none if there isn't
 abbrev pub AreOtherRows : List ℕ → ℤ → ℤ → List Row → Tables → Type 0
 AreOtherRows user id n rows own =
     OfCopies user own (λ copies. (f : Filing) → id ≡ pos f.id → n ≡ pos f.n → length rows ≡ (if list_any (is_other_copy f) copies then 1 else 0))
@@ -162,6 +162,6 @@ AreOtherRows user id n rows own =
 abbrev pub IsShared : List ℕ → Filing → Bool → Tables → Type 0
 IsShared user f shared own = OfCopies user own (λ copies. shared ≡ list_any (is_other_copy f) copies)
 
--- it is the first copy of the folder that the user's rows show, and whether they show another one of its message; none where they show none
+-- it is the first copy of the folder that the user's rows show, and whether they show another one of its message; none if they show none
 abbrev pub IsLeaving : List ℕ → List ℕ → Option Leaving → Tables → Type 0
 IsLeaving user folder leaving own = OfCopies user own (λ copies. leaving ≡ option_map (leaving_of copies) (find (is_in folder) copies))

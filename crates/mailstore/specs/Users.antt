@@ -1,4 +1,4 @@
--- The users who have an account, one after another.
+-- The users who have an account, one after the other.
 use Rattle.std.specs.Prelude.{◌≡◌, ℕ, List, map, codes, Option, Result, IfOk}
 use Rattle.std.specs.declared.cmp.Ordering.TheVariants.{Less}
 use Rattle.sqlite_value.specs.Order.{Row}
@@ -20,7 +20,7 @@ pub record FindsOver {X E : Type 0} (Part : X → Accounts → Type 0) (old new 
 abbrev pub IsLaterName : List ℕ → List ℕ → Type 0
 IsLaterName name other = bytes_cmp name other ≡ Less
 
--- of the names after this one that have an account, be it open, closed or removed, it is the first; none where there is none
+-- of the names after this one that have an account, be it open, closed or removed, it is the first; none if there is none
 abbrev pub IsNextUser : List ℕ → Option (List ℕ) → Accounts → Type 0
 IsNextUser name next accounts = IsLeast bytes_cmp (λ user. HasUser user accounts) (IsLaterName name) next
 

@@ -22,7 +22,7 @@ abbrev pub scripts_with : Scripts → Part → Scripts
 scripts_with scripts (Script name text) = insert scripts name text
 scripts_with scripts part = scripts
 
--- of a moment that is there, under the same handle for the same sender, and the text's the later one is kept
+-- if there is a moment under the same handle for the same sender already, the later one of it and the text's is kept
 abbrev pub replies_with : Replies → Part → Replies
 replies_with replies (Reply handle sender moment) = insert replies (handle, sender) (latest (get replies (handle, sender)) moment)
 replies_with replies part = replies
@@ -64,7 +64,7 @@ copies_of last (part ∷ parts) = copies_in_part last part ++ copies_of (octets_
 abbrev pub password_of : Head → Password
 password_of head = record { salt = head.owner.salt; rounds = head.numbers.rounds; digest = head.owner.digest }
 
--- the account that a text tells, over moments of replies that are there
+-- the account in a text, over moments of replies that are there
 abbrev pub whole : Head → List Part → Replies → Account
 whole head parts replies = record {
   address = head.owner.address;
@@ -79,13 +79,13 @@ whole head parts replies = record {
   next_out = head.numbers.next_out;
 }
 
--- the same in place of an account that is there: of that the moments of replies stay, but where the text has a later one
+-- the same in place of an account that is there: the moments of its replies stay, except where the text has a later one
 abbrev pub takes_whole : Head → List Part → Account → Account
 takes_whole head parts a = whole head parts a.replies
 
 -- ---- the text of an account
 
--- the text is one of this user's account: read, it makes that account again
+-- the text is one of this user's account: when it is read, it makes that account again
 pub record IsCopyOf (text user : List ℕ) (a : Account) : Type 0 where
   pub head : Head
   pub parts : List Part

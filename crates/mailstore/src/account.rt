@@ -1,4 +1,4 @@
-//! A user's account, as its row has it.
+//! A user's account, as in its row.
 ghost use Rattle.std.specs.Prelude.{◌≡◌, false, ◌⊎◌, [], pos, Err, Some, option_map, slice_get, IfOk, IfErr};
 ghost use Rattle.sqlite.specs.Held.{state};
 ghost use Rattle.mailtables.specs.AccountTable.{account_tree};
@@ -21,8 +21,8 @@ use mailtables::{Change, query};
 use octets::Octets;
 use sqlite::{Alter, Connection, Error, Row, params};
 
-/// The numbers that an account gives next: to a copy, to a message on its way out, and to a notice. Each counts from 1
-/// on its own, and no number is given twice.
+/// The numbers that an account gives next: to a copy, to a message on its way out, and to a notice. Each counter begins at 1
+/// and counts on its own, and no number is given twice.
 #[derive(Clone, Copy)]
 pub struct Counters {
     pub copy: u64,
@@ -119,7 +119,7 @@ impl<S: Alter> Store<S> {
         first_counters(&rows)
     }
 
-    /// The same of an account that was entered.
+    /// The same for an account that was entered.
     pub fn counters_of(&mut self, user: &[u8]) -> Result<Counters, Refusal>
         ensures finds { FindsAmong user.now AreCountersOf (state S.Store self.old) (state S.Store self.new) result }
         ensures named { IfErr result IsTransient }
@@ -130,7 +130,7 @@ impl<S: Alter> Store<S> {
         }
     }
 
-    /// What the store keeps of the account, open or closed; none without an account. A closed one has no rounds.
+    /// What the store has of the account, open or closed; `None` without an account. A closed one has no rounds.
     pub fn account(&mut self, user: &[u8]) -> Result<Option<Profile>, Refusal>
         ensures { ReadsProfile user.now (state S.Store self.old) (state S.Store self.new) result }
     {
@@ -138,12 +138,12 @@ impl<S: Alter> Store<S> {
         first_profile(&rows)
     }
 
-    /// Enters the user's open account, and answers what the store keeps of it. The reads whose names end in `_of` are of an
-    /// account that was entered: they don't ask again whether there is one.
+    /// Enters the user's open account, and returns what the store has of it. The reads whose names end in `_of` are for an
+    /// account that was entered: they don't check again whether there is one.
     ///
     /// # Errors
     ///
-    /// `NoUser` without an account and where it is closed, `Memory`, `Store`.
+    /// `NoUser` without an account and if it is closed, `Memory`, `Store`.
     pub fn enter(&mut self, user: &[u8]) -> Result<Profile, Refusal>
         ensures { Reads user.now (λ profile a. profile ≡ profile_of a) (state S.Store self.old) (state S.Store self.new) result }
     {
@@ -157,7 +157,7 @@ impl<S: Alter> Store<S> {
     }
 
     /// Whether an account that was entered, open or closed, has a message in a folder or on its way out. Time is linear in its
-    /// messages, memory in what the queue says of them.
+    /// messages, memory in its queue without the messages.
     pub fn has_mail_of(&mut self, user: &[u8]) -> Result<bool, Refusal>
         ensures { ReadsEntered user.now (λ found a. found ≡ has_mail a) (state S.Store self.old) (state S.Store self.new) result }
     {
@@ -169,12 +169,12 @@ impl<S: Alter> Store<S> {
         Ok(!heads.is_empty())
     }
 
-    /// Adds an open account without scripts, messages and replies. `rounds` is how often the password is
-    /// digested. What comes of a name that has an account is left open but for the table's key, which SQLite keeps.
+    /// Adds an open account without scripts, messages and replies. `rounds` is the number of times the password is
+    /// digested. What happens with a name that has an account isn't specified, except that SQLite keeps the table's key.
     ///
     /// # Errors
     ///
-    /// `Store` for no rounds, which only a closed account has, and nothing is asked then; `Memory`, `Store`.
+    /// `Store` for no rounds, which only a closed account has; the database isn't asked then. `Memory`, `Store`.
     pub fn add_user(
         &mut self,
         name: &[u8],
@@ -198,8 +198,7 @@ impl<S: Alter> Store<S> {
         }])
     }
 
-    /// Makes the script with the name the active one, or none. That a script has the name is for
-    /// the caller to see.
+    /// Makes the script with the name the active one, or none. The caller has to see to it that a script has the name.
     pub fn set_active(&mut self, user: &[u8], name: Option<&[u8]>) -> Result<(), Refusal>
         ensures { WritesUser user.now (activates (contents name.entry)) (state S.Store self.old) (state S.Store self.new) result }
     {
@@ -209,7 +208,7 @@ impl<S: Alter> Store<S> {
         }])
     }
 
-    /// The account has another address. What it keeps of replies stays under their keys.
+    /// Sets the account's address. The moments of replies stay under their keys.
     pub fn set_address(&mut self, user: &[u8], address: &[u8]) -> Result<(), Refusal>
         ensures { WritesUser user.now (addresses address.now) (state S.Store self.old) (state S.Store self.new) result }
     {
@@ -219,7 +218,7 @@ impl<S: Alter> Store<S> {
         }])
     }
 
-    /// The account has another password; `rounds` is how often it is digested, and none would close the account.
+    /// Sets the account's password; `rounds` is the number of times it is digested, and 0 would close the account.
     pub fn set_password(
         &mut self,
         user: &[u8],
@@ -237,7 +236,7 @@ impl<S: Alter> Store<S> {
         }])
     }
 
-    /// The account is closed: its password has no rounds. All that it keeps stays.
+    /// Closes the account: its password has no rounds then. All else stays.
     pub fn close_account(&mut self, user: &[u8]) -> Result<(), Refusal>
         ensures { WritesUser user.now closes (state S.Store self.old) (state S.Store self.new) result }
     {
@@ -247,22 +246,22 @@ impl<S: Alter> Store<S> {
         }])
     }
 
-    /// The account is opened as it was closed. `rounds` is how often its password is digested.
+    /// Opens the account as it was before it was closed. `rounds` is the number of times its password is digested.
     pub fn open_account(&mut self, user: &[u8], rounds: u32) -> Result<(), Refusal>
         ensures { WritesUser user.now (opens rounds) (state S.Store self.old) (state S.Store self.new) result }
     {
         self.apply(&[Change::SetRounds { name: user, rounds }])
     }
 
-    /// The account is closed, and its scripts, messages, queue, notices and password go. Its address, the moments of its
-    /// replies and its numbers stay. Time is linear in what goes.
+    /// Closes the account, and removes its scripts, messages, queue, notices and password. Its address, the moments of its
+    /// replies and its numbers stay. Time is linear in what is removed.
     pub fn remove_account(&mut self, user: &[u8]) -> Result<(), Refusal>
         ensures { WritesUser user.now removes (state S.Store self.old) (state S.Store self.new) result }
     {
         self.empty_account(user, &[], &[])
     }
 
-    /// The account is closed under this salt and this digest, and its scripts, messages, queue and notices go.
+    /// Closes the account with this salt and this digest, and removes its scripts, messages, queue and notices.
     fn empty_account(&mut self, user: &[u8], salt: &[u8], digest: &[u8]) -> Result<(), Refusal>
         ensures { WritesUser user.now (empties_under salt.now digest.now) (state S.Store self.old) (state S.Store self.new) result }
     {
@@ -285,8 +284,8 @@ impl<S: Alter> Store<S> {
         ])
     }
 
-    /// A new account in place of one that was there: what `remove_account` takes goes, and the address and the password are
-    /// others. The moments of replies and the numbers stay. Time is linear in what goes.
+    /// Makes a new account in place of one that was there: what `remove_account` removes goes, and the address and the password
+    /// are replaced. The moments of replies and the numbers stay. Time is linear in what is removed.
     pub fn renew_user(
         &mut self,
         name: &[u8],

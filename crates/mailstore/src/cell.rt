@@ -18,7 +18,7 @@ pub fn text_at(row: &Row, at: usize) -> Result<Octets, Error>
     Ok(Octets::from_vec(items))
 }
 
-/// The text in the cell; none where it is NULL.
+/// The text in the cell; `None` if it is NULL.
 pub fn optional_text_at(row: &Row, at: usize) -> Result<Option<Octets>, Error>
     ensures { IfOk result (λ text. column row.now at ≡ or_null text) }
 {
@@ -55,7 +55,7 @@ impl FromRow for Octets {
     }
 }
 
-/// The number as the database keeps it; past 2^63 - 1 it is refused.
+/// The number as the database stores it; past 2^63 - 1 it is refused.
 pub fn number(n: u64) -> Result<i64, Refusal>
     ensures same { IfOk result (λ i. i ≡ pos n) }
     ensures fits { IfOk result (λ _. n < 2 ^ 63) }

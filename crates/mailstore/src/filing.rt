@@ -1,4 +1,4 @@
-//! Where copies are: one of a folder, and another one of its message.
+//! The copies of messages in folders: one by its position, and another one of the same message.
 ghost use Rattle.std.specs.Prelude.{◌≡◌, false, IfErr};
 ghost use Rattle.sqlite.specs.Held.{state};
 ghost use Rattle.mailstore.specs.Promises.{FindsAmong};
@@ -24,11 +24,11 @@ pub struct Filing {
     pub n: u64,
     /// The number of its message.
     pub id: u64,
-    /// The text that names its flags (RFC 5232); empty where it has none.
+    /// The text that names its flags (RFC 5232); empty if it has none.
     pub flags: Octets,
 }
 
-/// Where the folder's copy after that many is, found by its key.
+/// The folder's copy after that many, found by its key.
 fn find_nth<S: Alter>(
     conn: &mut Connection<S>,
     owner: &[u8],
@@ -45,7 +45,7 @@ fn find_nth<S: Alter>(
     )
 }
 
-/// Another copy of the message with the number than this one, if there is one.
+/// A copy of the message with the number other than this one, if there is one.
 fn find_other<S: Alter>(
     conn: &mut Connection<S>,
     owner: &[u8],
@@ -81,7 +81,7 @@ impl FromRow for Filing {
 }
 
 impl<S: Alter> Store<S> {
-    /// Where all copies of the user are, in the order of their numbers, of an account that was entered. No message is read: time
+    /// All copies of the user, in the order of their numbers, for an account that was entered. No message is read: time
     /// and memory are linear in the answer.
     pub fn filings_of(&mut self, user: &[u8]) -> Result<List<Filing>, Refusal>
         ensures finds { FindsAmong user.now (AreFilingsOf user.now) (state S.Store self.old) (state S.Store self.new) result }
@@ -95,7 +95,7 @@ impl<S: Alter> Store<S> {
         )
     }
 
-    /// The folder's copy after that many, if there is one, of an account that was entered. The copies before it are passed
+    /// The folder's copy after that many, if there is one, for an account that was entered. The copies before it are passed
     /// over, and those after it aren't read.
     pub(crate) fn nth_filing_of(
         &mut self,
@@ -110,7 +110,7 @@ impl<S: Alter> Store<S> {
         first_from_row(&rows)
     }
 
-    /// Whether another copy of the same message is there, of an account that was entered. At most one is read, and no message.
+    /// Whether there is another copy of the same message, for an account that was entered. At most one is read, and no message.
     pub fn has_other_copy(&mut self, user: &[u8], copy: &Filing) -> Result<bool, Refusal>
         ensures finds { FindsAmong user.now (IsShared user.now copy.now) (state S.Store self.old) (state S.Store self.new) result }
         ensures named { IfErr result IsTransient }

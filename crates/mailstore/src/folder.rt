@@ -38,7 +38,7 @@ fn find_folders<S: Alter>(conn: &mut Connection<S>, owner: &[u8]) -> Result<Vec<
     )
 }
 
-/// Counts one message more in the last folder, if it has the name, else in a new one.
+/// Adds one message to the count of the last folder, if it has the name, else to that of a new one.
 /// After a refusal the folders may lack their last one.
 fn count(folders: &mut Vec<Folder>, name: Octets) -> Result<(), Refusal>
     ensures counted { OnOk result (folders.new.items ≡ counted folders.old.items name) }
@@ -60,7 +60,7 @@ fn count(folders: &mut Vec<Folder>, name: Octets) -> Result<(), Refusal>
     Ok(())
 }
 
-/// The folders whose names are in the rows, in order, each with how often it stands there.
+/// The folders whose names are in the rows, in order, each with how many times it occurs.
 fn tally(alloc: Global, rows: &[Row]) -> Result<List<Folder>, Refusal>
     ensures ok { IfOk result (λ all. (names : List (List ℕ)) → map (λ r. column r 0) rows.now ≡ map (λ n. Blob n) names → all ≡ tallied names) }
     ensures named { IfErr result IsTransient }
@@ -100,7 +100,7 @@ fn cloned_at(alloc: Global, messages: &[Octets], at: u64) -> Result<Option<Octet
 }
 
 impl<S: Alter> Store<S> {
-    /// The messages of the folder, in the order in which they came; none where it is absent.
+    /// The messages of the folder, in the order in which they came; none if it is absent.
     pub fn folder(&mut self, user: &[u8], folder: &[u8]) -> Result<Texts, Refusal>
         ensures { Reads user.now (AreMessagesOf folder.now) (state S.Store self.old) (state S.Store self.new) result }
     {
@@ -108,7 +108,7 @@ impl<S: Alter> Store<S> {
         self.folder_of(user, folder)
     }
 
-    /// The same of an account that was entered.
+    /// The same for an account that was entered.
     fn folder_of(&mut self, user: &[u8], folder: &[u8]) -> Result<Texts, Refusal>
         ensures { ReadsEntered user.now (AreMessagesOf folder.now) (state S.Store self.old) (state S.Store self.new) result }
     {
@@ -120,8 +120,8 @@ impl<S: Alter> Store<S> {
         )
     }
 
-    /// The message of the folder after that many, in the order in which they came; none where there are no more. No other
-    /// message is read: time is linear in it and in how many are before it, memory in it.
+    /// The message of the folder after that many, in the order in which they came; `None` if there are no more. No other
+    /// message is read: time is linear in it and in the number of messages before it, memory in it.
     pub fn message_at(
         &mut self,
         user: &[u8],
@@ -134,7 +134,7 @@ impl<S: Alter> Store<S> {
         self.message_at_of(user, folder, at)
     }
 
-    /// The same of an account that was entered.
+    /// The same for an account that was entered.
     fn message_at_of(
         &mut self,
         user: &[u8],
@@ -145,7 +145,7 @@ impl<S: Alter> Store<S> {
     {
         match i64::try_from(at) {
             Ok(count) => self.nth_message_of(user, folder, count),
-            // The database has no such number, which its contracts don't say: all messages are looked at.
+            // The database can't hold such a number, which its contracts don't say: all messages are looked at.
             Err(_) => self.message_among_of(user, folder, at),
         }
     }
@@ -176,8 +176,8 @@ impl<S: Alter> Store<S> {
         cloned_at(self.alloc, messages.as_slice(), at)
     }
 
-    /// The user's folders in the order of the octets of their names, with how many messages they
-    /// have. No message is read.
+    /// The user's folders in the order of the octets of their names, with the number of their
+    /// messages. No message is read.
     pub fn folders(&mut self, user: &[u8]) -> Result<List<Folder>, Refusal>
         ensures { Reads user.now AreFolders (state S.Store self.old) (state S.Store self.new) result }
     {
@@ -185,7 +185,7 @@ impl<S: Alter> Store<S> {
         self.folders_of(user)
     }
 
-    /// The same of an account that was entered.
+    /// The same for an account that was entered.
     pub(crate) fn folders_of(&mut self, user: &[u8]) -> Result<List<Folder>, Refusal>
         ensures { ReadsEntered user.now AreFolders (state S.Store self.old) (state S.Store self.new) result }
     {

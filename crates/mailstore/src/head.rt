@@ -55,7 +55,7 @@ impl<S: Alter> Store<S> {
         self.queue_heads_of(user)
     }
 
-    /// The same of an account that was entered.
+    /// The same for an account that was entered.
     pub fn queue_heads_of(&mut self, user: &[u8]) -> Result<List<Head>, Refusal>
         ensures { ReadsEntered user.now (λ heads a. heads ≡ map head_of a.queue) (state S.Store self.old) (state S.Store self.new) result }
     {

@@ -30,7 +30,7 @@ fn find_message<S: Alter>(
 }
 
 impl<S: Alter> Store<S> {
-    /// The octets of the user's message with the number, which is there, of an account that was entered: else it is refused as `Store`.
+    /// The octets of the user's message with the number, for an account that was entered. A number that isn't there is refused as `Store`.
     pub fn message_of(&mut self, user: &[u8], id: u64) -> Result<Octets, Refusal>
         ensures finds { FindsAmong user.now (HasOctets user.now id) (state S.Store self.old) (state S.Store self.new) result }
         ensures named { IfErr result IsTransient }

@@ -1,4 +1,4 @@
-//! What comes next over all users, for who moves mail on or sends it. No message is read.
+//! The next message or row over all users, for moving mail on or sending it. No message is read.
 ghost use Rattle.std.specs.Prelude.{◌≡◌, ◌≤◌, ◌^◌, false, Err, IfErr};
 ghost use Rattle.sqlite.specs.Held.{state};
 ghost use Rattle.mailtables.specs.Connection.{Queries};
@@ -14,7 +14,7 @@ use mailtables::query;
 use octets::Octets;
 use sqlite::{Alter, Connection, Error, Row, params};
 
-/// Where a message is.
+/// The place of a message.
 #[derive(Debug, Drop)]
 pub struct Filed {
     pub user: Octets,
@@ -23,7 +23,7 @@ pub struct Filed {
     pub number: u64,
 }
 
-/// Where a row of a queue is.
+/// The place of a row in a queue.
 #[derive(Debug, Drop)]
 pub struct Queued {
     pub user: Octets,
@@ -139,11 +139,11 @@ impl FromRow for Queued {
 
 impl<S: Alter> Store<S> {
     /// The first message after this place, in the order of the octets of the users, the octets of the folders and the numbers,
-    /// whether or not the place is there. No message is read: three rows are found by their keys, at most.
+    /// whether or not there is a message at the place. No message is read: at most three rows are found by their keys.
     ///
     /// # Errors
     ///
-    /// `Memory`, and `Store`: always for a number from 2^63 on, which the database can't have (`past`).
+    /// `Memory`, and `Store`: always for a number from 2^63 on, which the database can't hold (`past`).
     pub fn next_filed(&mut self, start: &Filed) -> Result<Option<Filed>, Refusal>
         ensures next { FindsAll (IsNextFiled start.now) (state S.Store self.old) (state S.Store self.new) result }
         ensures named { IfErr result IsTransient }
@@ -155,12 +155,12 @@ impl<S: Alter> Store<S> {
         }
     }
 
-    /// The first row of a queue after this one, in the order of the octets of the users and the numbers, whether or not there is
-    /// this one. No message is read: two rows are found by their keys, at most.
+    /// The first row of a queue after this one, in the order of the octets of the users and the numbers, whether or not
+    /// this one is there. No message is read: at most two rows are found by their keys.
     ///
     /// # Errors
     ///
-    /// `Memory`, and `Store`: always for a number from 2^63 on, which the database can't have (`past`).
+    /// `Memory`, and `Store`: always for a number from 2^63 on, which the database can't hold (`past`).
     pub fn next_queued(&mut self, start: &Queued) -> Result<Option<Queued>, Refusal>
         ensures next { FindsAll (IsNextQueued start.now) (state S.Store self.old) (state S.Store self.new) result }
         ensures named { IfErr result IsTransient }

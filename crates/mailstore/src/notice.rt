@@ -64,7 +64,7 @@ impl<S: Alter> Store<S> {
         self.notices_of(user)
     }
 
-    /// The same of an account that was entered.
+    /// The same for an account that was entered.
     fn notices_of(&mut self, user: &[u8]) -> Result<List<Notice>, Refusal>
         ensures { ReadsEntered user.now (λ notices a. notices ≡ a.notices) (state S.Store self.old) (state S.Store self.new) result }
     {
@@ -76,7 +76,7 @@ impl<S: Alter> Store<S> {
         )
     }
 
-    /// The numbers of the user's notices, in their order, of an account that was entered. No text is read into memory.
+    /// The numbers of the user's notices, in their order, for an account that was entered. No text is read into memory.
     pub fn notice_numbers_of(&mut self, user: &[u8]) -> Result<List<u64>, Refusal>
         ensures finds { FindsAmong user.now (AreNoticeNumbersOf user.now) (state S.Store self.old) (state S.Store self.new) result }
         ensures named { IfErr result IsTransient }
@@ -89,8 +89,8 @@ impl<S: Alter> Store<S> {
         )
     }
 
-    /// The notice with the number, if there is one, of an account that was entered. One row is found by its key; a number from 2^63
-    /// on, which the database can't have, is refused as `Store`.
+    /// The notice with the number, if there is one, for an account that was entered. One row is found by its key; a number from
+    /// 2^63 on, which the database can't hold, is refused as `Store`.
     pub fn notice_of(&mut self, user: &[u8], id: u64) -> Result<Option<Notice>, Refusal>
         ensures finds { FindsAmong user.now (IsNoticeOf user.now id) (state S.Store self.old) (state S.Store self.new) result }
         ensures named { IfErr result IsTransient }
@@ -101,7 +101,7 @@ impl<S: Alter> Store<S> {
     }
 
     /// Takes the notices up to the moment `until`, in seconds since 1970-01-01 UTC; the others stay in their order. A moment
-    /// from 2^63 on, which the database can't have, is refused as `Store`.
+    /// from 2^63 on, which the database can't hold, is refused as `Store`.
     pub fn take_notices(&mut self, user: &[u8], until: u64) -> Result<(), Refusal>
         ensures { WritesUser user.now (takes_notices until) (state S.Store self.old) (state S.Store self.new) result }
     {

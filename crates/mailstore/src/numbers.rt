@@ -25,7 +25,7 @@ impl FromRow for u64 {
 }
 
 impl<S: Alter> Store<S> {
-    /// The numbers of the folder's messages, in the order in which they came; none where it is absent. No message is read:
+    /// The numbers of the folder's messages, in the order in which they came; none if it is absent. No message is read:
     /// time and memory are linear in the answer.
     pub fn numbers(&mut self, user: &[u8], folder: &[u8]) -> Result<List<u64>, Refusal>
         ensures numbers { ReadsOwn user.now (AreNumbersOf user.now folder.now) (state S.Store self.old) (state S.Store self.new) result }
@@ -35,7 +35,7 @@ impl<S: Alter> Store<S> {
         self.numbers_of(user, folder)
     }
 
-    /// The same of an account that was entered.
+    /// The same for an account that was entered.
     fn numbers_of(&mut self, user: &[u8], folder: &[u8]) -> Result<List<u64>, Refusal>
         ensures finds { FindsAmong user.now (AreNumbersOf user.now folder.now) (state S.Store self.old) (state S.Store self.new) result }
         ensures named { IfErr result IsTransient }

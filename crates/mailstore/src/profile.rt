@@ -1,14 +1,14 @@
-//! What the store answers of an account.
+//! What the store returns of an account.
 ghost use Rattle.std.specs.Prelude.{◌≡◌, ◌==◌, ◌&&◌, length};
 
 use octets::Octets;
 
-/// The account's address, what its password is tested against, and the name of its active script.
+/// The account's address, its stored password, and the name of its active script.
 #[derive(Debug, Drop)]
 pub struct Profile {
     pub address: Octets,
     pub salt: Octets,
-    /// How often the password was digested; a closed account has no rounds.
+    /// How many times the password was digested; a closed account has no rounds.
     pub rounds: u32,
     pub digest: Octets,
     pub active: Option<Octets>,

@@ -4,13 +4,13 @@ use std::alloc::{AllocError, AllocFailed};
 use thiserror::Error as Derived;
 
 /// The refusals of the store and of the engine above it. `Memory` and `Store` may come at any call;
-/// each other one has its cause in the arguments or in what the store holds.
+/// the others have their cause in the arguments or in what the store holds.
 #[derive(Clone, Copy, Debug, PartialEq, Eq, Derived)]
 pub enum Refusal {
     /// Memory ran out.
     #[error("out of memory")]
     Memory,
-    /// The disk failed or is full, a number would not fit, or a statement was refused.
+    /// The disk failed or is full, a number doesn't fit, or a statement was refused.
     #[error("store failed")]
     Store,
     /// The tables or their version are not those of this store.
@@ -46,17 +46,17 @@ pub enum Refusal {
     /// The user has messages in folders, or on their way out.
     #[error("user has mail")]
     UserHasMail,
-    /// The name is none that a script may have.
+    /// No script may have the name.
     #[error("bad script name")]
     BadScriptName,
     /// The script has more than 262,144 octets.
     #[error("script too large")]
     ScriptTooLarge,
-    /// The user has 32 scripts, and none of the name.
+    /// The user has 32 scripts, and none with the name.
     #[error("too many scripts")]
     TooManyScripts,
-    /// The account of a text is none that may be kept: its name is no user's name, its address is no addr-spec, a script isn't
-    /// valid or is too large, the name of one is none that a script may have, or there are too many.
+    /// The account in a text can't be kept: its name is no user's name, its address is no addr-spec, a script isn't
+    /// valid or is too large, has a name that no script may have, or there are too many.
     #[error("bad account")]
     BadAccount,
 }

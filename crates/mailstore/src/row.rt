@@ -1,4 +1,4 @@
-//! Values that the rows of a query show.
+//! Values in the rows of a query.
 ghost use Rattle.std.specs.Prelude.{◌≡◌, false, option_map, slice_get, IfOk, IfErr};
 ghost use Rattle.sqlite_value.specs.Order.{Row};
 ghost use Rattle.sqlite.specs.Values.{bound};
@@ -23,13 +23,13 @@ pub trait FromRow: Drop {
     /// The cells that show the value.
     ghost shows: { Self → Row };
 
-    /// The value that the row shows. Lack of memory, or a cell of another type, is the only refusal.
+    /// The value in the row. Lack of memory, or a cell of another type, is the only refusal.
     fn from_row(row: &Row) -> Result<Self, Refusal>
         ensures shown { IfOk result (λ value. shows value ≡ cells_of row.now) }
         ensures named { IfErr result IsTransient };
 }
 
-/// The value that the first row shows, if there is a row.
+/// The value in the first row, if there is a row.
 pub fn first_from_row<T: FromRow>(rows: &[Row]) -> Result<Option<T>, Refusal>
     ensures ok { IfOk result (λ first. option_map T.shows first ≡ option_map T.cells_of (slice_get rows.now 0)) }
     ensures named { IfErr result IsTransient }
@@ -43,7 +43,7 @@ pub fn first_from_row<T: FromRow>(rows: &[Row]) -> Result<Option<T>, Refusal>
     }
 }
 
-/// The values that the rows of the query's answer show, in their order. Each row is read where it stands: no list of rows
+/// The values in the rows of the query's answer, in their order. The rows are read one by one: no list of them
 /// is made. Outside a transaction.
 pub fn read_each<S: Alter, T: FromRow>(
     alloc: Global,
@@ -55,7 +55,7 @@ pub fn read_each<S: Alter, T: FromRow>(
     requires plain { IsPlain (understood mail_schema sql.now) }
     ensures { Queries S.Store (ReadsEach T.shows T.cells_of sql.now (bound params.now)) conn.old conn.new result }
 {
-    // Outside a transaction what is seen is what was committed, which this call tells.
+    // Outside a transaction what is seen is what was committed, as this call states.
     let _settled = conn.is_autocommit();
     let mut all = Vec::new(alloc);
     let mut rows = conn.query(sql, params)?;
@@ -65,6 +65,6 @@ pub fn read_each<S: Alter, T: FromRow>(
         };
         all.push(T::from_row(row)?)?;
     }
-    // No answer has so many rows.
+    // No answer has that many rows.
     Err(Refusal::Store)
 }

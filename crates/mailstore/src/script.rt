@@ -32,7 +32,7 @@ fn find_script<S: Alter>(
     )
 }
 
-/// One name in place of another, where it is the active script's.
+/// The other name, if this one is the active script's.
 fn active_renamed<'a>(active: Option<&'a Octets>, name: &[u8], other: &'a [u8]) -> Option<&'a [u8]>
     ensures { contents result ≡ option_map (other_name name.now other.now) (contents active.entry) }
 {
@@ -46,7 +46,7 @@ fn active_renamed<'a>(active: Option<&'a Octets>, name: &[u8], other: &'a [u8]) 
 }
 
 impl<S: Alter> Store<S> {
-    /// The text of the script; none where no script has the name.
+    /// The text of the script; `None` if no script has the name.
     pub fn script(&mut self, user: &[u8], name: &[u8]) -> Result<Option<Octets>, Refusal>
         ensures { Reads user.now (λ text a. text ≡ get a.scripts name.now) (state S.Store self.old) (state S.Store self.new) result }
     {
@@ -54,7 +54,7 @@ impl<S: Alter> Store<S> {
         self.script_of(user, name)
     }
 
-    /// The same of an account that was entered.
+    /// The same for an account that was entered.
     pub fn script_of(&mut self, user: &[u8], name: &[u8]) -> Result<Option<Octets>, Refusal>
         ensures { ReadsEntered user.now (λ text a. text ≡ get a.scripts name.now) (state S.Store self.old) (state S.Store self.new) result }
     {
@@ -70,7 +70,7 @@ impl<S: Alter> Store<S> {
         self.scripts_of(user)
     }
 
-    /// The same of an account that was entered.
+    /// The same for an account that was entered.
     pub fn scripts_of(&mut self, user: &[u8]) -> Result<Texts, Refusal>
         ensures { ReadsEntered user.now (λ names a. names ≡ keys a.scripts) (state S.Store self.old) (state S.Store self.new) result }
     {
@@ -82,8 +82,8 @@ impl<S: Alter> Store<S> {
         )
     }
 
-    /// Keeps the script under the name, in place of one that has it. What comes of a user without an
-    /// account is left open but for the tables' rules, which SQLite keeps.
+    /// Stores the script under the name, in place of one that has it. What happens for a user without an
+    /// account isn't specified, except that SQLite keeps the tables' constraints.
     pub fn put_script(&mut self, user: &[u8], name: &[u8], text: &[u8]) -> Result<(), Refusal>
         ensures { WritesUser user.now (keeps_script name.now text.now) (state S.Store self.old) (state S.Store self.new) result }
     {
@@ -97,7 +97,7 @@ impl<S: Alter> Store<S> {
         ])
     }
 
-    /// Keeps the script under the name, in place of one that has it, and makes it the active one.
+    /// Stores the script under the name, in place of one that has it, and makes it the active one.
     pub fn put_active(&mut self, user: &[u8], name: &[u8], text: &[u8]) -> Result<(), Refusal>
         ensures { WritesUser user.now (keeps_active name.now text.now) (state S.Store self.old) (state S.Store self.new) result }
     {
@@ -115,15 +115,15 @@ impl<S: Alter> Store<S> {
         ])
     }
 
-    /// The script is no longer kept. That a script has the name and isn't the active one is for the
-    /// caller to see.
+    /// Deletes the script. The caller has to see to it that a script has the name and isn't the active
+    /// one.
     pub fn delete(&mut self, user: &[u8], name: &[u8]) -> Result<(), Refusal>
         ensures { WritesUser user.now (deletes_script name.now) (state S.Store self.old) (state S.Store self.new) result }
     {
         self.apply(&[Change::RemoveScript { owner: user, name }])
     }
 
-    /// The text of the script and the name of the active one, where there are such.
+    /// The text of the script and the name of the active one, if there are any.
     fn text_and_active(
         &mut self,
         user: &[u8],
@@ -136,7 +136,7 @@ impl<S: Alter> Store<S> {
         Ok((text, profile.active))
     }
 
-    /// The text stands under the other name, where there is one, and another script is active, or none.
+    /// Writes the text under the other name, if there is a text, and makes another script active, or none.
     fn write_renamed<'a>(
         &mut self,
         user: &'a [u8],
@@ -165,8 +165,8 @@ impl<S: Alter> Store<S> {
         ])
     }
 
-    /// The script has another name, and stays active where it was. That a script has the name and none has the other
-    /// one is for the caller to see: one that has it is replaced. Its text is in memory once.
+    /// Gives the script another name; it stays active if it was. The caller has to see to it that a script has the name and none
+    /// has the other one: that one would be replaced. The text is in memory once.
     pub fn rename(&mut self, user: &[u8], name: &[u8], other: &[u8]) -> Result<(), Refusal>
         ensures { WritesAccount user.now (renames_script name.now other.now) (state S.Store self.old) (state S.Store self.new) result }
     {

@@ -20,7 +20,7 @@ use std::marker::Model;
 /// Accounts with their scripts, messages, queue, replies and notices, in an SQL database.
 ///
 /// Each write is one transaction: after a refusal the store stays as it was. No transaction is open
-/// between two calls. Dropping it drops the connection, which leaves the log beside a file; to have all in the one
+/// between two calls. Dropping the store drops the connection, which leaves the log beside a file; to have all in the one
 /// file, `release` the connection and close it.
 pub struct Store<S: Alter> {
     pub(crate) conn: Connection<S>,
@@ -55,8 +55,8 @@ impl<S: Alter + Drop> Drop for Store<S> {
 impl<S: Alter> Store<S> {
     /// Makes the tables in an empty database.
     ///
-    /// A database where a table has one of our names is `NotOurs`, any other that is not empty is
-    /// `Store`. The connection comes back beside a refusal, with its tables as they are.
+    /// `NotOurs` if a table of the database has one of our names, `Store` if the database isn't empty for another
+    /// reason. With a refusal the connection comes back, with its tables as they are.
     pub fn create(
         alloc: Global,
         mut conn: Connection<S>,
@@ -94,11 +94,11 @@ impl<S: Alter> Store<S> {
 
     /// Opens a database that `create` made, of this version or of an earlier one.
     ///
-    /// Where its tables are not exactly ours, or have no row of their version, it is `NotOurs`. Version 3 stays as it is, and no table
-    /// but that of the version is read. Version 2, with the index of the copies by their messages or without it, as it was made before
-    /// there was one, and version 1 become version 3 in one transaction, which takes time and memory in proportion to all copies; of
-    /// version 1, where the copies come before the queue, the replies and the notices, to these too. A copy of theirs has no flags. The
-    /// connection comes back beside a refusal, with its tables as they are.
+    /// `NotOurs` if its tables are not exactly ours, or have no row of their version. Version 3 stays as it is, and only the table
+    /// of the version is read. Version 2, with the index of the copies by their messages or without it, as it was made before
+    /// there was one, and version 1 become version 3 in one transaction. It takes time and memory in proportion to all copies; for
+    /// version 1 with the copies before the queue, the replies and the notices, to these too. Their copies have no flags. With a
+    /// refusal the connection comes back, with its tables as they are.
     pub fn open(
         alloc: Global,
         mut conn: Connection<S>,
@@ -135,7 +135,7 @@ impl<S: Alter> Store<S> {
         }
     }
 
-    /// Makes the changes in turn, in one transaction: all of them, or none.
+    /// Makes the changes in order, in one transaction: all of them, or none.
     pub(crate) fn apply(&mut self, changes: &[Change<'_>]) -> Result<(), Refusal>
         ensures made { MakesAll changes.now (state S.Store self.old) (state S.Store self.new) result }
         ensures settled { HasCleanDisk (state S.Store self.new) → OnOk result (IsSettled (state S.Store self.new)) }
@@ -151,8 +151,8 @@ impl<S: Alter> Store<S> {
         Ok(())
     }
 
-    /// What SQLite said of the last write, where that was refused as `Store`. None after any other one, and where SQLite said
-    /// nothing of it. Only that it never says that memory ran out is in a clause: contracts see the connection alone.
+    /// What SQLite said of the last write, if that was refused as `Store`. `None` after any other write, and if SQLite said
+    /// nothing of it. A clause says only that it is never lack of memory: contracts see the connection alone.
     pub fn cause(&self) -> Option<ErrorCode>
         ensures { IsStoreCause result }
     {
@@ -172,7 +172,7 @@ impl<S: Alter> Store<S> {
     }
 }
 
-/// What SQLite says of a failure that is answered as `Store`; none of one that is answered as `Memory`.
+/// What SQLite says of a failure that is answered as `Store`; `None` for one that is answered as `Memory`.
 fn cause_of(error: &Error) -> Option<ErrorCode>
     ensures { IsCauseIn (code_in error.now) result }
 {

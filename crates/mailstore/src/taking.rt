@@ -1,4 +1,4 @@
-//! The first message of a folder: what it is, and how it leaves.
+//! The first message of a folder, and how it is taken out.
 ghost use Rattle.std.specs.Prelude.{IfOk, IfErr};
 ghost use Rattle.sqlite.specs.Held.{state};
 ghost use Rattle.mailstore.specs.Account.{takes_mail};
@@ -24,7 +24,7 @@ pub struct NumberedMessage {
     pub number: u64,
     /// The octets that were received.
     pub message: Octets,
-    /// The text that names the copy's flags (RFC 5232); empty where it has none.
+    /// The text that names the copy's flags (RFC 5232); empty if it has none.
     pub flags: Octets,
 }
 
@@ -32,11 +32,11 @@ pub struct NumberedMessage {
 #[derive(Drop)]
 struct Leaving {
     copy: Filing,
-    /// Whether another copy of its message is there, so that the message stays.
+    /// Whether there is another copy of its message, so that the message stays.
     is_shared: bool,
 }
 
-/// The changes that take the copy out of the user's folder; none where there is none.
+/// The changes that take the copy out of the user's folder; none if there is no copy.
 fn taking_changes<'a>(
     alloc: Global,
     user: &'a [u8],
@@ -65,7 +65,7 @@ fn taking_changes<'a>(
 }
 
 impl<S: Alter> Store<S> {
-    /// The folder's message after that many with its number, as the user's rows have them; none where there are no more. Of an
+    /// The folder's message after that many with its number, as in the user's rows; `None` if there are no more. For an
     /// account that was entered.
     pub(crate) fn nth_numbered_of(
         &mut self,
@@ -87,7 +87,7 @@ impl<S: Alter> Store<S> {
         }))
     }
 
-    /// The first message of the folder, which came before the others, with the number of its copy and its flags; none where the
+    /// The first message of the folder, the one that came first, with the number of its copy and its flags; `None` if the
     /// folder is absent. No other message and no other copy is read; memory is in proportion to it.
     pub fn first_message(
         &mut self,
@@ -101,7 +101,7 @@ impl<S: Alter> Store<S> {
         self.nth_numbered_of(user, folder, 0)
     }
 
-    /// The same of an account that was entered.
+    /// The same for an account that was entered.
     pub fn first_message_of(
         &mut self,
         user: &[u8],
@@ -113,7 +113,7 @@ impl<S: Alter> Store<S> {
         self.nth_numbered_of(user, folder, 0)
     }
 
-    /// The folder's first copy, and whether another copy of its message is there; none where the folder is absent. Of an
+    /// The folder's first copy, and whether there is another copy of its message; `None` if the folder is absent. For an
     /// account that was entered.
     fn first_leaving_of(&mut self, user: &[u8], folder: &[u8]) -> Result<Option<Leaving>, Refusal>
         ensures finds { FindsAmong user.now (IsLeaving user.now folder.now) (state S.Store self.old) (state S.Store self.new) result }
@@ -126,9 +126,9 @@ impl<S: Alter> Store<S> {
         Ok(Some(Leaving { copy, is_shared }))
     }
 
-    /// Takes the first message out of the folder of a user whose account was entered, in one transaction: its copy goes, its
-    /// row with the last copy of it, and the folder with its last message. The numbers are not used again. That the folder has
-    /// a message is for the caller to see: without one nothing changes. The copy is found by its key, and no message and no
+    /// Takes the first message out of the folder of a user whose account was entered, in one transaction: removes its copy, its
+    /// row if that was the last copy of it, and so the folder if that was its last message. The numbers are not used again. The caller has
+    /// to see to it that the folder has a message: without one nothing changes. The copy is found by its key, and no message and no
     /// copy but another one of the same message is read.
     ///
     /// # Errors

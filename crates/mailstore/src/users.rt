@@ -1,4 +1,4 @@
-//! The users who have an account, one after another.
+//! The users who have an account, one after the other.
 ghost use Rattle.std.specs.Prelude.{◌≡◌, false, IfErr};
 ghost use Rattle.sqlite.specs.Held.{state};
 ghost use Rattle.mailtables.specs.Connection.{Queries};
@@ -26,8 +26,8 @@ fn find_later_user<S: Alter>(conn: &mut Connection<S>, name: &[u8]) -> Result<Ve
 }
 
 impl<S: Alter> Store<S> {
-    /// The first user after this name, in the order of octets, whether or not the name has an account; one whose account is
-    /// closed or was removed is among them. One row is found by its key. The first of all comes after the empty name, which
+    /// The first user after this name, in the order of octets, whether or not the name has an account; users whose account is
+    /// closed or was removed are included. One row is found by its key. The first of all comes after the empty name, which
     /// no account that was added has.
     ///
     /// # Errors

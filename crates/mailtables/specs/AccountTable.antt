@@ -43,7 +43,7 @@ account = keyed (codes "account") account_tree (1 ∷ []) []
     (needed (codes "name") kind.Blob ∷ needed (codes "address") kind.Blob ∷ needed (codes "salt") kind.Blob ∷ needed (codes "rounds") kind.Integer ∷ needed (codes "digest") kind.Blob
     ∷ maybe (codes "active") kind.Blob ∷ needed (codes "next_copy") kind.Integer ∷ needed (codes "next_out") kind.Integer ∷ needed (codes "next_notice") kind.Integer ∷ [])
 
--- `REFERENCES account (name)` at the first column
+-- `REFERENCES account (name)` on the first column
 abbrev pub account_reference : Reference
 account_reference = record { columns = 1 ∷ []; parent = codes "account"; parent_columns = codes "name" ∷ []; on_delete = NoAction; on_update = NoAction; is_deferred = false }
 
@@ -104,7 +104,7 @@ with_address address cells =
     column cells 0 ∷ Blob address ∷ column cells salt_column ∷ column cells rounds_column ∷ column cells digest_column
     ∷ column cells active_column ∷ column cells next_copy_column ∷ column cells next_out_column ∷ column cells next_notice_column ∷ []
 
--- with another password, as it is kept
+-- with another stored password
 abbrev pub with_password : List ℕ → ℕ → List ℕ → Row → Row
 with_password salt rounds digest cells =
     column cells 0 ∷ column cells address_column ∷ Blob salt ∷ Int (pos rounds) ∷ Blob digest

@@ -1,4 +1,4 @@
--- What row changes make of the tables.
+-- How row changes change the tables.
 use Rattle.std.specs.Prelude.{◌≡◌, ℕ, ℤ, Option, List, [], ◌∷◌, fold, Result, OnOk}
 use Rattle.std.specs.List.{AllByRecursion}
 use Rattle.sqlite_value.specs.declared.value.Value.TheVariants.{Blob}
@@ -144,16 +144,16 @@ owner_of (AddNotice owner id moment text) = owner.now
 owner_of (RemoveNotices owner) = owner.now
 owner_of (RemoveEarlyNotices owner until) = owner.now
 
--- all changes are one user's
+-- all changes are of one user
 abbrev pub AreOf : List ℕ → List Change → Type 0
 AreOf user = AllByRecursion (λ d. owner_of d ≡ user)
 
--- the changes are one user's, and make this of the tables beside what the earlier ones made
+-- the changes are of one user, and change the tables like this after what the earlier ones made
 pub record Extends (user : List ℕ) (change : Tables → Tables) (earlier changes : List Change) : Type 0 where
   pub owned : AreOf user earlier → AreOf user changes
   pub makes : (own : Tables) → made own changes ≡ change (made own earlier)
 
--- the change is one user's, and makes this of the tables
+-- the change is of one user, and changes the tables like this
 pub record MakesOwn (user : List ℕ) (change : Tables → Tables) (one : Change) : Type 0 where
   pub owned : owner_of one ≡ user
   pub makes : (own : Tables) → made_one one own ≡ change own

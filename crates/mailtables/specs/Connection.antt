@@ -1,4 +1,4 @@
--- What a call leaves of a connection: after Ok, after a refusal, and where a crash comes.
+-- What a call leaves of a connection: after Ok, after a refusal, and after a crash.
 use Rattle.std.specs.Prelude.{◌≡◌, ◌⊎◌, ◌≤◌, ◌||◌, ℕ, Bool, true, false, List, [], codes, is_some, Result, Vec, Ok, Err, OnOk, IfOk, IfErr, IsTrue}
 use Rattle.std.specs.declared.alloc.Global.{Global}
 use Rattle.sqlite_value.specs.Order.{Row}
@@ -26,7 +26,7 @@ pub record RunsInside {S X : Type 0} (g : Ghosts S) (Run : State → State → R
   pub made : HasCleanDisk (state g new.conn.now) → IsTrue (state g old.conn.now).in_transaction → Run (state g old.conn.now) (state g new.conn.now) result
   pub survives : Survives (state g old.conn.now) (state g new.conn.now) (λ _. ⊥)
 
--- the statement of this text ran or failed; how many rows it changed is not told
+-- the statement of this text ran or failed; how many rows it changed isn't said
 abbrev pub RunsText : {X : Type 0} → List ℕ → Row → State → State → Result X Error → Type 0
 RunsText sql params old new (Ok x) = (count : ℕ) × ExecutesInside 0 sql params old new (Ok count)
 RunsText sql params old new (Err e) = ExecutesInside 0 sql params old new (Err e)
@@ -43,7 +43,7 @@ TurnsRows change old new = (tables : Tables) → HoldsTables mail_schema old tab
 abbrev pub HasNoneFrom : ℕ → Tables → Type 0
 HasNoneFrom n tables = (tree : ℕ) → n ≤ tree → tables tree ≡ []
 
--- where the schema was the first one, it is then the next: the tables that were there hold what they held, and the new ones hold nothing
+-- if the schema was the first one, it is then the next: the tables that were there hold what they held, and the new ones hold nothing
 abbrev pub TurnsSchema : Schema → Schema → Database → Database → Type 0
 TurnsSchema schema next old new = (tables : Tables) → HoldsTables schema old tables → HasNoneFrom (next_tree schema) tables → HoldsTables next new tables
 
@@ -64,7 +64,7 @@ pub record SeesCommit (s : State) : Type 0 where
   pub is_open : IsTrue s.is_open
   pub same : s.now ≡ s.committed
 
--- the connection is open, sees its last commit, and a crash leaves that alone
+-- the connection is open, sees its last commit, and a crash leaves only that
 pub record IsSettled (s : State) : Type 0 where
   pub is_open : IsTrue s.is_open
   pub same : s.now ≡ s.committed
@@ -97,7 +97,7 @@ pub record Queries {S X E : Type 0} (g : Ghosts S) (Found : State → State → 
   pub limit : new.step_limit ≡ old.step_limit
   pub finds : Found (state g old) (state g new) result
 
--- the answer to the query of this text, over a connection that, where it is open, sees its last commit
+-- the answer to the query of this text, over a connection that, if it is open, sees its last commit
 pub record Answers (sql : List ℕ) (params : Row) (old new : State) (result : Result (Vec Row Global) Error) : Type 0 where
   pub settled : IsTrue old.is_open → old.now ≡ old.committed
   pub ok : HasCleanDisk new → IfOk result (λ rows. Shown sql params old new rows.items)

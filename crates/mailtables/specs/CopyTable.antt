@@ -1,4 +1,4 @@
--- The table of the copies of messages, which are the folders: a row says which message a folder has, and with which flags (RFC 5232).
+-- The table of the copies of messages, which make up the folders: a row says which message a folder has, and with which flags (RFC 5232).
 use Rattle.std.specs.Prelude.{false, ℕ, ◌+◌, ℤ, List, [], ◌∷◌, codes}
 use Rattle.sqlite_schema.specs.declared.schema.Action.TheVariants.{NoAction}
 use Rattle.sqlite_schema.specs.declared.schema.Kind.TheVariants as kind
@@ -28,7 +28,7 @@ id_column = 3
 abbrev pub flags_column : ℕ
 flags_column = 4
 
--- `REFERENCES message (owner, id)` at the columns of the owner and of the message's number
+-- `REFERENCES message (owner, id)` on the columns of the owner and of the message's number
 abbrev pub message_reference : Reference
 message_reference = record { columns = 1 ∷ 4 ∷ []; parent = codes "message"; parent_columns = codes "owner" ∷ codes "id" ∷ []; on_delete = NoAction; on_update = NoAction; is_deferred = false }
 
@@ -73,7 +73,7 @@ select_numbers = codes "SELECT n FROM copy WHERE owner = ?1 AND folder = ?2 ORDE
 abbrev pub select_other : List ℕ
 select_other = codes "SELECT n FROM copy WHERE owner = ?1 AND id = ?2 AND n <> ?3 LIMIT 1"
 
--- where the first copy is with a higher number in the folder; in a later folder of the user; of a later user
+-- the place of the first copy with a higher number in the folder; in a later folder of the user; of a later user
 abbrev pub select_later_number : List ℕ
 select_later_number = codes "SELECT owner, folder, n FROM copy WHERE owner = ?1 AND folder = ?2 AND n > ?3 ORDER BY owner, folder, n LIMIT 1"
 

@@ -1,4 +1,4 @@
--- The table of the messages that folders have: each is kept once.
+-- The table of the messages in folders: each is stored once.
 use Rattle.std.specs.Prelude.{ℕ, ℤ, List, [], ◌∷◌, codes}
 use Rattle.sqlite_schema.specs.declared.schema.Kind.TheVariants as kind
 use Rattle.sqlite_schema.specs.declared.schema.Table.{Table}

@@ -12,7 +12,7 @@ use Rattle.mailtables.specs.Rows.{has_key_from}
 abbrev pub meta_tree : ℕ
 meta_tree = 0
 
--- the place of the number in a row with its rowid
+-- the index of the number in a row with its rowid
 abbrev pub stored_value_column : ℕ
 stored_value_column = 2
 

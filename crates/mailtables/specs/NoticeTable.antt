@@ -36,6 +36,6 @@ notice_row_cells owner id moment text = Blob owner ∷ Int id ∷ Int moment ∷
 abbrev pub notice_moment_column : ℕ
 notice_moment_column = 2
 
--- the owner's notice, from this moment or before
+-- the owner's notice, of this moment or before
 abbrev pub is_early_notice : List ℕ → ℤ → Row → Bool
 is_early_notice owner until cells = has_key (Blob owner ∷ []) cells && at_most (column cells notice_moment_column) (Int until)

@@ -42,10 +42,11 @@ MayCreate s trees = s.now.schema ≡ no_schema → (db : Database) × HoldsTable
 
 -- ---- a database that is opened
 
--- what opening makes of a database that is ours: it stays as it is
+-- how opening changes a database that is ours: it stays as it is
 abbrev pub IsOpenedAs : Database → Database → Type 0
 IsOpenedAs old new = new ≡ old
 
--- a database of our tables is opened: the answer says whether it is ours; all stays as it was, a crash leaves what it left before, and after an answer the last commit is seen
+-- a database of our tables is opened: the answer says whether it is ours; all stays as it was, a crash leaves what it left before, and after
+-- an answer the last commit is seen
 abbrev pub Opens : {E : Type 0} → State → State → Result Bool E → Type 0
 Opens old new result = Asks IsOurSchema (λ is. IsTrue is ↔ IsOurs old.now) old new result

@@ -42,7 +42,7 @@ delete_outgoing = codes "DELETE FROM outgoing WHERE owner = ?1 AND id = ?2"
 abbrev pub delete_queue : List ℕ
 delete_queue = codes "DELETE FROM outgoing WHERE owner = ?1"
 
--- the queue goes out in the order of its numbers
+-- the queue is sent in the order of its numbers
 abbrev pub select_queue : List ℕ
 select_queue = codes "SELECT id, kind, sender, target, message FROM outgoing WHERE owner = ?1 ORDER BY id"
 

@@ -27,7 +27,7 @@ delete_reply = codes "DELETE FROM reply WHERE owner = ?1 AND handle = ?2 AND sen
 abbrev pub select_moment : List ℕ
 select_moment = codes "SELECT moment FROM reply WHERE owner = ?1 AND handle = ?2 AND sender = ?3"
 
--- the replies to one sender stand in the order of the octets of their handles' keys
+-- the replies to one sender are in the order of the octets of their handles' keys
 abbrev pub select_replies : List ℕ
 select_replies = codes "SELECT handle, moment FROM reply WHERE owner = ?1 AND sender = ?2 ORDER BY handle"
 

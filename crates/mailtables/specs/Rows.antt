@@ -30,7 +30,7 @@ cells_of e = e.1
 abbrev pub stored : Entry → Row
 stored e = Int (id_of e) ∷ cells_of e
 
--- the rows of a tree are these cells, in the order of rowids that rise
+-- the rows of a tree are these cells, in the order of ascending rowids
 pub record IsHeld (rows : List Row) (cells : List Row) : Type 0 where
   pub entries : List Entry
   pub keyed : IsKeyedBy id_of entries
@@ -47,7 +47,7 @@ pub record HoldsTables (schema : Schema) (db : Database) (tables : Tables) : Typ
   pub fits : Fits schema db.trees
   pub each : (t : Table) → Has schema.tables t → IsHeld (db.trees t.tree) (tables t.tree)
 
--- the columns from a place on are equal to the key, as by SQL's =
+-- the columns from an index on are equal to the key, as by SQL's =
 abbrev pub has_key_from : ℕ → Row → Row → Bool
 has_key_from at [] cells = true
 has_key_from at (k ∷ key) cells = equal Binary (column cells at) k && has_key_from (suc at) key cells
@@ -64,11 +64,11 @@ at_most a b = is_true (binary (Compare Le Binary) a b)
 abbrev pub added : ℕ → Row → Tables → Tables
 added tree cells tables = with_tree tables tree (tables tree ++ cells ∷ [])
 
--- the rows that pass are taken out
+-- the rows that fulfil this are removed
 abbrev pub removed_where : ℕ → (Row → Bool) → Tables → Tables
 removed_where tree test tables = with_tree tables tree (delete_where test (tables tree))
 
--- the rows that begin with the key are taken out, if there are some: where it is a whole key one at most
+-- the rows that begin with the key are removed, if there are any: if it is a whole key, at most one
 abbrev pub removed : ℕ → Row → Tables → Tables
 removed tree key = removed_where tree (has_key key)
 

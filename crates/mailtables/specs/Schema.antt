@@ -46,7 +46,7 @@ mail_schema = record { tables = the_tables; indexes = the_indexes; views = [] }
 abbrev pub IsOurSchema : Schema → Type 0
 IsOurSchema schema = schema ≡ mail_schema
 
--- the schema once the first tables are made
+-- the schema after the first tables are made
 abbrev pub schema_1 : Schema
 schema_1 = created no_schema (record meta { tree = 0 })
 

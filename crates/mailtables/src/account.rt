@@ -18,7 +18,7 @@ pub(crate) fn make_account<S: Alter>(tx: &mut Transaction<'_, S>) -> Result<(), 
     )
 }
 
-/// A new account without an active script, whose counters begin at 1. Inside a transaction.
+/// Adds an account without an active script, whose counters begin at 1. Inside a transaction.
 pub(crate) fn add_account<S: Alter>(
     tx: &mut Transaction<'_, S>,
     name: &[u8],
@@ -36,7 +36,7 @@ pub(crate) fn add_account<S: Alter>(
     )
 }
 
-/// Another script is active, or none. Inside a transaction.
+/// Makes another script active, or none. Inside a transaction.
 pub(crate) fn set_active<S: Alter>(
     tx: &mut Transaction<'_, S>,
     name: &[u8],
@@ -51,7 +51,7 @@ pub(crate) fn set_active<S: Alter>(
     )
 }
 
-/// Other counters: of copies, of messages on their way out, and of notices. Inside a transaction.
+/// Sets the counters of copies, of messages on their way out, and of notices. Inside a transaction.
 pub(crate) fn set_counters<S: Alter>(
     tx: &mut Transaction<'_, S>,
     name: &[u8],
@@ -68,7 +68,7 @@ pub(crate) fn set_counters<S: Alter>(
     )
 }
 
-/// Another address. Inside a transaction.
+/// Sets the address. Inside a transaction.
 pub(crate) fn set_address<S: Alter>(
     tx: &mut Transaction<'_, S>,
     name: &[u8],
@@ -83,7 +83,7 @@ pub(crate) fn set_address<S: Alter>(
     )
 }
 
-/// Another password, as it is kept. Inside a transaction.
+/// Sets the stored password. Inside a transaction.
 pub(crate) fn set_password<S: Alter>(
     tx: &mut Transaction<'_, S>,
     name: &[u8],
@@ -100,7 +100,7 @@ pub(crate) fn set_password<S: Alter>(
     )
 }
 
-/// Other rounds of the password; its salt and digest stay. Inside a transaction.
+/// Sets the rounds of the password; its salt and digest stay. Inside a transaction.
 pub(crate) fn set_rounds<S: Alter>(
     tx: &mut Transaction<'_, S>,
     name: &[u8],

@@ -1,4 +1,4 @@
-//! One row change, and a list of them in one transaction.
+//! Changes of rows, and a list of them in one transaction.
 ghost use Rattle.std.specs.Prelude.{◌≡◌, false, OnOk, OnErr};
 ghost use Rattle.sqlite.specs.Held.{state};
 ghost use Rattle.mailtables.specs.Changes.{MakesAll, CrashLeavesTables, made_one};
@@ -214,7 +214,7 @@ fn make<S: Alter>(tx: &mut Transaction<'_, S>, change: &Change<'_>) -> Result<()
     }
 }
 
-/// Makes the changes in turn, in one transaction: all of them, or none.
+/// Makes the changes in order, in one transaction: all of them, or none.
 pub fn make_all<S: Alter>(conn: &mut Connection<S>, changes: &[Change<'_>]) -> Result<(), Error>
     requires { conn.old.in_transaction ≡ false }
     ensures ended { conn.new.in_transaction ≡ false }

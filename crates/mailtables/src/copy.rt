@@ -1,4 +1,4 @@
-//! The table of the copies of messages, which are the folders.
+//! The table of the copies of messages, which make up the folders.
 ghost use Rattle.mailtables.specs.Changes.{owned_removed, copy_added, copy_removed};
 ghost use Rattle.mailtables.specs.CopyTable.{copy_tree};
 ghost use Rattle.mailtables.specs.Connection.{ChangesRows, MakesTables};
@@ -18,16 +18,16 @@ pub(crate) fn make_copy<S: Alter>(tx: &mut Transaction<'_, S>) -> Result<(), Err
     )
 }
 
-/// Makes the index of the copies by their messages, by which SQLite asks whether a message that goes is still referred to.
-/// Inside a transaction.
+/// Makes the index of the copies by their messages, with which SQLite finds out whether a message that is removed is still
+/// referred to. Inside a transaction.
 pub(crate) fn make_copy_message<S: Alter>(tx: &mut Transaction<'_, S>) -> Result<(), Error>
     ensures { MakesTables S.Store schema_8 mail_schema tx.old tx.new result }
 {
     execute(tx, "CREATE INDEX copy_message ON copy (owner, id)", &[])
 }
 
-/// A copy in a folder, with its number, of the message with the number `id`, which is there; `flags` is the text that names its
-/// flags. Inside a transaction.
+/// Adds a copy in a folder, with its number, of the message with the number `id`, which is there; `flags` is the text that names
+/// its flags. Inside a transaction.
 pub fn add_copy<S: Alter>(
     tx: &mut Transaction<'_, S>,
     owner: &[u8],
@@ -45,7 +45,7 @@ pub fn add_copy<S: Alter>(
     )
 }
 
-/// The copy with the number goes from the folder, if there is one. Inside a transaction.
+/// Removes the copy with the number from the folder, if there is one. Inside a transaction.
 pub(crate) fn remove_copy<S: Alter>(
     tx: &mut Transaction<'_, S>,
     owner: &[u8],
@@ -61,7 +61,7 @@ pub(crate) fn remove_copy<S: Alter>(
     )
 }
 
-/// All copies of the owner go. Inside a transaction.
+/// Removes all copies of the owner. Inside a transaction.
 pub(crate) fn remove_copies<S: Alter>(
     tx: &mut Transaction<'_, S>,
     owner: &[u8],

@@ -1,4 +1,4 @@
-//! The table of the messages that folders have: each is kept once.
+//! The table of the messages in folders: each is stored once.
 ghost use Rattle.mailtables.specs.Changes.{owned_removed, message_added, message_removed};
 ghost use Rattle.mailtables.specs.MessageTable.{message_tree};
 ghost use Rattle.mailtables.specs.Connection.{ChangesRows, MakesTables};
@@ -18,7 +18,7 @@ pub(crate) fn make_message<S: Alter>(tx: &mut Transaction<'_, S>) -> Result<(), 
     )
 }
 
-/// A message with its number. Inside a transaction.
+/// Adds a message with its number. Inside a transaction.
 pub fn add_message<S: Alter>(
     tx: &mut Transaction<'_, S>,
     owner: &[u8],
@@ -34,7 +34,7 @@ pub fn add_message<S: Alter>(
     )
 }
 
-/// The row with the number goes, if there is one; no copy may refer to it. Inside a transaction.
+/// Removes the row with the number, if there is one; no copy may refer to it. Inside a transaction.
 pub(crate) fn remove_message<S: Alter>(
     tx: &mut Transaction<'_, S>,
     owner: &[u8],
@@ -49,7 +49,7 @@ pub(crate) fn remove_message<S: Alter>(
     )
 }
 
-/// All messages of the owner go. Inside a transaction.
+/// Removes all messages of the owner. Inside a transaction.
 pub(crate) fn remove_messages<S: Alter>(
     tx: &mut Transaction<'_, S>,
     owner: &[u8],

@@ -18,7 +18,7 @@ pub(crate) fn make_notice<S: Alter>(tx: &mut Transaction<'_, S>) -> Result<(), E
     )
 }
 
-/// A notice with its number. Inside a transaction.
+/// Adds a notice with its number. Inside a transaction.
 pub fn add_notice<S: Alter>(
     tx: &mut Transaction<'_, S>,
     owner: &[u8],
@@ -35,7 +35,7 @@ pub fn add_notice<S: Alter>(
     )
 }
 
-/// All notices of the owner go. Inside a transaction.
+/// Removes all notices of the owner. Inside a transaction.
 pub(crate) fn remove_notices<S: Alter>(
     tx: &mut Transaction<'_, S>,
     owner: &[u8],
@@ -45,7 +45,7 @@ pub(crate) fn remove_notices<S: Alter>(
     execute(tx, "DELETE FROM notice WHERE owner = ?1", params![owner])
 }
 
-/// The owner's notices from this moment or before go. Inside a transaction.
+/// Removes the owner's notices of this moment and before. Inside a transaction.
 pub(crate) fn remove_early_notices<S: Alter>(
     tx: &mut Transaction<'_, S>,
     owner: &[u8],

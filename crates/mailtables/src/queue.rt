@@ -29,7 +29,7 @@ pub(crate) fn make_outgoing<S: Alter>(tx: &mut Transaction<'_, S>) -> Result<(),
     )
 }
 
-/// The number of the kind, as the table has it.
+/// The number of the kind in the table.
 fn number_of(kind: Kind) -> u32
     ensures { result ≡ kind_number kind }
 {
@@ -39,7 +39,7 @@ fn number_of(kind: Kind) -> u32
     }
 }
 
-/// A message that joins the queue, with its number. Inside a transaction.
+/// Adds a message to the queue, with its number. Inside a transaction.
 pub(crate) fn add_outgoing<S: Alter>(
     tx: &mut Transaction<'_, S>,
     owner: &[u8],
@@ -59,7 +59,7 @@ pub(crate) fn add_outgoing<S: Alter>(
     )
 }
 
-/// The row with the number goes, if there is one. Inside a transaction.
+/// Removes the row with the number, if there is one. Inside a transaction.
 pub(crate) fn remove_outgoing<S: Alter>(
     tx: &mut Transaction<'_, S>,
     owner: &[u8],
@@ -74,7 +74,7 @@ pub(crate) fn remove_outgoing<S: Alter>(
     )
 }
 
-/// All rows of the owner go. Inside a transaction.
+/// Removes all rows of the owner. Inside a transaction.
 pub(crate) fn remove_queue<S: Alter>(tx: &mut Transaction<'_, S>, owner: &[u8]) -> Result<(), Error>
     ensures { ChangesRows S.Store (owned_removed outgoing_tree owner.now) tx.old tx.new result }
 {

@@ -17,7 +17,7 @@ pub(crate) fn make_reply<S: Alter>(tx: &mut Transaction<'_, S>) -> Result<(), Er
     )
 }
 
-/// The moment of the last reply to a sender, where none is kept under the handle yet. Inside a transaction.
+/// Adds the moment of the last reply to a sender; none may be stored under the handle yet. Inside a transaction.
 pub fn add_reply<S: Alter>(
     tx: &mut Transaction<'_, S>,
     owner: &[u8],
@@ -34,7 +34,7 @@ pub fn add_reply<S: Alter>(
     )
 }
 
-/// The row of the handle and the sender goes, if there is one. Inside a transaction.
+/// Removes the row of the handle and the sender, if there is one. Inside a transaction.
 pub(crate) fn remove_reply<S: Alter>(
     tx: &mut Transaction<'_, S>,
     owner: &[u8],

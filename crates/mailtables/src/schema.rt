@@ -1,4 +1,4 @@
-//! Whether the tables of a database are ours: those that the texts of `table.rt` make, and no others.
+//! Checks whether the tables of a database are ours: those that the SQL texts in `table.rt` make, and no others.
 ghost use Rattle.std.specs.Prelude.{◌≡◌, ◌↔◌, true, [], ◌∷◌, map, IsTrue};
 ghost use Rattle.sqlite_value.specs.Keys.{plain};
 ghost use Rattle.mailtables.specs.Forms.{needed, maybe, keyed};
@@ -17,7 +17,7 @@ use sqlite_schema::schema::{Action, Column, Index, Kind, Reference, Schema, Tabl
 use sqlite_value::keys::{Collation, Order};
 use sqlite_value::value::{Bytes, Value};
 
-/// A column without a default, whose texts compare octet by octet.
+/// A column without a default, whose texts are compared octet by octet.
 #[derive(Clone, Copy)]
 pub struct Form<'a> {
     pub name: &'a [u8],
@@ -92,7 +92,7 @@ fn are_two_texts(texts: &[Bytes], first: &[u8], last: &[u8]) -> bool
     one.as_slice() == first && other.as_slice() == last
 }
 
-/// Whether this is `REFERENCES account (name)` at the first column.
+/// Whether this is `REFERENCES account (name)` on the first column.
 fn is_to_account(reference: &Reference) -> bool
     ensures { IsTrue result ↔ (reference.now ≡ account_table.account_reference) }
 {
@@ -104,7 +104,7 @@ fn is_to_account(reference: &Reference) -> bool
         && !reference.is_deferred
 }
 
-/// Whether this is `REFERENCES message (owner, id)` at the columns of a copy.
+/// Whether this is `REFERENCES message (owner, id)` on the columns of a copy.
 fn is_to_message(reference: &Reference) -> bool
     ensures { IsTrue result ↔ (reference.now ≡ copy_table.message_reference) }
 {
@@ -116,7 +116,7 @@ fn is_to_message(reference: &Reference) -> bool
         && !reference.is_deferred
 }
 
-/// What the rows of a table refer to.
+/// The tables that the rows of a table refer to.
 #[derive(Clone, Copy)]
 pub enum Parents {
     Nothing,
@@ -156,7 +156,7 @@ fn is_plain(orders: &[Order]) -> bool
     only.digits == 0
 }
 
-/// Whether the table's one key is its primary key, of these places, in the plain order.
+/// Whether the table's only key is its primary key, of these columns, in the plain order.
 fn has_one_key(table: &Table, primary: &[usize]) -> bool
     ensures { IsTrue result ↔ (table.now.primary ≡ primary.now) × (table.now.uniques ≡ primary.now ∷ []) × (table.now.orders ≡ plain ∷ []) }
 {
@@ -165,7 +165,7 @@ fn has_one_key(table: &Table, primary: &[usize]) -> bool
         && is_plain(table.orders.as_slice())
 }
 
-/// Whether no rule stands at the table but those of its columns, its key and its references.
+/// Whether the table has no constraint but those of its columns, its key and its references.
 fn has_no_other_rule(table: &Table) -> bool
     ensures { IsTrue result ↔ spec.HasNoOtherRule table.now }
 {
@@ -400,7 +400,7 @@ fn is_copy_message(index: &Index) -> bool
         && !index.is_unique
 }
 
-/// Whether these are the indexes of the tables' keys and the one of the copies by their messages.
+/// Whether these are the indexes of the tables' keys and that of the copies by their messages.
 pub fn are_all(indexes: &[Index]) -> bool
     ensures { IsTrue result ↔ (indexes.now ≡ spec.the_indexes) }
 {

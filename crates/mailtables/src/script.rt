@@ -18,7 +18,7 @@ pub(crate) fn make_script<S: Alter>(tx: &mut Transaction<'_, S>) -> Result<(), E
     )
 }
 
-/// A script that has no row of its name yet. Inside a transaction.
+/// Adds a script whose name has no row yet. Inside a transaction.
 pub(crate) fn add_script<S: Alter>(
     tx: &mut Transaction<'_, S>,
     owner: &[u8],
@@ -34,7 +34,7 @@ pub(crate) fn add_script<S: Alter>(
     )
 }
 
-/// The row of the name goes, if there is one. Inside a transaction.
+/// Removes the row of the name, if there is one. Inside a transaction.
 pub(crate) fn remove_script<S: Alter>(
     tx: &mut Transaction<'_, S>,
     owner: &[u8],
@@ -49,7 +49,7 @@ pub(crate) fn remove_script<S: Alter>(
     )
 }
 
-/// All scripts of the owner go. Inside a transaction.
+/// Removes all scripts of the owner. Inside a transaction.
 pub(crate) fn remove_scripts<S: Alter>(
     tx: &mut Transaction<'_, S>,
     owner: &[u8],

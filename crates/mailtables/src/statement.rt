@@ -1,4 +1,4 @@
-//! One statement: inside a transaction, or a query outside of one.
+//! One statement: inside a transaction, or a query outside one.
 ghost use Rattle.std.specs.Prelude.{◌≡◌, false};
 ghost use Rattle.sqlite.specs.Values.{bound};
 ghost use Rattle.mailtables.specs.Connection.{RunsStatement, Answers, Queries};
@@ -6,7 +6,7 @@ ghost use Rattle.mailtables.specs.Connection.{RunsStatement, Answers, Queries};
 use sqlite::{Alter, Connection, Error, Row, Transaction};
 use sqlite_value::value::ValueRef;
 
-/// Runs the statement inside the transaction. How many rows it changes is not told.
+/// Runs the statement inside the transaction. Doesn't return how many rows it changes.
 pub fn execute<S: Alter>(
     tx: &mut Transaction<'_, S>,
     sql: &str,
@@ -27,7 +27,7 @@ pub fn query<S: Alter>(
     requires { conn.old.in_transaction ≡ false }
     ensures { Queries S.Store (Answers sql.now (bound params.now)) conn.old conn.new result }
 {
-    // Outside a transaction what is seen is what was committed, which this call tells.
+    // Outside a transaction what is seen is what was committed, as this call states.
     let _settled = conn.is_autocommit();
     conn.query_all(sql, params)
 }

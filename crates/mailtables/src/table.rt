@@ -17,7 +17,7 @@ use crate::version::{add_version, has_version, make_meta};
 use sqlite::{Alter, Connection, Error, Transaction};
 use sqlite_schema::schema::Schema;
 
-/// Whether a table has one of our names, ASCII case ignored.
+/// Whether a table has one of our names, ignoring ASCII case.
 pub fn is_taken(schema: &Schema) -> bool
     ensures { result ≡ has_our_name schema.now }
 {
@@ -40,7 +40,7 @@ pub fn is_blank(schema: &Schema) -> bool
         && schema.views.as_slice().is_empty()
 }
 
-/// The first three tables, inside a transaction.
+/// Makes the first three tables, inside a transaction.
 fn make_first<S: Alter>(tx: &mut Transaction<'_, S>) -> Result<(), Error>
     ensures { MakesTables S.Store no_schema schema_3 tx.old tx.new result }
 {
@@ -49,7 +49,7 @@ fn make_first<S: Alter>(tx: &mut Transaction<'_, S>) -> Result<(), Error>
     make_script(tx)
 }
 
-/// The table of the copies, which are the folders, and its index by their messages, inside a transaction.
+/// Makes the table of the copies, which make up the folders, and its index by their messages, inside a transaction.
 pub fn make_copies<S: Alter>(tx: &mut Transaction<'_, S>) -> Result<(), Error>
     ensures { MakesTables S.Store schema_7 mail_schema tx.old tx.new result }
 {
@@ -57,7 +57,7 @@ pub fn make_copies<S: Alter>(tx: &mut Transaction<'_, S>) -> Result<(), Error>
     make_copy_message(tx)
 }
 
-/// The tables of messages and copies, which are the folders, and the index of the copies, inside a transaction.
+/// Makes the tables of messages and copies, which make up the folders, and the index of the copies, inside a transaction.
 pub fn make_folders<S: Alter>(tx: &mut Transaction<'_, S>) -> Result<(), Error>
     ensures { MakesTables S.Store schema_6 mail_schema tx.old tx.new result }
 {
@@ -65,7 +65,7 @@ pub fn make_folders<S: Alter>(tx: &mut Transaction<'_, S>) -> Result<(), Error>
     make_copies(tx)
 }
 
-/// The tables of the queue, the replies and the notices, inside a transaction.
+/// Makes the tables of the queue, the replies and the notices, inside a transaction.
 pub fn make_later<S: Alter>(tx: &mut Transaction<'_, S>) -> Result<(), Error>
     ensures { MakesTables S.Store schema_3 schema_6 tx.old tx.new result }
 {
@@ -74,7 +74,7 @@ pub fn make_later<S: Alter>(tx: &mut Transaction<'_, S>) -> Result<(), Error>
     make_notice(tx)
 }
 
-/// The other five, inside a transaction.
+/// Makes the other five tables, inside a transaction.
 fn make_others<S: Alter>(tx: &mut Transaction<'_, S>) -> Result<(), Error>
     ensures { MakesTables S.Store schema_3 mail_schema tx.old tx.new result }
 {
@@ -82,7 +82,7 @@ fn make_others<S: Alter>(tx: &mut Transaction<'_, S>) -> Result<(), Error>
     make_folders(tx)
 }
 
-/// All tables and the row of their version, inside a transaction.
+/// Makes all tables and the row of their version, inside a transaction.
 fn make_ours<S: Alter>(tx: &mut Transaction<'_, S>) -> Result<(), Error>
     ensures { MakesOurs S.Store tx.old tx.new result }
 {
@@ -107,7 +107,7 @@ pub fn make_tables<S: Alter>(conn: &mut Connection<S>) -> Result<(), Error>
     tx.commit()
 }
 
-/// Opens a database of our tables: whether their version is 3. No table is read but that of the version, and nothing changes.
+/// Opens a database of our tables: returns whether their version is 3. Only the table of the version is read, and nothing changes.
 pub fn open_tables<S: Alter>(conn: &mut Connection<S>) -> Result<bool, Error>
     requires { conn.old.in_transaction ≡ false }
     ensures ended { conn.new.in_transaction ≡ false }

@@ -23,7 +23,7 @@ pub(crate) fn make_meta<S: Alter>(tx: &mut Transaction<'_, S>) -> Result<(), Err
     )
 }
 
-/// The row of the version, inside a transaction.
+/// Adds the row of the version, inside a transaction.
 pub fn add_version<S: Alter>(tx: &mut Transaction<'_, S>) -> Result<(), Error>
     ensures { ChangesRows S.Store (added meta_tree version_row) tx.old tx.new result }
 {
@@ -46,7 +46,7 @@ pub fn find_version<S: Alter>(conn: &mut Connection<S>) -> Result<Vec<Row>, Erro
     )
 }
 
-/// Whether the row of the version is there once, and says 3.
+/// Whether there is one row of the version, and it says 3.
 pub(crate) fn has_version<S: Alter>(conn: &mut Connection<S>) -> Result<bool, Error>
     requires { conn.old.in_transaction ≡ false }
     ensures { Queries S.Store (Asks IsOurSchema (λ is. IsTrue is ↔ IsOurs (state S.Store conn.old).now)) conn.old conn.new result }

@@ -5,11 +5,11 @@ use Rattle.octets.specs.Decimal.{with_digit}
 
 -- ---- quoted strings
 
--- an octet as it stands between quotation marks: `"` and `\` have `\` before them
+-- an octet between quotation marks: `"` and `\` have `\` before them
 abbrev pub escaped : ℕ → List ℕ
 escaped octet = cond (octet == 34 || octet == 92) (92 ∷ octet ∷ []) (octet ∷ [])
 
--- a text as it stands between quotation marks
+-- a text between quotation marks
 abbrev pub inside : List ℕ → List ℕ
 inside [] = []
 inside (octet ∷ rest) = escaped octet ++ inside rest
@@ -18,7 +18,7 @@ inside (octet ∷ rest) = escaped octet ++ inside rest
 abbrev pub is_quotable : ℕ → Bool
 is_quotable octet = not (octet == 0 || octet == 10 || octet == 13)
 
--- each octet may stand between quotation marks
+-- each octet may be between quotation marks
 abbrev pub AreQuotable : List ℕ → Type 0
 AreQuotable [] = Unit {0}
 AreQuotable (octet ∷ rest) = (is_quotable octet ≡ true) × AreQuotable rest
@@ -36,7 +36,7 @@ abbrev pub AreDigits : List ℕ → Type 0
 AreDigits [] = Unit {0}
 AreDigits (octet ∷ rest) = (is_ascii_digit octet ≡ true) × AreDigits rest
 
--- the number in decimal digits, at least one, without extra zeros in front
+-- the number in decimal digits, at least one, without leading zeros
 abbrev pub IsNumeral : ℕ → List ℕ → Type 0
 IsNumeral number [] = ⊥
 IsNumeral number (digit ∷ digits) =
@@ -57,7 +57,7 @@ IsString value text = IsQuotedArgument value text ⊎ IsLiteral value text
 
 -- ---- command lines
 
--- what stands after a command's name
+-- an argument after a command's name
 pub data Argument : Type 0 where
   Text : List ℕ → Argument
   Figure : ℕ → Argument

@@ -28,7 +28,7 @@ form_of (DeleteScript name) = Named (codes "DELETESCRIPT") (Text name ∷ [])
 form_of (RenameScript old new) = Named (codes "RENAMESCRIPT") (Text old ∷ Text new ∷ [])
 form_of (Response text) = Alone text
 
--- what is written in a form; one string alone while a challenge is pending, and only then
+-- what is written in a form; one string alone if and only if a challenge is pending
 abbrev pub IsFormed : Bool → Form → List ℕ → Type 0
 IsFormed false (Named word arguments) text = IsLine word arguments text
 IsFormed false (Alone value) text = ⊥
@@ -43,6 +43,6 @@ IsSpelling pending command text = IsFormed pending (form_of command) text
 abbrev pub IsCommand : Bool → List ℕ → Type 0
 IsCommand pending text = (command : Command) × IsSpelling pending command text
 
--- a command may still go on from the text: it is the front of some spelling
+-- the text is the prefix of some spelling, so a command may still follow
 abbrev pub IsViable : Bool → List ℕ → Type 0
 IsViable pending text = (more : List ℕ) × IsCommand pending (text ++ more)

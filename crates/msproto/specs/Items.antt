@@ -1,4 +1,4 @@
--- What stands first in a stream of octets: a command, a bad line, or too much (RFC 5804, sections 1.2 and 4).
+-- The first item in a stream of octets: a command, a bad line, or one that is too long (RFC 5804, sections 1.2 and 4).
 use Rattle.std.specs.Prelude.{◌≡◌, ◌≢◌, ℕ, ◌+◌, ◌<◌, ◌≤◌, ◌^◌, ◌⊎◌, Bool, List, [], ◌∷◌, ◌++◌, length, take}
 use Rattle.msproto.specs.Arguments.{IsNumeral}
 use Rattle.msproto.specs.Commands.{IsSpelling, IsCommand, IsViable}
@@ -15,7 +15,7 @@ EndsAtFeed [] = ⊥
 EndsAtFeed (octet ∷ []) = octet ≡ 10
 EndsAtFeed (octet ∷ next ∷ rest) = (octet ≢ 10) × EndsAtFeed (next ∷ rest)
 
--- a front from which a command may go on, an octet with which none does, and what follows up to the first LF, which may be that octet
+-- a prefix that a command may continue, an octet with which none does, and what follows up to the first LF, which may be that octet
 pub record IsBadLine (pending : Bool) (text : List ℕ) : Type 0 where
   pub front : List ℕ
   pub octet : ℕ
@@ -27,11 +27,11 @@ pub record IsBadLine (pending : Bool) (text : List ℕ) : Type 0 where
 
 -- ---- too big
 
--- the octet after the text stands inside a literal: any octet may stand there. In names, numbers and quoted strings some may not, NUL for one
+-- the octet after the text is inside a literal: any octet may follow. In names, numbers and quoted strings some may not, such as NUL
 abbrev pub IsInLiteral : Bool → List ℕ → Type 0
 IsInLiteral pending text = (octet : ℕ) → IsViable pending (text ++ octet ∷ [])
 
--- that many octets of the rest, which stands after the front, are outside literals
+-- that many octets of the rest, which follows the prefix `front`, are outside literals
 abbrev pub Counts : Bool → List ℕ → List ℕ → ℕ → Type 0
 Counts pending front [] number = number ≡ 0
 Counts pending front (octet ∷ rest) number =
@@ -42,7 +42,7 @@ Counts pending front (octet ∷ rest) number =
 abbrev pub IsLong : Bool → List ℕ → Type 0
 IsLong pending text = (number : ℕ) × Counts pending [] text number × (8192 < number)
 
--- `{n+}` CRLF at the end, n over 1,048,576 and below 2^32, where a command may have a literal
+-- `{n+}` CRLF at the end, n over 1,048,576 and below 2^32, at a point where a command may have a literal
 pub record EndsInLargeHead (pending : Bool) (text : List ℕ) : Type 0 where
   pub front : List ℕ
   pub digits : List ℕ
@@ -54,7 +54,7 @@ pub record EndsInLargeHead (pending : Bool) (text : List ℕ) : Type 0 where
   pub opens : IsInLiteral pending text
   pub written : text ≡ front ++ 123 ∷ (digits ++ 43 ∷ 125 ∷ 13 ∷ 10 ∷ [])
 
--- more than is read
+-- too long
 abbrev pub IsTooBig : Bool → List ℕ → Type 0
 IsTooBig pending text = EndsInLargeHead pending text ⊎ IsLong pending text
 
@@ -64,11 +64,11 @@ IsTooBig pending text = EndsInLargeHead pending text ⊎ IsLong pending text
 abbrev pub IsItem : Bool → List ℕ → Type 0
 IsItem pending text = IsCommand pending text ⊎ (IsBadLine pending text ⊎ IsTooBig pending text)
 
--- no front of the stream shorter than that many octets is one of the three
+-- no prefix of the stream shorter than that many octets is one of the three
 abbrev pub NoItem : Bool → ℕ → List ℕ → Type 0
 NoItem pending count stream = (k : ℕ) → k < count → IsItem pending (take k stream) → ⊥
 
--- what the shortest front of the stream that is one of the three is, and its length; too much goes before the other two
+-- the kind of the shortest prefix of the stream that is one of the three, and its length; too long comes before the other two
 abbrev pub Reaches : Bool → Reach → List ℕ → Type 0
 Reaches pending Need stream = NoItem pending (length stream + 1) stream
 Reaches pending (Command used) stream =

@@ -8,7 +8,7 @@ use Rattle.std.specs.Coded.{Coded, code_by, coded_ℕ}
 use Rattle.octets.specs.Decimal.{with_digit}
 use Rattle.msproto.specs.Arguments.{is_quotable}
 
--- ---- what may still stand on a line
+-- ---- what may still follow on a line
 
 pub data Params : Type 0 where
   LineEnd : Params
@@ -16,7 +16,7 @@ pub data Params : Type 0 where
   ThenText : Params → Params
   ThenNumber : Params
 
--- params as a number, which a type that shows them is stored by
+-- params as a number, the code by which a type that shows them is stored
 abbrev pub params_number : Params → ℕ
 params_number LineEnd = zero
 params_number MaybeText = suc zero
@@ -54,7 +54,7 @@ word_of verb.RenameScript = codes "RENAMESCRIPT"
 word_of verb.SetActive = codes "SETACTIVE"
 word_of verb.Unauthenticate = codes "UNAUTHENTICATE"
 
--- what may stand after each
+-- what may follow each
 abbrev pub params_of : Verb → Params
 params_of verb.Authenticate = ThenText MaybeText
 params_of verb.Capability = LineEnd
@@ -75,7 +75,7 @@ abbrev pub verbs : List Verb
 verbs = verb.Authenticate ∷ verb.Capability ∷ verb.CheckScript ∷ verb.DeleteScript ∷ verb.GetScript ∷ verb.HaveSpace ∷ verb.ListScripts
     ∷ verb.Logout ∷ verb.Noop ∷ verb.PutScript ∷ verb.RenameScript ∷ verb.SetActive ∷ verb.Unauthenticate ∷ []
 
--- names, and what may stand after each
+-- names, and what may follow each
 abbrev pub rows_of : List Verb → List (List ℕ × Params)
 rows_of [] = []
 rows_of (verb ∷ more) = (word_of verb, params_of verb) ∷ rows_of more
@@ -94,14 +94,14 @@ abbrev pub begins_row : List (List ℕ × Params) → List ℕ → Bool
 begins_row [] letters = false
 begins_row (row ∷ more) letters = begins letters row.0 || begins_row more letters
 
--- whether the two words are one
+-- whether the two words are equal
 abbrev pub same_word : List ℕ → List ℕ → Bool
 same_word [] [] = true
 same_word [] (other ∷ word) = false
 same_word (letter ∷ letters) [] = false
 same_word (letter ∷ letters) (other ∷ word) = letter == other && same_word letters word
 
--- what may stand after the name
+-- what may follow the name
 abbrev pub params_in : List (List ℕ × Params) → List ℕ → Option Params
 params_in [] word = None
 params_in (row ∷ more) word = cond (same_word row.0 word) (Some row.1) (params_in more word)
@@ -118,9 +118,9 @@ pub data State : Type 0 where
   Word : List ℕ → State
   -- after a name or an argument
   Between : Params → State
-  -- where a string begins
+  -- at the start of a string
   Opening : Params → State
-  -- between quotation marks, where that many octets more may come
+  -- between quotation marks; that many octets more may come
   Quoted : ℕ → Params → State
   -- after a backslash
   Escaped : ℕ → Params → State
@@ -133,10 +133,10 @@ pub data State : Type 0 where
   Return : ℕ → Params → State
   -- inside a literal, of which one octet and that many more are to come
   Body : ℕ → Params → State
-  -- where a number begins, and in a number
+  -- at the start of a number, and in a number
   Number : State
   Digits : ℕ → State
-  -- after the line's CR, after its LF, and where no command goes on
+  -- after the line's CR, after its LF, and when no command can follow
   LineFeed : State
   Whole : State
   Dead : State
@@ -164,12 +164,12 @@ abbrev pub leave_named : Option Params → ℕ → State
 leave_named None octet = Dead
 leave_named (Some params) octet = leave params octet
 
--- a number and one digit more, if no extra zero is in front and it stays below 2^32
+-- a number and one digit more, if it has no leading zero and stays below 2^32
 abbrev pub longer : (ℕ → State) → ℕ → ℕ → State
 longer to number octet =
     cond (number == 0) Dead (cond (nat_lt (with_digit number octet) (2 ^ 32)) (to (with_digit number octet)) Dead)
 
--- where that many octets of a literal are to come
+-- if that many octets of a literal are to come
 abbrev pub literal_left : ℕ → Params → State
 literal_left left params = cond (left == 0) (Between params) (Body (left - 1) params)
 
@@ -205,14 +205,14 @@ abbrev pub run : State → List ℕ → State
 run state [] = state
 run state (octet ∷ rest) = run (step state octet) rest
 
--- the state before the first octet of a line; while a challenge is pending the line is one string
+-- the state before the first octet of a line; if a challenge is pending the line is one string
 abbrev pub start : Bool → State
 start false = Word []
 start true = Opening LineEnd
 
 -- ---- what a state says
 
--- the next octet stands inside a literal
+-- the next octet is inside a literal
 abbrev pub in_literal : State → Bool
 in_literal (Body left params) = true
 in_literal _ = false
@@ -222,7 +222,7 @@ abbrev pub is_whole : State → Bool
 is_whole Whole = true
 is_whole _ = false
 
--- no command goes on from here
+-- no command can follow from here
 abbrev pub is_dead : State → Bool
 is_dead Dead = true
 is_dead _ = false
@@ -232,11 +232,11 @@ abbrev pub is_large : State → Bool
 is_large (Return number params) = nat_lt 1048576 number
 is_large _ = false
 
--- how many octets outside literals the next octet is
+-- 1 if the next octet is outside literals, else 0
 abbrev pub weight : State → ℕ
 weight state = cond (in_literal state) 0 1
 
--- ---- how many octets of literals may still come, where no literal is too large
+-- ---- how many octets of literals may still come, if no literal is too large
 
 abbrev pub params_room : Params → ℕ
 params_room LineEnd = 0

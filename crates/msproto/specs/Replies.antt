@@ -1,4 +1,4 @@
--- How answers are spelled (RFC 5804, sections 1.2, 1.3, 2 and 4).
+-- How replies are spelled (RFC 5804, sections 1.2, 1.3, 2 and 4).
 use Rattle.std.specs.Prelude.{◌≡◌, ℕ, ◌+◌, Bool, true, false, ◌&&◌, cond, nat_le, List, [], ◌∷◌, ◌++◌, length, Option, Some, None, codes, decimal}
 use Rattle.msproto.specs.Arguments.{inside, is_quotable}
 use Rattle.msproto.specs.declared.replies.Line.{Line}
@@ -11,7 +11,7 @@ use Rattle.msproto.specs.declared.replies.Reply.{Reply}
 
 -- ---- strings
 
--- each octet may stand between quotation marks
+-- each octet may be between quotation marks
 abbrev pub all_quotable : List ℕ → Bool
 all_quotable [] = true
 all_quotable (octet ∷ rest) = is_quotable octet && all_quotable rest
@@ -24,7 +24,7 @@ fits_quotes count text = all_quotable text && nat_le (count + length (inside tex
 abbrev pub literal_spelled : List ℕ → List ℕ
 literal_spelled text = 123 ∷ (decimal (length text) ++ 125 ∷ 13 ∷ 10 ∷ text)
 
--- quoted, if it fits there, else a literal
+-- quoted, if it fits, else a literal
 abbrev pub string_spelled : List ℕ → List ℕ
 string_spelled text = cond (fits_quotes 0 text) (34 ∷ (inside text ++ 34 ∷ [])) (literal_spelled text)
 
@@ -33,7 +33,7 @@ string_spelled text = cond (fits_quotes 0 text) (34 ∷ (inside text ++ 34 ∷ [
 abbrev pub end : List ℕ
 end = 13 ∷ 10 ∷ []
 
--- a space and a string, where there is one
+-- a space and a string, if there is one
 abbrev pub after_space : Option (List ℕ) → List ℕ
 after_space None = []
 after_space (Some text) = 32 ∷ string_spelled text
@@ -70,12 +70,12 @@ word_of status.Ok = codes "OK"
 word_of status.No = codes "NO"
 word_of status.Bye = codes "BYE"
 
--- a word, a code in parentheses and a text, where there are; without a word there is no last line
+-- a status, a code in parentheses and a text, as far as there are any; without a status there is no last line
 abbrev pub last_spelled : Option Status → Option Code → Option (List ℕ) → List ℕ
 last_spelled None code text = []
 last_spelled (Some status) code text = word_of status ++ (code_spelled code ++ (after_space text ++ end))
 
--- an answer's octets
+-- a reply's octets
 abbrev pub spelled : Reply → List ℕ
 spelled reply = lines_spelled reply.lines ++ last_spelled reply.word reply.code reply.text
 

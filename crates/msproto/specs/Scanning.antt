@@ -1,10 +1,10 @@
--- The first item of a stream as a function of the stream, for those who compute with it.
+-- The first item of a stream as a function of the stream, to compute with.
 use Rattle.std.specs.Prelude.{◌≡◌, ℕ, ◌+◌, Bool, true, false, ◌||◌, ◌&&◌, ◌==◌, cond, nat_lt, List, [], ◌∷◌, fold}
 use Rattle.msproto.specs.Machine.{State, start, step, weight, is_large, is_whole, is_dead, Body}
 use Rattle.msproto.specs.declared.items.Reach.{Reach}
 use Rattle.msproto.specs.declared.items.Reach.TheVariants.{Need, Command, Bad, TooBig}
 
--- what is known of the octets so far: the state after them, how many of them stand outside literals and how many there are; or what came first
+-- what is known of the octets so far: the state after them, how many of them are outside literals and how many there are; or the first item
 pub data Scanned : Type 0 where
   Open : State → ℕ → ℕ → Scanned
   Found : Reach → Scanned
@@ -31,7 +31,7 @@ abbrev pub found : Scanned → Reach
 found (Open state outside used) = Need
 found (Found reach) = reach
 
--- what comes first in the stream
+-- the first item of the stream, without its value
 abbrev pub reach_of : Bool → List ℕ → Reach
 reach_of pending stream = found (scanned pending stream)
 
@@ -55,26 +55,26 @@ new_scan pending = record { known = fresh pending; looked = 0 }
 abbrev pub fed : ScanView → ℕ → ScanView
 fed scan octet = record { known = turned scan.known octet; looked = scan.looked + 1 }
 
--- what came first in the octets so far
+-- the first item in the octets so far
 abbrev pub reached : ScanView → Reach
 reached scan = found scan.known
 
--- whether something came first
+-- whether there is a first item
 abbrev pub is_reached : Reach → Bool
 is_reached Need = false
 is_reached _ = true
 
--- after the octets of a piece, which are taken as long as nothing came first
+-- after the octets of a piece, which are taken until there is a first item
 abbrev pub fed_until : ScanView → List ℕ → ScanView
 fed_until scan [] = scan
 fed_until scan (octet ∷ rest) = cond (is_reached (reached scan)) scan (fed_until (fed scan octet) rest)
 
--- an item that came first ends with the last octet that was taken
+-- the first item ends with the last octet that was taken
 abbrev pub EndsAt : Reach → ℕ → Type 0
 EndsAt (Command used) looked = used ≡ looked
 EndsAt (Bad used) looked = used ≡ looked
 EndsAt _ looked = Unit {0}
 
--- the scan stands for the octets: a new one for none, and one that took an octet more for those before and that octet
+-- the scan is that of these octets: a new one for none, and one that took an octet more for those before and that octet
 abbrev pub StandsFor : Bool → ScanView → List ℕ → Type 0
 StandsFor pending scan text = scan ≡ fold fed (new_scan pending) text

@@ -14,7 +14,7 @@ use Rattle.msproto.specs.declared.items.Reach.{Reach}
 use Rattle.msproto.specs.declared.items.Reach.TheVariants as reach
 use Rattle.msproto.specs.Scanning.{Scanned, Open, Found}
 
--- what may still stand on a line
+-- what may still follow on a line
 abbrev pub params_shown : Params → machine.Params
 params_shown params.LineEnd = machine.LineEnd
 params_shown params.MaybeText = machine.MaybeText
@@ -53,16 +53,16 @@ only octet wanted next = cond (octet == wanted) next machine.Dead
 abbrev pub first_digit : ℕ → Option ℕ
 first_digit octet = cond (is_ascii_digit octet) (Some (with_digit 0 octet)) None
 
--- a number with a digit more, if no extra zero is in front of it and it stays below 2^32
+-- a number with one digit more, if it has no leading zero and stays below 2^32
 abbrev pub next_digit : ℕ → ℕ → Option ℕ
 next_digit number octet =
     cond (is_ascii_digit octet)
     (cond (number == 0) None (cond (nat_lt (with_digit number octet) (2 ^ 32)) (Some (with_digit number octet)) None))
     None
 
--- ---- octets that leave a line where it stands
+-- ---- octets that leave a line in its state
 
--- an octet that stands between quotation marks as it is
+-- an octet between quotation marks that needs no escape
 abbrev pub is_plain : ℕ → Bool
 is_plain octet = is_quotable octet && not (octet == 34 || octet == 92)
 
@@ -70,7 +70,7 @@ is_plain octet = is_quotable octet && not (octet == 34 || octet == 92)
 abbrev pub is_inner : ℕ → Bool
 is_inner octet = not (octet == 10)
 
--- how many octets in front are these letters in upper or lower case
+-- how many octets at the start are these letters in upper or lower case
 abbrev pub spelling : List ℕ → List ℕ → ℕ
 spelling [] octets = zero
 spelling (letter ∷ letters) [] = zero
@@ -80,7 +80,7 @@ spelling (letter ∷ letters) (octet ∷ rest) = cond (letter == to_ascii_upperc
 abbrev pub letters_read : Verb → ℕ → ℕ
 letters_read verb count = min count (length (machine.word_of verb))
 
--- how many octets in front leave the line in the same name, between the same quotation marks, or on the same bad line
+-- how many octets at the start leave the line in the same name, between the same quotation marks, or on the same bad line
 abbrev pub skimmed : State → List ℕ → ℕ
 skimmed (state.Word verb count) octets = spelling (drop (letters_read verb count) (machine.word_of verb)) octets
 skimmed (state.Quoted left params) octets = prefix_len is_plain (take left octets)
@@ -95,14 +95,14 @@ state_after state more = shown state
 
 -- ---- a scan
 
--- what a scan keeps: where it stands, or what it found
+-- what a scan keeps: its state, or what it found
 abbrev pub scan_shown : State → ℕ → ℕ → Reach → Scanned
 scan_shown state outside used reach.Need = Open (shown state) outside used
 scan_shown state outside used (reach.Command length) = Found (reach.Command length)
 scan_shown state outside used (reach.Bad length) = Found (reach.Bad length)
 scan_shown state outside used reach.TooBig = Found reach.TooBig
 
--- what an octet ends, if anything
+-- the item that an octet ends, if any
 abbrev pub ending : machine.State → ℕ → ℕ → ℕ → Reach
 ending state outside used octet =
     cond (nat_lt 8192 outside || (machine.is_large state && octet == 10)) reach.TooBig
@@ -111,7 +111,7 @@ ending state outside used octet =
 
 -- ---- verbs
 
--- a verb of these rows whose name begins with the letters and this one, or none where none does
+-- a verb of these rows whose name begins with the letters and this one; `None` if none does
 abbrev pub IsExtension : List (List ℕ × machine.Params) → List ℕ → ℕ → Option Verb → Type 0
 IsExtension rows letters letter None = machine.begins_row rows (letters ++ letter ∷ []) ≡ false
 IsExtension rows letters letter (Some verb) = machine.begins (letters ++ letter ∷ []) (machine.word_of verb) ≡ true

@@ -1,4 +1,4 @@
--- The value of a command, read from the front of a text that is known to be a spelling.
+-- The value of a command, read from a text that is known to be a spelling.
 use Rattle.std.specs.Prelude.{ℕ, zero, suc, ◌^◌, Bool, true, false, ◌||◌, ◌&&◌, ◌==◌, cond, nat_lt, List, [], ◌∷◌, take, drop, map, Option, Some, None, is_some}
 use Rattle.std.specs.Char.{to_ascii_uppercase, is_ascii_digit}
 use Rattle.octets.specs.Decimal.{with_digit}
@@ -13,17 +13,17 @@ use Rattle.msproto.specs.declared.items.Reach.TheVariants as reach
 use Rattle.msproto.specs.Machine.{verbs, verb_in}
 use Rattle.msproto.specs.Scanning.{reach_of}
 
--- what was read, and what stands after it
+-- what was read, and the rest
 abbrev pub Read : Type 0
 Read = List ℕ × List ℕ
 
 -- ---- strings
 
--- one octet in front of what was read
+-- one octet before what was read
 abbrev pub with_octet : ℕ → Read → Read
 with_octet octet read = (octet ∷ read.0, read.1)
 
--- a quoted string after its first mark, or after a backslash in it
+-- a quoted string after its first quotation mark, or after a backslash in it
 abbrev pub quoted_in : Bool → List ℕ → Read
 quoted_in escape [] = ([], [])
 quoted_in true (octet ∷ rest) = with_octet octet (quoted_in false rest)
@@ -40,7 +40,7 @@ number_in number (octet ∷ rest) =
 abbrev pub octets_in : ℕ → List ℕ → Read
 octets_in count text = (take count text, drop count text)
 
--- a literal after its brace; four octets stand between its number and its text
+-- a literal after its brace; four octets are between its number and its text
 abbrev pub literal_in : ℕ × List ℕ → Read
 literal_in number = octets_in number.0 (drop 4 number.1)
 
@@ -53,7 +53,7 @@ string_in (mark ∷ rest) = cond (mark == 34) (quoted_in false rest) (literal_in
 abbrev pub text_in : List ℕ → Read
 text_in rest = string_in (drop 1 rest)
 
--- the same, where a space stands
+-- the same, if there is a space
 abbrev pub maybe_text_in : List ℕ → Option (List ℕ)
 maybe_text_in [] = None
 maybe_text_in (octet ∷ rest) = cond (octet == 32) (Some (string_in rest).0) None
@@ -68,7 +68,7 @@ size_in rest = (number_in 0 (drop 1 rest)).0
 
 -- ---- commands
 
--- how many octets stand before the first SP or CR
+-- how many octets come before the first SP or CR
 abbrev pub name_length : List ℕ → ℕ
 name_length [] = zero
 name_length (octet ∷ rest) = cond (octet == 32 || octet == 13) zero (suc (name_length rest))
@@ -79,7 +79,7 @@ authenticate_of read = Authenticate read.0 (maybe_text_in read.1)
 abbrev pub have_space_of : Read → Command
 have_space_of read = HaveSpace read.0 (size_in read.1)
 
--- the command of a verb and what stands after it
+-- the command of a verb and of what comes after it
 abbrev pub command_of : Verb → List ℕ → Command
 command_of verb.Authenticate rest = authenticate_of (text_in rest)
 command_of verb.Capability rest = Capability
@@ -104,7 +104,7 @@ abbrev pub line_command : Option Verb → List ℕ → Command
 line_command None text = response_in text
 line_command (Some verb) text = command_of verb (drop (name_length text) text)
 
--- the command that the text spells; of a text that spells none nothing is said
+-- the command that the text spells; for a text that spells none nothing is said
 abbrev pub command_in : Bool → List ℕ → Command
 command_in true text = response_in text
 command_in false text = line_command (verb_in verbs (map to_ascii_uppercase (take (name_length text) text))) text
@@ -126,7 +126,7 @@ item_at pending stream (reach.Command used) = item.Command (command_in pending (
 item_at pending stream (reach.Bad used) = item.Bad used
 item_at pending stream reach.TooBig = item.TooBig
 
--- what comes first in the stream, with the command's value
+-- the first item of the stream, with the command's value
 abbrev pub item_of : Bool → List ℕ → Item
 item_of pending stream = item_at pending stream (reach_of pending stream)
 

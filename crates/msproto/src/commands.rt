@@ -3,7 +3,7 @@ use octets::Octets;
 
 /// A command with its strings and number, as a client sends it (RFC 5804, section 2).
 ///
-/// A string is of any octets, also a script's name: nothing of its sense is looked at here.
+/// A string has any octets, also a script's name: its meaning isn't checked here.
 #[derive(Drop)]
 pub enum Command {
     /// Asks what the server can do (section 2.4).
@@ -12,16 +12,16 @@ pub enum Command {
     Noop(Option<Octets>),
     /// Ends the session (section 2.3).
     Logout,
-    /// Logs in by a SASL mechanism, perhaps with the client's first words (section 2.1).
+    /// Logs in by a SASL mechanism, perhaps with an initial response (section 2.1).
     Authenticate {
         /// The mechanism's name, as it was sent.
         mechanism: Octets,
-        /// The first response, where there is one.
+        /// The initial response, if there is one.
         response: Option<Octets>,
     },
-    /// Leaves the login (section 2.14).
+    /// Ends the login (section 2.14).
     Unauthenticate,
-    /// Asks whether a script of that many octets would be taken (section 2.5).
+    /// Asks whether a script of that many octets would be stored (section 2.5).
     HaveSpace {
         /// The script's name.
         name: Octets,
@@ -47,11 +47,11 @@ pub enum Command {
     DeleteScript(Octets),
     /// Gives a script another name (section 2.11).
     RenameScript {
-        /// The name that the script has.
+        /// The script's present name.
         old: Octets,
-        /// The name that it is to have.
+        /// The script's new name.
         new: Octets,
     },
-    /// The string alone that answers a challenge, while one is pending (section 2.1).
+    /// The string alone that answers a challenge, if one is pending (section 2.1).
     Response(Octets),
 }

@@ -1,4 +1,4 @@
-//! What comes first in a stream of octets.
+//! The first item in a stream of octets.
 ghost use Rattle.std.specs.Prelude.{◌≡◌, ◌≢◌, ◌↔◌, ◌++◌, ℕ, Bool, true, List, IfOk, OnErr};
 ghost use Rattle.msproto.specs.declared.items.Item.{Item as ItemValue};
 ghost use Rattle.msproto.specs.declared.items.Item.TheVariants as item;
@@ -15,35 +15,35 @@ use crate::reading;
 use crate::scanner::Scan;
 use std::alloc::{AllocError, Global};
 
-/// What comes first in the unread octets of a client, with the command's value.
+/// The first item in the unread octets of a client, with the command's value.
 #[derive(Drop)]
 pub enum Item {
-    /// No whole item yet.
+    /// The item isn't complete yet.
     Need,
-    /// A command, and how many octets it takes with its CRLF.
+    /// A command, and how many octets it has with its CRLF.
     Command(Command, usize),
-    /// A line that is no command, and how many octets it takes with its LF.
+    /// A line that is no command, and how many octets it has with its LF.
     Bad(usize),
-    /// More than is read: a literal of over 1,048,576 octets, or over 8,192 octets outside literals.
+    /// Too long: a literal of over 1,048,576 octets, or over 8,192 octets outside literals.
     TooBig,
 }
 
-/// What comes first in the unread octets of a client, without the command's value.
+/// The first item in the unread octets of a client, without the command's value.
 #[derive(Clone, Copy, Debug, PartialEq, Eq)]
 pub enum Reach {
-    /// No whole item yet.
+    /// The item isn't complete yet.
     Need,
-    /// A command, and how many octets it takes with its CRLF.
+    /// A command, and how many octets it has with its CRLF.
     Command(usize),
-    /// A line that is no command, and how many octets it takes with its LF.
+    /// A line that is no command, and how many octets it has with its LF.
     Bad(usize),
-    /// More than is read: a literal of over 1,048,576 octets, or over 8,192 octets outside literals.
+    /// Too long: a literal of over 1,048,576 octets, or over 8,192 octets outside literals.
     TooBig,
 }
 
-/// What comes first, without the value of a command. While a challenge is pending the item is one string.
+/// The first item, without the value of a command. If a challenge is pending, the item is one string.
 ///
-/// Time is linear in the item's octets outside literals, each of which is looked at once, or twice where it ends a run
+/// Time is linear in the item's octets outside literals, each of which is looked at once, or twice if it ends a run
 /// that is passed in one step; those inside literals are not looked at. Takes no memory.
 pub fn extent(buffer: &[u8], pending: bool) -> Reach
     ensures value { result ≡ reach_of pending buffer.now }
@@ -54,10 +54,10 @@ pub fn extent(buffer: &[u8], pending: bool) -> Reach
     scan.state()
 }
 
-/// What comes first, with the value of a command. While a challenge is pending the item is one string.
+/// The first item, with the value of a command. If a challenge is pending, the item is one string.
 ///
-/// Time is that of `extent`, and for a command linear in its octets besides. Takes memory for its strings alone, and
-/// lack of it is the only error, where there is a string.
+/// Time is that of `extent`, and for a command also linear in its octets. Takes memory only for its strings, and
+/// lack of it is the only error, if there is a string.
 pub fn first(alloc: Global, buffer: &[u8], pending: bool) -> Result<Item, AllocError>
     ensures value { IfOk result (λ item. item ≡ item_of pending buffer.now) }
     ensures item { IfOk result (λ item. Gives pending item buffer.now) }
@@ -66,7 +66,7 @@ pub fn first(alloc: Global, buffer: &[u8], pending: bool) -> Result<Item, AllocE
     item_at(alloc, buffer, pending, extent(buffer, pending))
 }
 
-/// The same where a scan has found what comes first: the octets are not scanned again, and of them only a command's are
+/// The same after a scan has found the first item: the octets are not scanned again, and only those of a command are
 /// read, once, for its value. Lack of memory for a command's strings is the only error.
 pub fn item_at(
     alloc: Global,
@@ -82,8 +82,8 @@ pub fn item_at(
     read_at(alloc, buffer, pending, reach)
 }
 
-/// The command that a scan has found first, in that many octets, which are read once. Takes memory for its strings alone,
-/// and lack of it is the only error, where there is a string.
+/// The command that a scan has found first, in that many octets, which are read once. Takes memory only for its strings,
+/// and lack of it is the only error, if there is a string.
 pub fn command_at(
     alloc: Global,
     buffer: &[u8],
@@ -113,7 +113,7 @@ fn read_at(alloc: Global, buffer: &[u8], pending: bool, reach: Reach) -> Result<
     }
 }
 
-/// What comes first is one: no stream has two first items.
+/// The first item is unique: no stream has two.
 pub fn one_item()
     ensures { (pending : Bool) (one other : ItemValue) (stream : List ℕ) →
         Gives pending one stream → Gives pending other stream → one ≡ other }
@@ -125,29 +125,29 @@ pub fn item_stays()
         item ≢ Need → Gives pending item stream → Gives pending item (stream ++ more) }
 {}
 
-/// The function of the first item gives what the relation says.
+/// The function of the first item fulfils the relation.
 pub fn item_is()
     ensures { (pending : Bool) (stream : List ℕ) → Gives pending (item_of pending stream) stream }
 {}
 
-/// What is reached is one: no stream reaches two.
+/// The extent of the first item is unique: no stream has two.
 pub fn one_reach()
     ensures { (pending : Bool) (one other : ReachValue) (stream : List ℕ) →
         Reaches pending one stream → Reaches pending other stream → one ≡ other }
 {}
 
-/// What is reached stays the same whatever octets follow.
+/// The extent stays the same whatever octets follow.
 pub fn reach_stays()
     ensures { (pending : Bool) (found : ReachValue) (stream more : List ℕ) →
         found ≢ reach.Need → Reaches pending found stream → Reaches pending found (stream ++ more) }
 {}
 
-/// The function of what is reached gives what the relation says.
+/// The function of the extent fulfils the relation.
 pub fn reach_is()
     ensures { (pending : Bool) (stream : List ℕ) → Reaches pending (reach_of pending stream) stream }
 {}
 
-/// The octet after a text stands inside a literal exactly where the machine has octets of one to come.
+/// The octet after a text is inside a literal exactly if the machine still expects octets of one.
 pub fn literal_octets()
     ensures { (pending : Bool) (text : List ℕ) →
         IsInLiteral pending text ↔ (in_literal (run (start pending) text) ≡ true) }

@@ -1,4 +1,4 @@
-//! ManageSieve's items and replies (RFC 5804): what stands first in the octets of a client, and how answers are spelled.
+//! ManageSieve's items and replies (RFC 5804): finds the first item in the octets of a client, and writes replies.
 #![tactic(auto)]
 
 pub mod commands;

@@ -1,4 +1,4 @@
-//! The value of a command, read from the front of its text.
+//! The value of a command, read from its text.
 ghost use Rattle.std.specs.Prelude.{◌≡◌, ◌≤◌, IfOk, OnErr, is_some, length, true, false};
 ghost use Rattle.msproto.specs.Values as v;
 
@@ -31,7 +31,7 @@ fn response(alloc: Global, text: &[u8]) -> Result<Command, AllocError>
     Ok(Command::Response(value))
 }
 
-// The command of a verb and what stands after it.
+// The command of a verb and of what comes after it.
 fn of_verb(alloc: Global, verb: Verb, rest: &[u8]) -> Result<Command, AllocError>
     ensures value { IfOk result (λ command. command ≡ v.command_of verb rest.now) }
     ensures lacks { OnErr result (v.has_string (v.command_of verb rest.now) ≡ true) }
@@ -63,7 +63,7 @@ fn of_verb(alloc: Global, verb: Verb, rest: &[u8]) -> Result<Command, AllocError
     })
 }
 
-// A login's mechanism and its first response, where there is one.
+// A login's mechanism and its initial response, if there is one.
 fn authenticate(alloc: Global, rest: &[u8]) -> Result<Command, AllocError>
     ensures { IfOk result (λ command. command ≡ v.authenticate_of (v.text_in rest.now)) }
 {
@@ -82,7 +82,7 @@ fn size(rest: &[u8]) -> u32
     number(&rest[rest.len().min(1)..]).0
 }
 
-// How many octets stand before the first SP or CR.
+// How many octets come before the first SP or CR.
 fn name_length(text: &[u8]) -> usize
     ensures value { result ≡ v.name_length text.now }
     ensures within { result ≤ length text.now }
@@ -116,7 +116,7 @@ fn two_texts(alloc: Global, rest: &[u8]) -> Result<(Octets, Octets), AllocError>
     Ok((first, second))
 }
 
-// A string after a space, where one stands.
+// A string after a space, if there is one.
 fn maybe_text(alloc: Global, rest: &[u8]) -> Result<Option<Octets>, AllocError>
     ensures value { IfOk result (λ value. value ≡ v.maybe_text_in rest.now) }
     ensures lacks { OnErr result (is_some (v.maybe_text_in rest.now) ≡ true) }
@@ -130,14 +130,14 @@ fn maybe_text(alloc: Global, rest: &[u8]) -> Result<Option<Octets>, AllocError>
     }
 }
 
-// A string after a space, and what stands after it.
+// A string after a space, and the rest.
 fn text(alloc: Global, rest: &[u8]) -> Result<(Octets, &[u8]), AllocError>
     ensures { IfOk result (λ read. (read.0, read.1.now) ≡ v.text_in rest.now) }
 {
     string(alloc, &rest[rest.len().min(1)..])
 }
 
-// A string, and what stands after it.
+// A string, and the rest.
 fn string(alloc: Global, text: &[u8]) -> Result<(Octets, &[u8]), AllocError>
     ensures { IfOk result (λ read. (read.0, read.1.now) ≡ v.string_in text.now) }
 {
@@ -151,7 +151,7 @@ fn string(alloc: Global, text: &[u8]) -> Result<(Octets, &[u8]), AllocError>
     }
 }
 
-// A quoted string after its first mark, and what stands after its last.
+// A quoted string after its first quotation mark, and what comes after its last.
 fn quoted(alloc: Global, text: &[u8]) -> Result<(Octets, &[u8]), AllocError>
     ensures { IfOk result (λ read. (read.0, read.1.now) ≡ v.quoted_in false text.now) }
 {
@@ -174,7 +174,7 @@ fn quoted(alloc: Global, text: &[u8]) -> Result<(Octets, &[u8]), AllocError>
     Ok((value, rest))
 }
 
-// That many octets after the four that end a literal's head, and what stands after them.
+// That many octets after the four that end a literal's head, and the rest.
 fn literal(alloc: Global, count: usize, text: &[u8]) -> Result<(Octets, &[u8]), AllocError>
     ensures { IfOk result (λ read. (read.0, read.1.now) ≡ v.literal_in (count, text.now)) }
 {
@@ -183,7 +183,7 @@ fn literal(alloc: Global, count: usize, text: &[u8]) -> Result<(Octets, &[u8]), 
     Ok((Octets::from_slice(alloc, value)?, rest))
 }
 
-// The number in front, below 2^32, and what stands after it.
+// The number at the start, below 2^32, and the rest.
 fn number(text: &[u8]) -> (u32, &[u8])
     ensures { (result.0, result.1.now) ≡ v.number_in 0 text.now }
 {

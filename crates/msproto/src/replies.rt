@@ -1,36 +1,36 @@
-//! What the server answers.
+//! The server's replies.
 use octets::{List, Octets};
 
-/// An answer: the lines before the last one, and the last one's parts (RFC 5804, section 1.3).
+/// A reply: the lines before the last one, and the last one's parts (RFC 5804, section 1.3).
 ///
-/// Without a word there is no last line, and code and text aren't written.
+/// Without a status there is no last line, and code and text aren't written.
 #[derive(Drop)]
 pub struct Reply {
     /// The lines before the last one.
     pub lines: List<Line>,
-    /// The last line's word, where there is a last line.
+    /// The last line's status, if there is a last line.
     pub word: Option<Status>,
-    /// What the last line says for programs.
+    /// The response code in the last line, for programs.
     pub code: Option<Code>,
-    /// What the last line says for people.
+    /// The text in the last line, for people.
     pub text: Option<Octets>,
 }
 
-/// The first word of an answer's last line (RFC 5804, sections 1.2 and 1.3).
+/// The status of a reply's last line (RFC 5804, sections 1.2 and 1.3).
 #[derive(Clone, Copy)]
 pub enum Status {
-    /// It was done.
+    /// The command was done.
     Ok,
-    /// It was not.
+    /// It was not done.
     No,
-    /// It was not, and the server closes the connection.
+    /// It was not done, and the server closes the connection.
     Bye,
 }
 
 /// A line before the last one.
 #[derive(Drop)]
 pub enum Line {
-    /// What the server can do, and its value (section 1.7).
+    /// A capability of the server, and its value (section 1.7).
     Capability { name: Octets, value: Option<Octets> },
     /// A script's name, and whether it is the active one (section 2.7).
     Script { name: Octets, active: bool },
@@ -40,10 +40,10 @@ pub enum Line {
     Empty,
 }
 
-/// What a last line says for programs (section 1.3).
+/// A response code (section 1.3).
 #[derive(Drop)]
 pub enum Code {
-    /// The string that `NOOP` came with.
+    /// The string of the client's `NOOP`.
     Tag(Octets),
     /// The script is too large.
     MaxSize,
@@ -53,7 +53,7 @@ pub enum Code {
     NonExistent,
     /// The script is the active one.
     Active,
-    /// A script has that name already.
+    /// Another script has that name already.
     AlreadyExists,
     /// The server can't do it now.
     TryLater,

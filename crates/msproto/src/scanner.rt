@@ -1,4 +1,4 @@
-//! A scan that looks for the end of the first item, octet by octet.
+//! A scan for the end of the first item, octet by octet.
 ghost use Rattle.std.specs.Prelude.{◌≡◌, ℕ, ◌+◌, ◌-◌, ◌<◌, ◌≤◌, ◌++◌, ◌∷◌, [], Bool, List, length, fold, take};
 ghost use Rattle.msproto.specs.declared.items.Reach.TheVariants.{Need};
 ghost use Rattle.msproto.specs.Items.{Reaches};
@@ -10,16 +10,16 @@ use crate::items::Reach;
 use crate::state::State;
 use std::marker::Model;
 
-/// The most octets outside literals of one item.
+/// The largest number of octets outside literals in one item.
 const MAX_OUTSIDE: usize = 8192;
 
 /// The largest literal, in octets.
 const MAX_LITERAL: u32 = 1_048_576;
 
-/// A scan of a stream that comes in pieces: what came first in the octets so far, and how many were looked at.
+/// A scan of a stream that comes in pieces: the first item in the octets so far, and how many were looked at.
 ///
-/// It stands for the octets that it took since `new`, and keeps none of them: where their line stands, and two numbers.
-/// No call takes memory. What came first stays: octets are taken only as long as nothing did.
+/// It stands for the octets that it took since `new`, and keeps none of them: only the state of their line, and two numbers.
+/// No call takes memory. Once the first item is found it stays: octets are taken only until then.
 #[derive(Drop)]
 pub struct Scan {
     line: State,
@@ -50,7 +50,7 @@ impl Model for Scan {
 }
 
 impl Scan {
-    /// Before the first octet; while a challenge is pending the item is one string.
+    /// Before the first octet; if a challenge is pending, the item is one string.
     pub fn new(pending: bool) -> Scan
         ensures { StandsFor pending result [] }
     {
@@ -62,7 +62,7 @@ impl Scan {
         }
     }
 
-    /// Takes one octet more. Nothing may have come first yet: `state` tells.
+    /// Takes one octet more. The first item may not be found yet: see `state`.
     pub fn turn(&mut self, octet: u8)
         requires { reached self.old ≡ Need }
         ensures taken { self.new ≡ fed self.old octet }
@@ -84,11 +84,11 @@ impl Scan {
         }
     }
 
-    /// Takes the octets of a piece in turn until something comes first, and gives how many it took: all of them where
-    /// nothing did. Octets that came later are not looked at, nor any where something had come first already.
+    /// Takes the octets of a piece in order until the first item ends, and returns how many it took: all of them if
+    /// it doesn't end. Octets after it are not looked at, nor any if the item was found before.
     ///
-    /// Time is linear in the octets taken that stand outside literals, each of which is looked at once, or twice where
-    /// it ends a run that is taken in one step; those inside literals are counted alone.
+    /// Time is linear in the octets taken outside literals, each of which is looked at once, or twice if
+    /// it ends a run that is taken in one step; those inside literals are only counted.
     pub fn feed(&mut self, octets: &[u8]) -> usize
         ensures within { result ≤ length octets.now }
         ensures until { self.new ≡ fed_until self.old octets.now }
@@ -108,7 +108,7 @@ impl Scan {
         taken
     }
 
-    /// What came first in the octets so far: `Need` where nothing did yet.
+    /// The first item in the octets so far: `Need` if it isn't complete.
     pub fn state(&self) -> Reach
         ensures reached { result ≡ reached self.now }
         ensures value { (pending : Bool) (text : List ℕ) → StandsFor pending self.now text → result ≡ reach_of pending text }
@@ -118,7 +118,7 @@ impl Scan {
         self.reach
     }
 
-    /// How many octets the scan took. No item is so long that this could come near the greatest number.
+    /// How many octets the scan took. No item is so long that this could come near the largest number.
     pub fn looked(&self) -> u64
         ensures value { result ≡ self.now.looked }
         ensures count { (pending : Bool) (text : List ℕ) → StandsFor pending self.now text → result ≡ length text }
@@ -126,7 +126,7 @@ impl Scan {
         self.looked as u64
     }
 
-    // Takes a run of octets in one step, or else one octet; none where there is none.
+    // Takes a run of octets in one step, or else one octet; returns 0 if there is none.
     fn feed_some(&mut self, octets: &[u8]) -> usize
         requires { reached self.old ≡ Need }
         ensures within { result ≤ length octets.now }
@@ -145,8 +145,8 @@ impl Scan {
         1
     }
 
-    // Takes the octets in front that end nothing and leave the line where it stands: those of a name, of a literal,
-    // plain ones between quotation marks, and those of a bad line before its LF. Gives how many.
+    // Takes the octets at the start that end nothing and leave the line in its state: those of a name, of a literal,
+    // plain ones between quotation marks, and those of a bad line before its LF. Returns how many.
     fn feed_run(&mut self, octets: &[u8]) -> usize
         requires { reached self.old ≡ Need }
         ensures within { result ≤ length octets.now }
@@ -193,7 +193,7 @@ impl Scan {
     }
 }
 
-// How many octets outside literals the next octet is.
+// 1 if the next octet is outside literals, else 0.
 fn weight(state: State) -> usize
     ensures { result ≡ m.weight (s.shown state) }
 {
@@ -203,7 +203,7 @@ fn weight(state: State) -> usize
     }
 }
 
-// What an octet ends, which leads from one state to the next.
+// What ends with an octet that leads from one state to the next.
 fn ending(state: State, next: State, octet: u8, outside: usize, looked: usize) -> Reach
     requires { s.shown next ≡ m.step (s.shown state) octet }
     ensures { result ≡ s.ending (s.shown state) outside looked octet }

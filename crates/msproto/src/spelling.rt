@@ -1,4 +1,4 @@
-//! The octets of an answer.
+//! Writes a reply.
 ghost use Rattle.std.specs.Prelude.{◌≡◌, ◌++◌, [], ◌∷◌, OnOk, OnErr};
 ghost use Rattle.msproto.specs.Arguments.{inside, escaped};
 ghost use Rattle.msproto.specs.Replies as s;
@@ -9,12 +9,12 @@ use octets::{Octets, write_decimal};
 use std::alloc::{AllocError, Global};
 use std::mem;
 
-/// The most octets that stand around a script's name or text in its line: a literal's braces, digits and line end, and ` ACTIVE`.
+/// The largest number of octets around a script's name or text in its line: a literal's braces, digits and line end, and ` ACTIVE`.
 const MOST_AROUND: usize = 32;
 
-/// Appends the answer's octets: strings are quoted where they fit, with `\` before each `"` and `\`, else literals.
+/// Appends the reply: strings are quoted if they fit, with `\` before each `"` and `\`, else literals.
 ///
-/// Time and memory are linear in the answer's octets; a text is copied once. Lack of memory is the only error, and `out`
+/// Time and memory are linear in the reply's octets; a text is copied once. Lack of memory is the only error, and `out`
 /// is then as before.
 pub fn spell(alloc: Global, reply: &Reply, out: &mut Octets) -> Result<(), AllocError>
     ensures ok { OnOk result (out.new ≡ out.old ++ s.spelled reply.now) }
@@ -31,7 +31,7 @@ pub fn spell(alloc: Global, reply: &Reply, out: &mut Octets) -> Result<(), Alloc
     done
 }
 
-// About how many octets the lines before the last one take, where nothing in them is escaped.
+// About how many octets the lines before the last one take, if nothing in them is escaped.
 fn room(lines: &[Line]) -> usize {
     let mut count: usize = 0;
     for line in lines {
@@ -131,7 +131,7 @@ fn code(code: &Option<Code>, out: &mut Octets) -> Result<(), AllocError>
     }
 }
 
-// A space and a string, where there is one.
+// A space and a string, if there is one.
 fn after_space(text: &Option<Octets>, out: &mut Octets) -> Result<(), AllocError>
     ensures ok { OnOk result (out.new ≡ out.old ++ s.after_space text.now) }
     ensures err { OnErr result (s.Extends out.old out.new) }
@@ -145,7 +145,7 @@ fn after_space(text: &Option<Octets>, out: &mut Octets) -> Result<(), AllocError
     }
 }
 
-/// Appends a text as a string (RFC 5804, section 4): quoted where it fits, with `\` before each `"` and `\`, else a literal.
+/// Appends a text as a string (RFC 5804, section 4): quoted if it fits, with `\` before each `"` and `\`, else a literal.
 ///
 /// Time and memory are linear in the text. Lack of memory is the only error, and `out` then has more at its end.
 pub fn spell_string(text: &[u8], out: &mut Octets) -> Result<(), AllocError>

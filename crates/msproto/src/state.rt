@@ -1,4 +1,4 @@
-//! Where a line stands after each of its octets: a state, and no search.
+//! The state of a line after each of its octets: reading needs no search.
 ghost use Rattle.std.specs.Prelude.{◌≡◌, ◌≤◌, ℕ, length, take};
 ghost use Rattle.std.specs.List.{prefix_len};
 ghost use Rattle.msproto.specs.Machine as m;
@@ -6,19 +6,19 @@ ghost use Rattle.msproto.specs.Shown as s;
 
 use crate::verb::{Params, Verb};
 
-/// The longest quoted string, in octets between its marks, in what is read and in what is written (RFC 5804, section 4).
+/// The longest quoted string, in octets between its quotation marks, in what is read and in what is written (RFC 5804, section 4).
 pub(crate) const MAX_QUOTED: u32 = 1024;
 
-/// Where a line stands. Numbers are octets, or the number that was read so far.
+/// The state of a line. Numbers are octets, or the number that was read so far.
 #[derive(Clone, Copy)]
 pub enum State {
     /// In a name: a verb that begins with the letters so far, and how many they are.
     Word(Verb, usize),
     /// After a name or an argument.
     Between(Params),
-    /// Where a string begins.
+    /// At the start of a string.
     Opening(Params),
-    /// Between quotation marks, where that many octets more may stand.
+    /// Between quotation marks; that many octets more may follow.
     Quoted(u32, Params),
     /// After a backslash.
     Escaped(u32, Params),
@@ -30,19 +30,19 @@ pub enum State {
     Return(u32, Params),
     /// Inside a literal, of which one octet and that many more are to come.
     Body(u32, Params),
-    /// Where a number begins, and in it.
+    /// At the start of a number, and in it.
     Number,
     Digits(u32),
     /// After the line's CR.
     LineFeed,
     /// After a whole command.
     Whole,
-    /// Where no command goes on.
+    /// No command can follow.
     Dead,
 }
 
 impl State {
-    /// The state before a line's first octet; while a challenge is pending the line is one string.
+    /// The state before a line's first octet; if a challenge is pending, the line is one string.
     pub(crate) fn start(pending: bool) -> State
         ensures { s.shown result ≡ m.start pending }
     {
@@ -76,7 +76,7 @@ impl State {
         }
     }
 
-    /// The state after the octets in front that leave the line in the same name, between the same quotation marks or
+    /// The state after the octets at the start that leave the line in the same name, between the same quotation marks or
     /// on the same bad line, and how many they are.
     pub(crate) fn feed_run(self, octets: &[u8]) -> (State, usize)
         ensures count { result.1 ≡ s.skimmed self octets.now }
@@ -100,7 +100,7 @@ impl State {
     }
 }
 
-// How many octets in front are these letters in upper or lower case.
+// How many octets at the start are these letters in upper or lower case.
 fn spelling_length(letters: &[u8], octets: &[u8]) -> usize
     ensures value { result ≡ s.spelling letters.now octets.now }
     ensures within { result ≤ length octets.now }
@@ -123,7 +123,7 @@ fn spelling_length(letters: &[u8], octets: &[u8]) -> usize
     count
 }
 
-// How many octets in front stand between quotation marks as they are.
+// How many octets at the start may be between quotation marks without an escape.
 fn plain_length(octets: &[u8]) -> usize
     ensures value { result ≡ prefix_len s.is_plain octets.now }
     ensures within { result ≤ length octets.now }
@@ -134,7 +134,7 @@ fn plain_length(octets: &[u8]) -> usize
         .count()
 }
 
-// How many octets stand before the first LF.
+// How many octets come before the first LF.
 fn inner_length(octets: &[u8]) -> usize
     ensures value { result ≡ prefix_len s.is_inner octets.now }
     ensures within { result ≤ length octets.now }
@@ -142,7 +142,7 @@ fn inner_length(octets: &[u8]) -> usize
     octets.iter().take_while(|octet| **octet != b'\n').count()
 }
 
-// One octet that must be this one.
+// The state after one octet that must be this one.
 fn expect(octet: u8, wanted: u8, next: State) -> State
     ensures { s.shown result ≡ s.only octet wanted (s.shown next) }
 {
@@ -201,7 +201,7 @@ fn in_quotes(left: u32, params: Params, octet: u8) -> State
 {
     match octet {
         b'"' => State::Between(params),
-        // The octet after it counts too.
+        // The octet after the backslash counts too.
         b'\\' if left > 1 => State::Escaped(left - 2, params),
         b'\\' | b'\0' | b'\n' | b'\r' => State::Dead,
         _ if left > 0 => State::Quoted(left - 1, params),
@@ -260,7 +260,7 @@ fn in_number(number: u32, octet: u8) -> State
     }
 }
 
-// Where that many octets of a literal are to come.
+// The state of a literal of which that many octets are to come.
 fn literal(left: u32, params: Params) -> State
     ensures { s.shown result ≡ m.literal_left left (s.params_shown params) }
 {
@@ -282,7 +282,7 @@ fn first_digit(octet: u8) -> Option<u32>
     }
 }
 
-// A number with a digit more, if no extra zero is in front of it and it stays below 2^32.
+// A number with one digit more, if it has no leading zero and stays below 2^32.
 fn next_digit(number: u32, octet: u8) -> Option<u32>
     ensures { result ≡ s.next_digit number octet }
 {

@@ -1,4 +1,4 @@
-//! The names of the commands, and what may stand after each.
+//! The names of the commands, and what may follow each.
 ghost use Rattle.std.specs.Prelude.{◌≡◌, ◌∷◌, ◌++◌, [], map, true, false, MatchOption};
 ghost use Rattle.std.specs.Char.{to_ascii_uppercase};
 ghost use Rattle.msproto.specs.Machine.{word_of, params_of, verbs, verb_in, rows, rows_of, begins, begins_row, same_word};
@@ -22,7 +22,7 @@ pub enum Verb {
     Unauthenticate,
 }
 
-/// What may still stand on a command's line before its end.
+/// What may still follow on a command's line before its end.
 #[derive(Clone, Copy)]
 pub enum Params {
     /// Nothing.
@@ -79,7 +79,7 @@ impl Verb {
         }
     }
 
-    /// What may stand after the name.
+    /// What may follow the name.
     pub(crate) fn params(self) -> Params
         ensures { params_shown result ≡ params_of self }
     {
@@ -95,14 +95,14 @@ impl Verb {
         }
     }
 
-    /// The verb of a name in upper or lower case.
+    /// The verb with this name, in upper or lower case.
     pub(crate) fn named(name: &[u8]) -> Option<Verb>
         ensures { result ≡ verb_in verbs (map to_ascii_uppercase name.now) }
     {
         find_named(&VERBS, name)
     }
 
-    /// A verb whose name begins with these letters and this one, upper case all: this one, if it does.
+    /// A verb whose name begins with these letters and this one, all in upper case: this one, if it does.
     pub(crate) fn extend(self, letters: &[u8], letter: u8) -> Option<Verb>
         ensures { IsExtension rows letters.now letter result }
     {
@@ -145,7 +145,7 @@ fn find_extending(verbs: &[Verb], letters: &[u8], letter: u8) -> Option<Verb>
     None
 }
 
-// Whether the name is the word but for its case.
+// Whether the name is the word, ignoring case.
 fn spells(name: &[u8], word: &[u8]) -> bool
     ensures { result ≡ same_word word.now (map to_ascii_uppercase name.now) }
 {

@@ -12,14 +12,14 @@ use Rattle.mailtables.specs.Rows.{Tables, HoldsTables}
 abbrev pub Lists : List ℕ → State → State → Result (Vec Row Global) Error → Type 0
 Lists sql old new result = IfOk result (λ rows. Shown sql [] old new rows.items) × IfErr result (λ e. FailsToQuery sql [] old new e ⊎ IsTooLate sql [] old new e)
 
--- the last commit stands, and after Ok this is found
+-- the last commit stays, and after Ok this is found
 abbrev pub Finds : {X : Type 0} → (X → Database → Database → Type 0) → State → State → Result X Error → Type 0
 Finds Found old new result = KeepsCommit old new × IfOk result (λ x. Found x old.now new.now × Shows old new new.now old.committed true)
 
--- the last commit stands, and after Ok what is seen has turned like this, inside the same transaction still
+-- the last commit stays, and after Ok what is seen has turned like this, still inside the same transaction
 abbrev pub TurnsInside : {X : Type 0} → (Database → Database → Type 0) → State → State → Result X Error → Type 0
 TurnsInside Turned old new result = KeepsCommit old new × OnOk result (Turned old.now new.now × IsTrue new.in_transaction)
 
--- where the schema was the first one, it is then the next, which lacks a table: the others hold what they held
+-- if the schema was the first one, it is then the next, which lacks a table: the others hold what they held
 abbrev pub LosesTable : Schema → Schema → Database → Database → Type 0
 LosesTable schema next old new = (tables : Tables) → HoldsTables schema old tables → HoldsTables next new tables

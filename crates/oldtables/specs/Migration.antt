@@ -25,7 +25,7 @@ use Rattle.mailtables.specs.CopyTable.{copy_tree}
 use Rattle.oldtables.specs.SecondSchema.{IsSecondSchema}
 use Rattle.oldtables.specs.Inside.{LosesTable}
 
--- a copy of version 1, as its row has it
+-- a copy of version 1, as in its row
 abbrev pub cells_of : OldCopy → Row
 cells_of copy = Blob copy.owner.now ∷ Blob copy.folder.now ∷ Int copy.n ∷ Blob copy.message.now ∷ []
 
@@ -35,7 +35,7 @@ pub record AreOldCopies (rows : Vec Row Global) (old new : Database) : Type 0 wh
   pub last : (tables : Tables) → HoldsTables old_schema old tables → IsPermutation (map old_cells (tables old_copy_tree)) rows.items
   pub fourth : (tables : Tables) → HoldsTables oldest_schema old tables → IsPermutation (map old_cells (tables oldest_copy_tree)) rows.items
 
--- the table of the copies goes: of version 1 where it was the last, and where it was the fourth and the later ones are gone; and of version 2
+-- the table of the copies is dropped: of version 1 if it was the last, or if it was the fourth and the later ones are dropped; and of version 2
 pub record LosesCopies (old new : Database) : Type 0 where
   pub last : LosesTable old_schema schema_6 old new
   pub fourth : LosesTable oldest_4 schema_3 old new
@@ -45,7 +45,7 @@ pub record LosesCopies (old new : Database) : Type 0 where
 abbrev pub before : ℕ → Tables → Tables
 before n tables tree = cond (nat_le n tree) [] (tables tree)
 
--- the tables of the copies last, and then those of the messages and of their copies, with no row
+-- drops the table of the copies, which is the last, and makes those of the messages and of their copies, without rows
 abbrev pub Remakes : Database → Database → Type 0
 Remakes old new = (tables : Tables) → HoldsTables old_schema old tables → HoldsTables mail_schema new (before old_copy_tree tables)
 
@@ -53,7 +53,7 @@ Remakes old new = (tables : Tables) → HoldsTables old_schema old tables → Ho
 abbrev pub refiled : Row → Tables → Tables
 refiled cells tables = added copy_tree (copy_from cells) (added message_tree (message_from cells) tables)
 
--- these do, in turn
+-- these do, in order
 abbrev pub filled : List Row → Tables → Tables
 filled rows tables = fold (λ now cells. refiled cells now) tables rows
 
@@ -61,7 +61,8 @@ filled rows tables = fold (λ now cells. refiled cells now) tables rows
 abbrev pub renewed : Tables → Tables
 renewed tables = added meta_tree version_row (removed meta_tree version_key tables)
 
--- of the tables of version 1, with the copies last, these are those of version 3: each copy has its message, of its own number, and the other rows are as before
+-- from the tables of version 1, with the copies last, these are those of version 3: each copy has its message, of its own number, and the other rows
+-- are as before
 pub record IsMigrated (old new : Tables) : Type 0 where
   pub copies : List Row
   pub same : IsPermutation (map old_cells (old old_copy_tree)) copies
@@ -78,7 +79,7 @@ pub record IsMigrated (old new : Tables) : Type 0 where
 abbrev pub TurnsNew : Database → Database → Type 0
 TurnsNew old new = (tables : Tables) → HoldsTables old_schema old tables → (after : Tables) × IsMigrated tables after × HoldsTables mail_schema new after
 
--- ---- with the copies fourth: the tables after them are made anew, with their rows
+-- ---- with the copies fourth: the tables after them are made again, with their rows
 
 -- all rows of a table of it are these, in any order
 abbrev pub AreRowsAt : ℕ → (Row → Row) → Database → Vec Row Global → Type 0
@@ -96,11 +97,11 @@ pub record AreLater (later : Later) (old new : Database) : Type 0 where
   pub replies : AreRowsAt oldest_reply_tree four_cells old later.replies
   pub notices : AreRowsAt oldest_notice_tree four_cells old later.notices
 
--- the tables from the copies on, and then those of version 3 with no row
+-- drops the tables from the copies on, and makes those of version 3 without rows
 abbrev pub RemakesAll : Database → Database → Type 0
 RemakesAll old new = (tables : Tables) → HoldsTables oldest_schema old tables → HoldsTables mail_schema new (before oldest_copy_tree tables)
 
--- these rows join a table, in turn
+-- these rows are added to a table, in order
 abbrev pub joined : ℕ → (Row → Row) → List Row → Tables → Tables
 joined tree columns rows tables = fold (λ now cells. added tree (columns cells) now) tables rows
 
@@ -108,7 +109,7 @@ joined tree columns rows tables = fold (λ now cells. added tree (columns cells)
 abbrev pub restored : Later → Tables → Tables
 restored later tables = joined notice_tree four_cells later.notices.items (joined reply_tree four_cells later.replies.items (joined outgoing_tree queue_columns later.queue.items tables))
 
--- of the tables of version 1 with the copies fourth, these are those with the copies last: each has the rows that it had, in any order
+-- from the tables of version 1 with the copies fourth, these are those with the copies last: each has the rows that it had, in any order
 pub record IsMoved (old new : Tables) : Type 0 where
   pub versions : new meta_tree ≡ old meta_tree
   pub accounts : new account_tree ≡ old account_tree
@@ -122,7 +123,7 @@ pub record IsMoved (old new : Tables) : Type 0 where
 abbrev pub TurnsNewest : Database → Database → Type 0
 TurnsNewest old new = (tables : Tables) → HoldsTables oldest_schema old tables → (moved after : Tables) × IsMoved tables moved × IsMigrated moved after × HoldsTables mail_schema new after
 
--- ---- what the rows of the later tables are taken apart into
+-- ---- the fields of the rows of the later tables
 
 abbrev pub queued_cells : Queued → Row
 queued_cells q = Blob q.owner.now ∷ Int q.id ∷ Int q.kind ∷ Blob q.sender.now ∷ Blob q.target.now ∷ Blob q.message.now ∷ []

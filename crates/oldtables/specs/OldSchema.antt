@@ -31,7 +31,7 @@ old_copy_tree = 12
 abbrev pub old_schema : Schema
 old_schema = created schema_6 (old_copy 0)
 
--- version 1 with the copies fourth, before the queue, the replies and the notices; and how it stood when each of these was made
+-- version 1 with the copies fourth, before the queue, the replies and the notices; and its state when each of these was made
 abbrev pub oldest_copy_tree : ℕ
 oldest_copy_tree = 6
 
@@ -87,7 +87,7 @@ select_old_replies = codes "SELECT owner, handle, sender, moment FROM reply"
 abbrev pub select_old_notices : List ℕ
 select_old_notices = codes "SELECT owner, id, moment, text FROM notice"
 
--- ---- where the later tables stand, with the copies fourth
+-- ---- the places of the later tables, with the copies fourth
 
 abbrev pub oldest_outgoing_tree : ℕ
 oldest_outgoing_tree = 8

@@ -1,4 +1,4 @@
--- The opening of a database of any version.
+-- Opening a database of any version.
 use Rattle.std.specs.Prelude.{◌≡◌, ◌⊎◌, ◌↔◌, Bool, false, Result, IfOk, OnErr, IsTrue}
 use Rattle.sqlite_trees.specs.Tree.{Trees}
 use Rattle.sqlite_schema.specs.declared.schema.Schema.{Schema}
@@ -26,21 +26,21 @@ IsKnownSchema schema = IsOurSchema schema ⊎ IsBehind schema
 abbrev pub IsKnown : Database → Type 0
 IsKnown db = IsOurs db ⊎ (IsSecond db ⊎ IsOld db)
 
--- the schema's tables lie like this
+-- the schema's tables have this layout
 abbrev pub LiesAs : Layout → Schema → Type 0
 LiesAs Current schema = IsOurSchema schema
 LiesAs Second schema = IsSecondSchema schema
 LiesAs CopiesLast schema = schema ≡ old_schema
 LiesAs CopiesFourth schema = schema ≡ oldest_schema
 
--- what opening makes of a database whose tables lie like this
+-- how opening changes a database whose tables have this layout
 abbrev pub Becomes : Layout → Database → Database → Type 0
 Becomes Current = IsOpenedAs
 Becomes Second = TurnsThird
 Becomes CopiesLast = TurnsNew
 Becomes CopiesFourth = TurnsNewest
 
--- what a crash may leave of a database that is opened, beside what it left before: of one that opening changes, what that makes of it
+-- what a crash may leave of a database that is opened, besides what it left before: if opening changes it, the result of that
 pub record MayBecome (layout : Layout) (s : State) (trees : Trees) : Type 0 where
   pub known : IsKnown s.now
   pub behind : IsBehind s.now.schema
@@ -48,7 +48,8 @@ pub record MayBecome (layout : Layout) (s : State) (trees : Trees) : Type 0 wher
   pub became : Becomes layout s.now db
   pub left : trees ≡ db.trees
 
--- a database whose tables lie like this is opened: the answer says whether the row of the version is theirs; where it is, the database is of version 3 then, and its last commit is seen; where it isn't, and after a refusal, all is as it was, and so it is where nothing was to be done
+-- a database whose tables have this layout is opened: the answer says whether the row of the version is theirs; if it is, the database is of
+-- version 3 then, and its last commit is seen; if it isn't, after a refusal, and if nothing was to be done, all is as it was
 pub record OpensKnown {E : Type 0} (layout : Layout) (old new : State) (result : Result Bool E) : Type 0 where
   pub found : LiesAs layout old.now.schema → HasCleanDisk new → IfOk result (λ is. IsTrue is ↔ IsKnown old.now)
   pub opened : LiesAs layout old.now.schema → HasCleanDisk new → IfOk result (λ is. IsTrue is → Becomes layout old.now new.now × SeesCommit new)

@@ -1,4 +1,4 @@
--- The tables of version 2, where a copy has no flags, with the index of the copies by their messages or without it.
+-- The tables of version 2, in which a copy has no flags, with the index of the copies by their messages or without it.
 use Rattle.std.specs.Prelude.{◌≡◌, ◌⊎◌, ℕ, pos, List, [], ◌∷◌, codes}
 use Rattle.sqlite_schema.specs.declared.schema.Kind.TheVariants as kind
 use Rattle.sqlite_schema.specs.declared.schema.Table.{Table}
@@ -26,14 +26,14 @@ abbrev pub create_second_copy : List ℕ
 create_second_copy =
     codes "CREATE TABLE copy (owner BLOB NOT NULL REFERENCES account (name), folder BLOB NOT NULL, n INTEGER NOT NULL, id INTEGER NOT NULL, PRIMARY KEY (owner, folder, n), FOREIGN KEY (owner, id) REFERENCES message (owner, id)) STRICT"
 
--- its tables: but for the copies they are those of today, and so are the keys and the index of the copies
+-- its tables: except for the copies they are those of today, and so are the keys and the index of the copies
 abbrev pub second_tables : List Table
 second_tables = meta ∷ account ∷ script ∷ outgoing ∷ reply ∷ notice ∷ message ∷ second_copy ∷ []
 
 abbrev pub second_schema : Schema
 second_schema = record { tables = second_tables; indexes = the_indexes; views = [] }
 
--- that of a store that was made before there was the index of the copies by their messages
+-- that of a store that was made before the index of the copies by their messages was introduced
 abbrev pub second_unindexed_schema : Schema
 second_unindexed_schema = record { tables = second_tables; indexes = the_keys; views = [] }
 

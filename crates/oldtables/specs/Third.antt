@@ -20,7 +20,7 @@ use Rattle.oldtables.specs.OldSchema.{four_cells}
 use Rattle.oldtables.specs.SecondSchema.{IsSecondSchema, flagless}
 use Rattle.oldtables.specs.Migration.{before, joined, renewed}
 
--- a copy of version 2, as a row of version 3 has it
+-- a copy of version 2, as a row of version 3
 abbrev pub third_cells : SecondCopy → Row
 third_cells copy = copy_cells copy.owner.now copy.folder.now copy.n copy.id []
 
@@ -29,15 +29,15 @@ pub record AreSecondCopies (rows : Vec Row Global) (old new : Database) : Type 0
   pub same : IsSecondSchema old.schema → new ≡ old
   pub all : (schema : Schema) → IsSecondSchema schema → (tables : Tables) → HoldsTables schema old tables → IsPermutation (map four_cells (tables copy_tree)) rows.items
 
--- the table of the copies, and then that of version 3 with no row
+-- drops the table of the copies, and makes that of version 3 without rows
 abbrev pub RemakesCopies : Database → Database → Type 0
 RemakesCopies old new = (schema : Schema) → IsSecondSchema schema → (tables : Tables) → HoldsTables schema old tables → HoldsTables mail_schema new (before copy_tree tables)
 
--- the copies of version 2 join those of version 3 in turn, and the row of the version is that of version 3
+-- the copies of version 2 are added to those of version 3 in order, and the row of the version is that of version 3
 abbrev pub flagged : List Row → Tables → Tables
 flagged rows tables = renewed (joined copy_tree flagless rows tables)
 
--- of the tables of version 2 these are those of version 3: each copy is as it was, in any order, without flags, and the other rows are as before
+-- from the tables of version 2 these are those of version 3: each copy is as it was, in any order, without flags, and the other rows are as before
 pub record IsThird (old new : Tables) : Type 0 where
   pub filed : IsPermutation (map flagless (old copy_tree)) (new copy_tree)
   pub version : new meta_tree ≡ delete_where (has_key version_key) (old meta_tree) ++ version_row ∷ []

@@ -40,7 +40,7 @@ MigratesBy CopiesFourth = TurnsNewest
 abbrev pub Migrates : {X E : Type 0} → Older → State → State → Result X E → Type 0
 Migrates older old new result = HasCleanDisk new → OnOk result (MigratesBy older old.now new.now)
 
--- what a crash may leave while it does, beside what it left before
+-- what a crash may leave during that, besides what it left before
 pub record MayMigrate (older : Older) (s : State) (trees : Trees) : Type 0 where
   pub db : Database
   pub turned : MigratesBy older s.now db
@@ -51,7 +51,8 @@ pub record MayOpenOld (older : Older) (s : State) (trees : Trees) : Type 0 where
   pub old : IsOlder older s.now
   pub migrated : MayMigrate older s trees
 
--- a database of the version's tables is opened: the answer says whether its row of the version says it; where it does, it has become version 3, and its last commit is seen; where it doesn't, and after a refusal, all is as it was
+-- a database of the version's tables is opened: the answer says whether its row of the version says it; if it does, it has become version 3,
+-- and its last commit is seen; if it doesn't, and after a refusal, all is as it was
 pub record OpensOld {E : Type 0} (older : Older) (old new : State) (result : Result Bool E) : Type 0 where
   pub found : IsOlderSchema older old.now.schema → HasCleanDisk new → IfOk result (λ is. IsTrue is ↔ IsOlder older old.now)
   pub migrated : IsOlderSchema older old.now.schema → HasCleanDisk new → IfOk result (λ is. IsTrue is → MigratesBy older old.now new.now × SeesCommit new)

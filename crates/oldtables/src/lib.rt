@@ -1,4 +1,4 @@
-//! The tables of versions 1 and 2 in an SQL database, and how they become those of version 3.
+//! The tables of versions 1 and 2 in an SQL database, and their migration to those of version 3.
 #![tactic(auto)]
 
 mod migration;

@@ -1,4 +1,4 @@
-//! How a database of version 1 becomes one of version 3.
+//! Migrates a database of version 1 to version 3.
 ghost use Rattle.std.specs.Prelude.{◌≡◌, IfOk};
 ghost use Rattle.sqlite_value.specs.declared.value.Value.TheVariants.{Int, Blob};
 ghost use Rattle.sqlite_value.specs.Order.{column};
@@ -13,7 +13,7 @@ use mailtables::{add_copy, add_message, add_version, execute, make_folders};
 use sqlite::{Alter, Error, Row, Transaction};
 use sqlite_value::value::ValueRef;
 
-/// A copy of a message, as version 1 keeps it.
+/// A copy of a message, as version 1 stores it.
 #[derive(Drop)]
 pub(crate) struct OldCopy<'a> {
     pub owner: &'a [u8],
@@ -55,14 +55,14 @@ pub(crate) fn find_copies<S: Alter>(tx: &mut Transaction<'_, S>) -> Result<Vec<R
     list(tx, "SELECT owner, folder, n, message FROM copy")
 }
 
-/// The table of the copies goes, inside a transaction.
+/// Drops the table of the copies, inside a transaction.
 pub(crate) fn drop_copy<S: Alter>(tx: &mut Transaction<'_, S>) -> Result<(), Error>
     ensures { RunsInside S.Store (Makes LosesCopies) tx.old tx.new result }
 {
     execute(tx, "DROP TABLE copy", &[])
 }
 
-/// Instead of the table of the copies, which is the last, those of messages and copies, inside a transaction.
+/// Makes the tables of messages and copies in place of that of the copies, which is the last, inside a transaction.
 fn remake<S: Alter>(tx: &mut Transaction<'_, S>) -> Result<(), Error>
     ensures { RunsInside S.Store (Makes Remakes) tx.old tx.new result }
 {
@@ -70,7 +70,7 @@ fn remake<S: Alter>(tx: &mut Transaction<'_, S>) -> Result<(), Error>
     make_folders(tx)
 }
 
-/// The copy joins the messages and, without flags, the copies, inside a transaction.
+/// Adds the copy to the messages and, without flags, to the copies, inside a transaction.
 fn refile<S: Alter>(tx: &mut Transaction<'_, S>, copy: &OldCopy<'_>) -> Result<(), Error>
     ensures { ChangesRows S.Store (refiled (cells_of copy.now)) tx.old tx.new result }
 {
@@ -78,7 +78,7 @@ fn refile<S: Alter>(tx: &mut Transaction<'_, S>, copy: &OldCopy<'_>) -> Result<(
     add_copy(tx, copy.owner, copy.folder, &copy.n, &copy.n, b"")
 }
 
-/// The copies of the rows do so in turn, inside a transaction.
+/// Adds the copies in the rows in order, inside a transaction.
 fn fill<S: Alter>(tx: &mut Transaction<'_, S>, rows: &[Row]) -> Result<(), Error>
     ensures { RunsInside S.Store (TurnsInside (TurnsRows (filled rows.now))) tx.old tx.new result }
 {
@@ -89,7 +89,7 @@ fn fill<S: Alter>(tx: &mut Transaction<'_, S>, rows: &[Row]) -> Result<(), Error
     Ok(())
 }
 
-/// The row of the version says 3 then, inside a transaction.
+/// Sets the row of the version to 3, inside a transaction.
 pub(crate) fn renew_version<S: Alter>(tx: &mut Transaction<'_, S>) -> Result<(), Error>
     ensures { ChangesRows S.Store renewed tx.old tx.new result }
 {
@@ -97,7 +97,7 @@ pub(crate) fn renew_version<S: Alter>(tx: &mut Transaction<'_, S>) -> Result<(),
     add_version(tx)
 }
 
-/// The copies of the rows, and the version, inside a transaction.
+/// Adds the copies in the rows, and sets the version, inside a transaction.
 pub(crate) fn refill<S: Alter>(tx: &mut Transaction<'_, S>, rows: &[Row]) -> Result<(), Error>
     ensures { ChangesRows S.Store (λ tables. renewed (filled rows.now tables)) tx.old tx.new result }
 {
@@ -105,7 +105,7 @@ pub(crate) fn refill<S: Alter>(tx: &mut Transaction<'_, S>, rows: &[Row]) -> Res
     renew_version(tx)
 }
 
-/// Version 1, with the copies last, becomes version 3, inside a transaction. Takes memory for all copies.
+/// Migrates version 1, with the copies last, to version 3, inside a transaction. Takes memory for all copies.
 pub(crate) fn migrate_last<S: Alter>(tx: &mut Transaction<'_, S>) -> Result<(), Error>
     ensures { RunsInside S.Store (Makes TurnsNew) tx.old tx.new result }
 {

@@ -1,4 +1,4 @@
-//! Version 1 with the table of the copies fourth: the tables from it on are made anew, with their rows, in today's order.
+//! Migrates version 1 with the table of the copies fourth: the tables from it on are made again, with their rows, in today's order.
 ghost use Rattle.std.specs.Prelude.{◌≡◌, IfOk};
 ghost use Rattle.mailtables.specs.Connection.{RunsInside, Makes, TurnsRows, ChangesRows};
 ghost use Rattle.oldtables.specs.Inside.{TurnsInside, Finds, LosesTable};
@@ -23,7 +23,7 @@ pub(crate) struct Later {
     pub notices: Vec<Row>,
 }
 
-/// A message on its way out, as its row has it.
+/// A message on its way out, as in its row.
 #[derive(Drop)]
 pub(crate) struct Queued<'a> {
     pub owner: &'a [u8],
@@ -34,7 +34,7 @@ pub(crate) struct Queued<'a> {
     pub message: &'a [u8],
 }
 
-/// The moment of a last reply, as its row has it.
+/// The moment of a last reply, as in its row.
 #[derive(Drop)]
 pub(crate) struct Replied<'a> {
     pub owner: &'a [u8],
@@ -43,7 +43,7 @@ pub(crate) struct Replied<'a> {
     pub moment: i64,
 }
 
-/// A notice, as its row has it.
+/// A notice, as in its row.
 #[derive(Drop)]
 pub(crate) struct Noted<'a> {
     pub owner: &'a [u8],
@@ -142,28 +142,28 @@ fn find_later<S: Alter>(tx: &mut Transaction<'_, S>) -> Result<Later, Error>
     })
 }
 
-/// The table of the notices, which is the last, goes, inside a transaction.
+/// Drops the table of the notices, which is the last, inside a transaction.
 fn drop_notice<S: Alter>(tx: &mut Transaction<'_, S>) -> Result<(), Error>
     ensures { RunsInside S.Store (Makes (LosesTable oldest_schema oldest_6)) tx.old tx.new result }
 {
     execute(tx, "DROP TABLE notice", &[])
 }
 
-/// The table of the replies, which is the last then, goes, inside a transaction.
+/// Drops the table of the replies, which is the last then, inside a transaction.
 fn drop_reply<S: Alter>(tx: &mut Transaction<'_, S>) -> Result<(), Error>
     ensures { RunsInside S.Store (Makes (LosesTable oldest_6 oldest_5)) tx.old tx.new result }
 {
     execute(tx, "DROP TABLE reply", &[])
 }
 
-/// The table of the queue, which is the last then, goes, inside a transaction.
+/// Drops the table of the queue, which is the last then, inside a transaction.
 fn drop_outgoing<S: Alter>(tx: &mut Transaction<'_, S>) -> Result<(), Error>
     ensures { RunsInside S.Store (Makes (LosesTable oldest_5 oldest_4)) tx.old tx.new result }
 {
     execute(tx, "DROP TABLE outgoing", &[])
 }
 
-/// All three go, inside a transaction.
+/// Drops all three, inside a transaction.
 fn drop_later<S: Alter>(tx: &mut Transaction<'_, S>) -> Result<(), Error>
     ensures { RunsInside S.Store (Makes (LosesTable oldest_schema oldest_4)) tx.old tx.new result }
 {
@@ -172,7 +172,7 @@ fn drop_later<S: Alter>(tx: &mut Transaction<'_, S>) -> Result<(), Error>
     drop_outgoing(tx)
 }
 
-/// And the copies, inside a transaction.
+/// Drops the table of the copies too, inside a transaction.
 fn drop_from_copy<S: Alter>(tx: &mut Transaction<'_, S>) -> Result<(), Error>
     ensures { RunsInside S.Store (Makes (LosesTable oldest_schema schema_3)) tx.old tx.new result }
 {
@@ -180,7 +180,7 @@ fn drop_from_copy<S: Alter>(tx: &mut Transaction<'_, S>) -> Result<(), Error>
     drop_copy(tx)
 }
 
-/// Instead of the tables from the copies on, those of version 3, inside a transaction.
+/// Makes the tables of version 3 in place of those from the copies on, inside a transaction.
 fn remake_all<S: Alter>(tx: &mut Transaction<'_, S>) -> Result<(), Error>
     ensures { RunsInside S.Store (Makes RemakesAll) tx.old tx.new result }
 {
@@ -189,7 +189,7 @@ fn remake_all<S: Alter>(tx: &mut Transaction<'_, S>) -> Result<(), Error>
     make_folders(tx)
 }
 
-/// The message joins the queue, as its row had it, inside a transaction.
+/// Adds the message to the queue, as it was in its row, inside a transaction.
 fn requeue<S: Alter>(tx: &mut Transaction<'_, S>, queued: &Queued<'_>) -> Result<(), Error>
     ensures { ChangesRows S.Store (added outgoing_tree (queued_cells queued.now)) tx.old tx.new result }
 {
@@ -207,7 +207,7 @@ fn requeue<S: Alter>(tx: &mut Transaction<'_, S>, queued: &Queued<'_>) -> Result
     )
 }
 
-/// The moment joins the replies, inside a transaction.
+/// Adds the moment to the replies, inside a transaction.
 fn rereply<S: Alter>(tx: &mut Transaction<'_, S>, replied: &Replied<'_>) -> Result<(), Error>
     ensures { ChangesRows S.Store (added reply_tree (replied_cells replied.now)) tx.old tx.new result }
 {
@@ -220,14 +220,14 @@ fn rereply<S: Alter>(tx: &mut Transaction<'_, S>, replied: &Replied<'_>) -> Resu
     )
 }
 
-/// The notice joins the notices, inside a transaction.
+/// Adds the notice to the notices, inside a transaction.
 fn renote<S: Alter>(tx: &mut Transaction<'_, S>, noted: &Noted<'_>) -> Result<(), Error>
     ensures { ChangesRows S.Store (added notice_tree (noted_cells noted.now)) tx.old tx.new result }
 {
     add_notice(tx, noted.owner, &noted.id, &noted.moment, noted.text)
 }
 
-/// The rows join the queue in turn, inside a transaction.
+/// Adds the rows to the queue in order, inside a transaction.
 fn fill_queue<S: Alter>(tx: &mut Transaction<'_, S>, rows: &[Row]) -> Result<(), Error>
     ensures { RunsInside S.Store (TurnsInside (TurnsRows (joined outgoing_tree queue_columns rows.now))) tx.old tx.new result }
 {
@@ -238,7 +238,7 @@ fn fill_queue<S: Alter>(tx: &mut Transaction<'_, S>, rows: &[Row]) -> Result<(),
     Ok(())
 }
 
-/// The rows join the replies in turn, inside a transaction.
+/// Adds the rows to the replies in order, inside a transaction.
 fn fill_replies<S: Alter>(tx: &mut Transaction<'_, S>, rows: &[Row]) -> Result<(), Error>
     ensures { RunsInside S.Store (TurnsInside (TurnsRows (joined reply_tree four_cells rows.now))) tx.old tx.new result }
 {
@@ -249,7 +249,7 @@ fn fill_replies<S: Alter>(tx: &mut Transaction<'_, S>, rows: &[Row]) -> Result<(
     Ok(())
 }
 
-/// The rows join the notices in turn, inside a transaction.
+/// Adds the rows to the notices in order, inside a transaction.
 fn fill_notices<S: Alter>(tx: &mut Transaction<'_, S>, rows: &[Row]) -> Result<(), Error>
     ensures { RunsInside S.Store (TurnsInside (TurnsRows (joined notice_tree four_cells rows.now))) tx.old tx.new result }
 {
@@ -260,7 +260,7 @@ fn fill_notices<S: Alter>(tx: &mut Transaction<'_, S>, rows: &[Row]) -> Result<(
     Ok(())
 }
 
-/// The rows of all three do, inside a transaction.
+/// Adds the rows of all three, inside a transaction.
 fn restore<S: Alter>(tx: &mut Transaction<'_, S>, later: &Later) -> Result<(), Error>
     ensures { RunsInside S.Store (TurnsInside (TurnsRows (restored later.now))) tx.old tx.new result }
 {
@@ -269,8 +269,8 @@ fn restore<S: Alter>(tx: &mut Transaction<'_, S>, later: &Later) -> Result<(), E
     fill_notices(tx, &later.notices)
 }
 
-/// Version 1, with the copies fourth, becomes version 3, inside a transaction. Takes memory for all copies, for the queue, the
-/// replies and the notices.
+/// Migrates version 1, with the copies fourth, to version 3, inside a transaction. Takes memory for all copies, for the queue,
+/// the replies and the notices.
 pub(crate) fn migrate_fourth<S: Alter>(tx: &mut Transaction<'_, S>) -> Result<(), Error>
     ensures { RunsInside S.Store (Makes TurnsNewest) tx.old tx.new result }
 {

@@ -1,4 +1,4 @@
-//! The opening of a database of any version.
+//! Opens a database of any version.
 ghost use Rattle.std.specs.Prelude.{◌≡◌, false, IfSome, IfNone};
 ghost use Rattle.sqlite.specs.Held.{state};
 ghost use Rattle.oldtables.specs.Opening.{IsKnownSchema, LiesAs, OpensKnown};
@@ -10,7 +10,7 @@ use mailtables::{is_ours, open_tables};
 use sqlite::{Alter, Connection, Error};
 use sqlite_schema::schema::Schema;
 
-/// How the tables of a store lie.
+/// The layout of a store's tables.
 #[derive(Clone, Copy, Debug, PartialEq, Eq)]
 pub enum Layout {
     /// Those of version 3.
@@ -23,7 +23,7 @@ pub enum Layout {
     CopiesFourth,
 }
 
-/// How the tables lie, where they and their indexes are exactly ours, of any version; else none.
+/// The layout of the tables, if they and their indexes are exactly ours, of any version; else `None`.
 pub fn layout_of(schema: &Schema) -> Option<Layout>
     ensures found { IfSome result (λ layout. LiesAs layout schema.now) }
     ensures none { IfNone result (¬ IsKnownSchema schema.now) }
@@ -41,12 +41,12 @@ pub fn layout_of(schema: &Schema) -> Option<Layout>
     }
 }
 
-/// Opens a database whose tables lie like this: whether its row of the version says theirs. Where it does, the database is of
-/// version 3 then, in one transaction.
+/// Opens a database whose tables have this layout: returns whether its row of the version says theirs. If it does, the database is
+/// migrated to version 3, in one transaction.
 ///
-/// Of version 3 no table is read but that of the version. Version 2 takes memory for the rows of all copies, version 1 for all
-/// copies with their messages, with the copies fourth also for the queue, the replies and the notices. After a refusal it is as it
-/// was.
+/// With version 3 only the table of the version is read. Version 2 takes memory for the rows of all copies, version 1 for all
+/// copies with their messages, and with the copies fourth also for the queue, the replies and the notices. After a refusal it is as
+/// it was.
 pub fn open_known<S: Alter>(conn: &mut Connection<S>, layout: Layout) -> Result<bool, Error>
     requires { conn.old.in_transaction ≡ false }
     ensures ended { conn.new.in_transaction ≡ false }

@@ -1,4 +1,4 @@
-//! Whether the tables of a database are those of version 2, or of version 1 in either order, and no others.
+//! Checks whether the tables of a database are those of version 2, or of version 1 in either order, and no others.
 ghost use Rattle.std.specs.Prelude.{◌≡◌, ◌⊎◌, ◌↔◌, [], ◌∷◌, IsTrue};
 ghost use Rattle.mailtables.specs.QueueTable.{outgoing as the_outgoing};
 ghost use Rattle.mailtables.specs.ReplyTable.{reply as the_reply};
@@ -14,7 +14,7 @@ use mailtables::schema::{
 };
 use sqlite_schema::schema::{Index, Kind, Schema, Table};
 
-/// Whether it is the table of version 1's copies.
+/// Whether this is the table of version 1's copies.
 fn is_old_copy(table: &Table, tree: u32) -> bool
     ensures { IsTrue result ↔ (table.now ≡ old_copy tree) }
 {
@@ -111,7 +111,7 @@ pub(crate) fn is_oldest(schema: &Schema) -> bool
         && schema.views.is_empty()
 }
 
-/// Whether it is the table of version 2's copies.
+/// Whether this is the table of version 2's copies.
 fn is_second_copy(table: &Table) -> bool
     ensures { IsTrue result ↔ (table.now ≡ second_copy) }
 {

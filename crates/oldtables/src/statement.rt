@@ -4,7 +4,7 @@ ghost use Rattle.oldtables.specs.Inside.{Lists};
 
 use sqlite::{Alter, Error, Row, Transaction};
 
-/// All rows of the answer of a query without parameters, inside the transaction.
+/// All rows of the answer to a query without parameters, inside the transaction.
 pub(crate) fn list<S: Alter>(tx: &mut Transaction<'_, S>, sql: &str) -> Result<Vec<Row>, Error>
     ensures { RunsInside S.Store (Lists sql.now) tx.old tx.new result }
 {

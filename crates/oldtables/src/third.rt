@@ -1,4 +1,4 @@
-//! How a database of version 2 becomes one of version 3: the copies are made anew, without flags.
+//! Migrates a database of version 2 to version 3: the table of the copies is made again, without flags.
 ghost use Rattle.std.specs.Prelude.{◌≡◌, IfOk};
 ghost use Rattle.mailtables.specs.Connection.{RunsInside, Makes, TurnsRows, ChangesRows};
 ghost use Rattle.mailtables.specs.CopyTable.{copy_tree};
@@ -13,7 +13,7 @@ use crate::statement::list;
 use mailtables::{add_copy, make_copies};
 use sqlite::{Alter, Error, Row, Transaction};
 
-/// A copy of a message, as version 2 keeps it: it says which.
+/// A copy of a message, as version 2 stores it: with the message's number.
 #[derive(Drop)]
 pub(crate) struct SecondCopy<'a> {
     pub owner: &'a [u8],
@@ -45,7 +45,7 @@ fn find_second<S: Alter>(tx: &mut Transaction<'_, S>) -> Result<Vec<Row>, Error>
     list(tx, "SELECT owner, folder, n, id FROM copy")
 }
 
-/// Instead of the table of the copies, which is the last, that of version 3, inside a transaction.
+/// Makes the table of the copies of version 3 in place of the old one, which is the last, inside a transaction.
 fn remake_copies<S: Alter>(tx: &mut Transaction<'_, S>) -> Result<(), Error>
     ensures { RunsInside S.Store (Makes RemakesCopies) tx.old tx.new result }
 {
@@ -53,14 +53,14 @@ fn remake_copies<S: Alter>(tx: &mut Transaction<'_, S>) -> Result<(), Error>
     make_copies(tx)
 }
 
-/// The copy joins the copies, without flags, inside a transaction.
+/// Adds the copy to the copies, without flags, inside a transaction.
 fn recopy<S: Alter>(tx: &mut Transaction<'_, S>, copy: &SecondCopy<'_>) -> Result<(), Error>
     ensures { ChangesRows S.Store (added copy_tree (third_cells copy.now)) tx.old tx.new result }
 {
     add_copy(tx, copy.owner, copy.folder, &copy.n, &copy.id, b"")
 }
 
-/// The copies of the rows do so in turn, inside a transaction.
+/// Adds the copies in the rows in order, inside a transaction.
 fn fill_copies<S: Alter>(tx: &mut Transaction<'_, S>, rows: &[Row]) -> Result<(), Error>
     ensures { RunsInside S.Store (TurnsInside (TurnsRows (joined copy_tree flagless rows.now))) tx.old tx.new result }
 {
@@ -71,7 +71,7 @@ fn fill_copies<S: Alter>(tx: &mut Transaction<'_, S>, rows: &[Row]) -> Result<()
     Ok(())
 }
 
-/// The copies of the rows, and the version, inside a transaction.
+/// Adds the copies in the rows, and sets the version, inside a transaction.
 fn refill_copies<S: Alter>(tx: &mut Transaction<'_, S>, rows: &[Row]) -> Result<(), Error>
     ensures { ChangesRows S.Store (flagged rows.now) tx.old tx.new result }
 {
@@ -79,8 +79,8 @@ fn refill_copies<S: Alter>(tx: &mut Transaction<'_, S>, rows: &[Row]) -> Result<
     renew_version(tx)
 }
 
-/// Version 2, with the index of the copies by their messages or without it, becomes version 3, inside a transaction. Takes memory
-/// for the rows of all copies, without their messages.
+/// Migrates version 2, with the index of the copies by their messages or without it, to version 3, inside a transaction. Takes
+/// memory for the rows of all copies, without their messages.
 pub(crate) fn migrate_second<S: Alter>(tx: &mut Transaction<'_, S>) -> Result<(), Error>
     ensures { RunsInside S.Store (Makes TurnsThird) tx.old tx.new result }
 {

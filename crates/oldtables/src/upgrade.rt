@@ -1,4 +1,4 @@
-//! A database of an earlier version becomes one of version 3 in one transaction.
+//! Migrates a database of an earlier version to version 3 in one transaction.
 ghost use Rattle.std.specs.Prelude.{◌≡◌, false, OnOk, OnErr};
 ghost use Rattle.sqlite.specs.Held.{state};
 ghost use Rattle.sqlite.specs.State.{Survives, HasCleanDisk};
@@ -11,7 +11,7 @@ use crate::third::migrate_second;
 use crate::version::{Older, has_old_version};
 use sqlite::{Alter, Connection, Error, Transaction};
 
-/// The earlier version becomes version 3, inside a transaction.
+/// Migrates the earlier version to version 3, inside a transaction.
 fn migrate_in<S: Alter>(tx: &mut Transaction<'_, S>, older: Older) -> Result<(), Error>
     ensures { RunsInside S.Store (Makes (MigratesBy older)) tx.old tx.new result }
 {
@@ -22,7 +22,7 @@ fn migrate_in<S: Alter>(tx: &mut Transaction<'_, S>, older: Older) -> Result<(),
     }
 }
 
-/// The earlier version becomes version 3, in one transaction.
+/// Migrates the earlier version to version 3, in one transaction.
 ///
 /// Takes memory for all copies; with the copies fourth also for the queue, the replies and the notices. After a refusal it is as
 /// it was.
@@ -41,8 +41,8 @@ fn migrate<S: Alter>(conn: &mut Connection<S>, older: Older) -> Result<(), Error
     tx.commit()
 }
 
-/// Opens a database of the earlier version's tables: whether its row of the version says that version. Where it does, it becomes
-/// version 3, in one transaction.
+/// Opens a database of the earlier version's tables: returns whether its row of the version says that version. If it does, it is
+/// migrated to version 3, in one transaction.
 ///
 /// Takes memory for all copies; with the copies fourth also for the queue, the replies and the notices. After a refusal it is as
 /// it was.

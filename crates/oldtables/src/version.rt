@@ -1,4 +1,4 @@
-//! The row of the version, where that is an earlier one.
+//! The row of the version, if it is an earlier one.
 ghost use Rattle.std.specs.Prelude.{◌≡◌, false, ◌↔◌, IfOk, IsTrue};
 ghost use Rattle.sqlite.specs.Held.{state};
 ghost use Rattle.mailtables.specs.MetaTable.{version_key, meta_tree, Says};
@@ -31,14 +31,14 @@ fn are_older(rows: &[Row], older: Older) -> Result<bool, Error>
     }
 }
 
-/// The rows of the version go, inside a transaction.
+/// Removes the rows of the version, inside a transaction.
 pub(crate) fn remove_version<S: Alter>(tx: &mut Transaction<'_, S>) -> Result<(), Error>
     ensures { ChangesRows S.Store (removed meta_tree version_key) tx.old tx.new result }
 {
     execute(tx, "DELETE FROM meta WHERE item = ?1", params!["version"])
 }
 
-/// Whether the row of the version is there once, and says this one.
+/// Whether there is one row of the version, and it says this one.
 pub(crate) fn has_old_version<S: Alter>(
     conn: &mut Connection<S>,
     older: Older,

@@ -1,4 +1,4 @@
--- How a line shows an address: so that its end can be seen, whatever octets it has.
+-- How a line shows an address: its end can be seen, whatever octets it has.
 use Rattle.std.specs.Prelude.{ℕ, Bool, ◌==◌, ◌||◌, not, cond, nat_le, List, [], ◌∷◌}
 use Rattle.std.specs.List.{flat_map}
 use Rattle.hex.specs.Hex.{encode_lower}
@@ -15,6 +15,6 @@ shown_octet octet = cond (is_escaped octet) (92 ∷ encode_lower (octet ∷ []))
 abbrev pub shown_address : List ℕ → List ℕ
 shown_address address = flat_map shown_octet address
 
--- what may stand in an address that is shown: `\`, and each octet that is itself there
+-- what may be in an address that is shown: `\`, and each octet that isn't escaped
 abbrev pub may_stand : ℕ → Bool
 may_stand octet = octet == 92 || not (is_escaped octet)

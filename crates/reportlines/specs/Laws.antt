@@ -1,4 +1,4 @@
--- What a line of a queue, and the listing of a whole queue, tell of the rows.
+-- What a line of a queue, and the listing of a whole queue, say about the rows.
 use Rattle.std.specs.Prelude.{◌≡◌, ◌<◌, ◌^◌, ℕ, true, List, [], ◌∷◌}
 use Rattle.std.specs.List.{list_all}
 use Rattle.mailstore.specs.declared.head.Head.{Head}
@@ -22,6 +22,6 @@ LinesTell = (one two : Head) → IsRow one → IsRow two → queue_line one ≡ 
 abbrev pub ListingsTell : Type 0
 ListingsTell = (one two : List Head) → AreRows one → AreRows two → queue_listing one ≡ queue_listing two → one ≡ two
 
--- an address that is shown has no blank, no angle bracket, no octet of control
+-- an address that is shown has no blank, no angle bracket and no control octet
 abbrev pub AddressesStand : Type 0
 AddressesStand = (address : List ℕ) → list_all may_stand (shown_address address) ≡ true

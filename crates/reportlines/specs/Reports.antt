@@ -18,25 +18,25 @@ with_end line = line ++ 10 ∷ []
 abbrev pub file_line : List ℕ → List ℕ
 file_line mailbox = codes "file " ++ mailbox
 
--- the line of an address, as it is spelled, that the message goes on to
+-- the line of an address, as it is spelled, that the message is sent on to
 abbrev pub send_line : List ℕ → List ℕ
 send_line target = codes "send " ++ target
 
--- the line that tells of an answer to the sender
+-- the line of a vacation reply to the sender
 abbrev pub reply_lines : Bool → List (List ℕ)
 reply_lines true = codes "vacation wanted" ∷ []
 reply_lines false = []
 
--- the lines on mailboxes, addresses and an answer, in this order
+-- the lines of mailboxes, addresses and a reply, in this order
 abbrev pub lines_of : List Placement → List Addr → Bool → List (List ℕ)
 lines_of filed sent answers = map (λ copy. file_line copy.mailbox) filed ++ (map (λ target. send_line (spelling target)) sent ++ reply_lines answers)
 
--- the lines on what is done; on a failure one line, which tells of it
+-- the lines of the actions; for a failure the one line that reports it
 abbrev pub deed_lines : Outcome → List (List ℕ)
 deed_lines (Done deeds) = lines_of deeds.filed deeds.sent (is_some deeds.reply)
 deed_lines (Failed failure) = (codes "failed: " ++ failure_text failure) ∷ []
 
--- `discard` stands where no other line does
+-- `discard` if there is no other line
 abbrev pub or_discard : List (List ℕ) → List (List ℕ)
 or_discard [] = codes "discard" ∷ []
 or_discard (line ∷ more) = line ∷ more
@@ -45,7 +45,7 @@ or_discard (line ∷ more) = line ∷ more
 abbrev pub report_of : Outcome → List ℕ
 report_of outcome = flat_map with_end (or_discard (deed_lines outcome))
 
--- the line on a vacation reply that joined the queue, or on the rule that forbade one
+-- the line of a vacation reply that joined the queue, or of the rule that forbade one
 abbrev pub vacation_lines : VacationReport → List (List ℕ)
 vacation_lines vacation.None = []
 vacation_lines vacation.Sent = codes "vacation sent" ∷ []
@@ -56,7 +56,7 @@ abbrev pub notice_lines : Option (List ℕ) → List (List ℕ)
 notice_lines None = []
 notice_lines (Some notice) = (codes "notice " ++ notice) ∷ []
 
--- the lines on what a delivery did: its folders, addresses, vacation reply and notice, in this order
+-- the lines of what a delivery did: its folders, addresses, vacation reply and notice, in this order
 abbrev pub delivery_lines : Report → List (List ℕ)
 delivery_lines report = map file_line report.filed ++ (map send_line report.sent ++ (vacation_lines report.vacation ++ notice_lines report.notice))
 

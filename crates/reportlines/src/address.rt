@@ -1,4 +1,4 @@
-//! An address as a line shows it.
+//! An address in a line.
 ghost use Rattle.std.specs.Prelude.{◌≡◌, ◌++◌, ◌<◌, OnOk, slice_index};
 ghost use Rattle.hex.specs.Hex.{lower_digits};
 ghost use Rattle.reportlines.specs.Addresses.{is_escaped as is_escaped_of, shown_address, shown_octet};
@@ -17,7 +17,7 @@ pub fn add_address(text: &mut Octets, address: &[u8]) -> Result<(), AllocError>
     Ok(())
 }
 
-/// Appends an octet of an address: `\` and two hexadecimal digits in lower case where it is escaped, else itself.
+/// Appends an octet of an address: if it is escaped, `\` and two hexadecimal digits in lower case, else itself.
 fn add_octet(text: &mut Octets, octet: u8) -> Result<(), AllocError>
     ensures { OnOk result (text.new ≡ text.old ++ shown_octet octet) }
 {

@@ -1,5 +1,5 @@
-//! The report: what is printed of a script's outcome, a line for each thing that is done, of a fault of the script, and of
-//! a user's queue and notices, a line for each row.
+//! The lines that are printed: of a script's outcome, one for each action; of a fault of the script; and of
+//! a user's queue and notices, one for each row.
 #![tactic(auto)]
 
 mod address;

@@ -1,4 +1,4 @@
-//! What is printed of a user's queue and notices.
+//! The lines of a user's queue and notices.
 ghost use Rattle.std.specs.Prelude.{◌≡◌, ◌++◌, IfOk, OnOk};
 ghost use Rattle.reportlines.specs.Listings.{kind_word, notice_line, notice_listing, queue_line, queue_listing};
 ghost use Rattle.reportlines.specs.Reports.{with_end};
@@ -9,8 +9,8 @@ use octets::{Octets, write_decimal};
 use std::alloc::{AllocError, Global};
 
 /// A line for each message on its way out, in order: `1 redirect <bob@example.net> <c@example.com> 18`, which are its
-/// number, its kind, its sender, its target and its octets. In an address an octet up to 32, 127, `<`, `>` or `\` is
-/// written `\` and two hexadecimal digits in lower case, so that a line has five words, and says the row.
+/// number, kind, sender, target and size in octets. In an address an octet up to 32, 127, `<`, `>` or `\` is
+/// written as `\` and two hexadecimal digits in lower case, so that a line has five words, and determines the row.
 pub fn of_queue(alloc: Global, rows: &[Head]) -> Result<Octets, AllocError>
     ensures { IfOk result (λ text. text ≡ queue_listing rows.now) }
 {

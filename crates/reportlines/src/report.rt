@@ -1,4 +1,4 @@
-//! What is printed of an outcome, or of a fault of the script.
+//! The lines of an outcome, or of a fault of the script.
 ghost use Rattle.std.specs.Prelude.{◌≡◌, ◌++◌, codes, map, IfOk, OnOk};
 ghost use Rattle.std.specs.List.{flat_map};
 ghost use Rattle.sievelex.specs.Faults.{fault_line};
@@ -16,8 +16,8 @@ use octets::Octets;
 use sievelex::ScriptFault;
 use std::alloc::{AllocError, Global};
 
-/// The report: a line for each thing that is done, in order, or `discard` where there is none. Of a run that failed
-/// one line tells, and nothing else.
+/// The report: a line for each action, in order, or `discard` if there is none. A run that failed
+/// has one line, and no other.
 pub fn of_outcome(alloc: Global, outcome: &Outcome) -> Result<Octets, AllocError>
     ensures { IfOk result (λ text. text ≡ report_of (outcome_view outcome.now)) }
 {
@@ -32,7 +32,7 @@ pub fn of_outcome(alloc: Global, outcome: &Outcome) -> Result<Octets, AllocError
     }
 }
 
-/// The lines of what is done, or `discard`.
+/// The lines of the actions, or `discard`.
 fn of_deeds(
     alloc: Global,
     filed: &[Placement],
@@ -48,7 +48,7 @@ fn of_deeds(
     Ok(text)
 }
 
-/// The lines of what is done.
+/// The lines of the actions.
 fn of_lines(
     alloc: Global,
     filed: &[Placement],
@@ -64,7 +64,7 @@ fn of_lines(
     Ok(text)
 }
 
-/// Appends the line of an answer to the sender, if there is one.
+/// Appends the line of a vacation reply to the sender, if there is one.
 fn add_answer(text: &mut Octets, answers: bool) -> Result<(), AllocError>
     ensures { OnOk result (text.new ≡ text.old ++ flat_map with_end (reply_lines answers)) }
 {

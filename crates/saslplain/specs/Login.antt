@@ -9,7 +9,7 @@ abbrev pub NoNul : List ℕ → Type 0
 NoNul [] = Unit {0}
 NoNul (octet ∷ rest) = (octet ≢ 0) × NoNul rest
 
--- `[authzid] NUL authcid NUL passwd`: the user is the authcid, and an authzid, where there is one, is the same
+-- `[authzid] NUL authcid NUL passwd`: the user is the authcid, and an authzid, if there is one, is the same
 pub record IsMessage (message user password : List ℕ) : Type 0 where
   pub authzid : List ℕ
   pub same : (authzid ≡ []) ⊎ (authzid ≡ user)
@@ -26,7 +26,7 @@ pub record IsLogin (text user password : List ℕ) : Type 0 where
   pub encoded : text ≡ encode_of standard message
   pub said : IsMessage message user password
 
--- what is found in a text: its login, or none where it says none
+-- the login in a text; `None` if it has none
 abbrev pub IsFound : List ℕ → Option Login → Type 0
 IsFound text None = (user password : List ℕ) → IsLogin text user password → ⊥
 IsFound text (Some login) = IsLogin text login.user login.password

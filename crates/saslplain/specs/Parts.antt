@@ -1,4 +1,4 @@
--- The parts of a message of PLAIN, read from the front.
+-- The parts of a message of PLAIN, from its start.
 use Rattle.std.specs.Prelude.{ℕ, zero, suc, ◌&&◌, ◌||◌, not, cond, ◌==◌, nat_eq, nat_lt, ◌+◌, List, [], ◌∷◌, length, take, drop, Option, Some, None, Result, Ok, Err}
 use Rattle.std.specs.Cmp.Lexicographic.{pointwise}
 use Rattle.std.specs.Borrow.{Bor}
@@ -11,12 +11,12 @@ use Rattle.saslplain.specs.declared.message.Login.{Login}
 abbrev pub Pair : Type 0
 Pair = Option (List ℕ × List ℕ)
 
--- how many octets stand before the first NUL
+-- how many octets come before the first NUL
 abbrev pub nul_place : List ℕ → ℕ
 nul_place [] = zero
 nul_place (octet ∷ rest) = cond (octet == 0) zero (suc (nul_place rest))
 
--- what stands before the first NUL and what after it
+-- what comes before the first NUL and what comes after it
 abbrev pub cut_in : List ℕ → Pair
 cut_in text = cond (nul_place text == length text) None (Some (take (nul_place text) text, drop (nul_place text + 1) text))
 
@@ -43,7 +43,7 @@ decoded_in (Err fault) = None
 abbrev pub login_of : List ℕ → Pair
 login_of text = decoded_in (decode_of standard text)
 
--- ---- what the code gives, as values
+-- ---- the results of the code, as values
 
 abbrev pub login_shown : Option Login → Pair
 login_shown None = None

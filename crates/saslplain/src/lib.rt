@@ -1,6 +1,6 @@
-//! Logins by the SASL mechanism PLAIN (RFC 4616), and the passwords that they are held against.
+//! Logins by the SASL mechanism PLAIN (RFC 4616), and the stored passwords that they are checked against.
 //!
-//! A password is kept as a salt, a number of rounds and a digest, which is this project's own: each round hashes the
+//! A password is stored as a salt, a number of rounds and a digest, a scheme of this project: each round hashes the
 //! digest before it with the salt and the password.
 #![tactic(auto)]
 

@@ -1,4 +1,4 @@
-//! What a client says by PLAIN.
+//! The client's message in PLAIN.
 ghost use Rattle.std.specs.Prelude.{◌≡◌, ◌≤◌, length, IfOk};
 ghost use Rattle.saslplain.specs.Login.{IsFound};
 ghost use Rattle.saslplain.specs.Parts.{login_in, login_of, login_shown, cut_in, cut_shown, nul_place as place_of};
@@ -8,7 +8,7 @@ use base64::engine::general_purpose::STANDARD;
 use octets::Octets;
 use std::alloc::{AllocError, Global};
 
-/// A user's name and password, neither empty nor with a NUL in it.
+/// A user's name and password, neither of them empty or with a NUL in it.
 #[derive(Drop)]
 pub struct Login {
     /// The user's name (the authcid).
@@ -17,7 +17,7 @@ pub struct Login {
     pub password: Octets,
 }
 
-/// The login that a text says in base64 (RFC 4616, section 2; RFC 4648, section 4), if it says one.
+/// Reads a login from base64 (RFC 4616, section 2; RFC 4648, section 4); `None` if it isn't one.
 ///
 /// The message after the base64 is `[authzid] NUL authcid NUL passwd`: the user is the authcid, and an authzid that
 /// isn't empty has to be the same. The base64 is strict: padded, and with spare bits of zero. Time and memory are
@@ -33,7 +33,7 @@ pub fn plain(alloc: Global, text: &[u8]) -> Result<Option<Login>, AllocError>
     }
 }
 
-// The login of a message.
+// The login in a message.
 fn read_login(alloc: Global, message: &[u8]) -> Result<Option<Login>, AllocError>
     ensures { IfOk result (λ found. login_shown found ≡ login_in message.now) }
 {
@@ -55,7 +55,7 @@ fn read_login(alloc: Global, message: &[u8]) -> Result<Option<Login>, AllocError
     }))
 }
 
-// What stands before the first NUL, and what after it.
+// What comes before the first NUL, and what comes after it.
 fn cut(text: &[u8]) -> Option<(&[u8], &[u8])>
     ensures { cut_shown result ≡ cut_in text.now }
 {
@@ -66,7 +66,7 @@ fn cut(text: &[u8]) -> Option<(&[u8], &[u8])>
     Some((&text[..place], &text[place + 1..]))
 }
 
-// How many octets stand before the first NUL.
+// How many octets come before the first NUL.
 fn nul_place(text: &[u8]) -> usize
     ensures value { result ≡ place_of text.now }
     ensures within { result ≤ length text.now }

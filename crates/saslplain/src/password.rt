@@ -1,4 +1,4 @@
-//! Passwords as they are kept.
+//! Passwords as they are stored.
 ghost use Rattle.std.specs.Prelude.{◌≡◌, ◌↔◌, ◌++◌, IsTrue};
 ghost use Rattle.sha2.specs.Sha256.{sha256};
 ghost use Rattle.saslplain.specs.Password.{digest_of};
@@ -6,17 +6,17 @@ ghost use Rattle.saslplain.specs.Password.{digest_of};
 use octets::Octets;
 use sha2::{Digest, Sha256};
 
-/// How often the digest of a new password is hashed again: a guess costs some milliseconds of work.
+/// How many times the digest of a new password is hashed again: a guess costs some milliseconds of work.
 pub const ROUNDS: u32 = 10_000;
 
-/// A password as it is kept: the salt, how many rounds, and the digest that they gave.
+/// A password as it is stored: the salt, the number of rounds, and the digest after them.
 #[derive(Drop)]
 pub struct Record {
     /// What is hashed before the password.
     pub salt: Octets,
-    /// How often the digest was hashed again.
+    /// How many times the digest was hashed again.
     pub rounds: u32,
-    /// The digest; one that isn't of 32 octets accepts no password.
+    /// The digest; if it isn't of 32 octets it accepts no password.
     pub digest: Octets,
 }
 
@@ -32,7 +32,7 @@ pub fn digest(salt: &[u8], rounds: u32, password: &[u8]) -> [u8; 32]
     digest
 }
 
-/// Whether the password gives the record's digest. Takes no memory, and as long as `digest`.
+/// Whether the password has the record's digest. Takes no memory, and as much time as `digest`.
 pub fn accepts(kept: &Record, password: &[u8]) -> bool
     ensures { IsTrue result ↔ (digest_of kept.now.salt password.now kept.now.rounds ≡ kept.now.digest) }
 {
@@ -40,7 +40,7 @@ pub fn accepts(kept: &Record, password: &[u8]) -> bool
     given.as_slice() == kept.digest.as_slice()
 }
 
-// The SHA-256 of a digest before it, a salt and a password.
+// The SHA-256 of a digest, a salt and a password.
 fn hashed(before: &[u8], salt: &[u8], password: &[u8]) -> [u8; 32]
     ensures { result ≡ sha256 (before.now ++ salt.now ++ password.now) }
 {

@@ -1,4 +1,4 @@
--- What a call makes of the accounts that a store shows.
+-- How a call changes the accounts that a store shows.
 use Rattle.std.specs.Prelude.{◌≡◌, ◌⊎◌, Result, Ok, Err, OnOk, OnErr, IfOk, IfErr, IsTrue}
 use Rattle.sqlite_trees.specs.Tree.{Trees}
 use Rattle.sqlite.specs.State.{State, HasCleanDisk, Survives}
@@ -9,7 +9,7 @@ use Rattle.mailstore.specs.Promises.{HasOurTables}
 use Rattle.mailstore.specs.Refusals.{IsTransient}
 use Rattle.mailstore.specs.Shows.{Presents, ShowsIn}
 
--- the tables show the accounts; of a connection that a fault of the disk has shut nothing is said
+-- the tables show the accounts; if a fault of the disk has shut the connection, nothing is said
 abbrev pub HasAccounts : State → Accounts → Type 0
 HasAccounts s accounts = IsTrue s.is_open → Presents s.now accounts
 
@@ -21,7 +21,7 @@ Carries Turn old new = HasCleanDisk new → (accounts : Accounts) → HasAccount
 abbrev pub CrashLeaves : (Accounts → Accounts → Type 0) → State → Trees → Type 0
 CrashLeaves MayTurn s trees = (accounts : Accounts) → Presents s.now accounts → (later : Accounts) × MayTurn accounts later × ShowsIn trees later
 
--- the call answered, and by no refusal that may come without visible cause
+-- the call answered, and not with a refusal that may come without visible cause
 abbrev pub IsAnswered : {X : Type 0} → Result X Refusal → Type 0
 IsAnswered (Ok x) = Unit {0}
 IsAnswered (Err refusal) = IsTransient refusal → ⊥
@@ -31,7 +31,7 @@ pub record Stays (old new : State) : Type 0 where
   pub same : StaysSame old new
   pub crash : Leaves old new
 
--- a connection that was open is still open after Ok; of one that a fault of the disk had shut before the call nothing is said
+-- a connection that was open is still open after Ok; if a fault of the disk had shut it before the call, nothing is said
 abbrev pub StaysOpen : {X : Type 0} → State → State → Result X Refusal → Type 0
 StaysOpen old new result = HasCleanDisk new → IsTrue old.is_open → OnOk result (IsTrue new.is_open)
 
@@ -48,8 +48,8 @@ Durable Turn old new result =
     → OnOk result ((later : Accounts) × Turn accounts later × Lasts accounts later old new)
 
 -- a call over the store: how the accounts turn; after a refusal all is as before; an open connection is still open after Ok, and one that a
--- fault of the disk has shut stays shut; a crash leaves what it left before, or the accounts turned as they may be; and after an answer it
--- leaves the accounts alone, as they then are, unless nothing changed; so Ok lasts
+-- fault of the disk has shut stays shut; a crash leaves what it left before, or accounts that these may turn into; and after an answer it
+-- leaves only the accounts as they then are, unless nothing changed; so Ok lasts
 pub record Acts {X : Type 0} (Turn MayTurn : Accounts → Accounts → Type 0) (old new : State) (result : Result X Refusal) : Type 0 where
   pub carries : Carries Turn old new
   pub same : HasCleanDisk new → HasOurTables old.now → OnErr result (StaysSame old new)
@@ -66,7 +66,7 @@ pub record Glances (old new : State) : Type 0 where
   pub crash : Survives old new (λ _. HasOurTables old.now → ⊥)
 
 -- a read of the accounts, if any: this holds of the answer and of whatever accounts the store showed; an open connection is still open after
--- Ok; no refusal comes but those that may without visible cause
+-- Ok; the only refusals are those that may come without visible cause
 pub record ReadsAccounts {X : Type 0} (Part : X → Accounts → Type 0) (old new : State) (result : Result X Refusal) : Type 0 where
   pub found : HasCleanDisk new → (accounts : Accounts) → HasAccounts old accounts → IfOk result (λ x. Part x accounts)
   pub live : StaysOpen old new result

@@ -1,4 +1,4 @@
--- What a session is of one client: who is logged in, and what came and is not yet taken off (RFC 5804).
+-- The state of one client's session: who is logged in, and the octets that came and are not yet taken off (RFC 5804).
 use Rattle.std.specs.Prelude.{ℕ, ◌==◌, Bool, true, false, cond, not, ◌&&◌, List, [], ◌++◌, drop, Option, None}
 use Rattle.msproto.specs.declared.items.Item.{Item}
 use Rattle.msproto.specs.declared.items.Reach.{Reach}
@@ -7,7 +7,7 @@ use Rattle.msproto.specs.Scanning.{reach_of, is_reached}
 use Rattle.msproto.specs.Values.{item_of}
 
 pub record Client : Type 0 where
-  -- who is logged in, if someone is
+  -- who is logged in, if anybody is
   pub user : Option (List ℕ)
   -- how many logins failed since the session began or the last login ended
   pub failures : ℕ
@@ -25,7 +25,7 @@ new_client = record { user = None; failures = 0; unread = []; pending = false; c
 abbrev pub has_failed : Client → Bool
 has_failed c = not (c.failures == 0)
 
--- ---- what comes first in the unread octets
+-- ---- the first item in the unread octets
 
 -- the item: the only one that the grammar allows there (the laws `item_is` and `one_item` of msproto)
 abbrev pub item_in : Client → Item
@@ -35,7 +35,7 @@ item_in c = item_of c.pending c.unread
 abbrev pub reach_in : Client → Reach
 reach_in c = reach_of c.pending c.unread
 
--- an item stands there, or they are too big; never in a closed session
+-- there is an item, or it is too big; never in a closed session
 abbrev pub is_ready : Client → Bool
 is_ready c = not c.closed && is_reached (reach_in c)
 
@@ -59,7 +59,7 @@ client_given piece c = cond c.closed c (record c { unread = c.unread ++ piece })
 abbrev pub past : ℕ → Client → Client
 past used c = record c { unread = drop used c.unread; pending = false }
 
--- the first item, if there is one, is taken off, and a challenge waits then or none
+-- the first item, if there is one, is taken off, and a challenge waits then or not
 abbrev pub without_first : Bool → Reach → Client → Client
 without_first pending (reach.Command used) c = record (past used c) { pending = pending }
 without_first pending (reach.Bad used) c = record (past used c) { pending = pending }

@@ -1,4 +1,4 @@
--- What a command comes to, decided from what its account has.
+-- The decision on a command, from what its account has.
 use Rattle.std.specs.Prelude.{◌≡◌, ℕ, List, Option, Some, None}
 use Rattle.std.specs.FinMap.{keys}
 use Rattle.msproto.specs.declared.commands.Command.{Command}
@@ -28,12 +28,12 @@ abbrev pub change_made_if : Option Change → Account → Account
 change_made_if None a = a
 change_made_if (Some change) a = change_made change a
 
--- of every account that fits: the answer is one of the command's row, and the change is what the answer says
+-- for every account that fits: the answer is one of the command's row, and the change is the one that goes with it
 pub record IsDecision (Fits : Account → Type 0) (command : Command) (decision : Decision) : Type 0 where
   pub replies : (a : Account) → Fits a → RepliesTo a command decision.reply
   pub changes : (a : Account) → change_made_if decision.change a ≡ obeyed command decision.reply.word a
 
--- the decision on a command of this account: the answer is of the command's row, and the change is what the answer says, of whatever account
+-- the decision on a command for this account: the answer is of the command's row, and the change is the one that goes with it, for any account
 pub record Decides (command : Command) (decision : Decision) (a : Account) : Type 0 where
   pub replies : RepliesTo a command decision.reply
   pub changes : (b : Account) → change_made_if decision.change b ≡ obeyed command decision.reply.word b

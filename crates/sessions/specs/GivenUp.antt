@@ -1,4 +1,4 @@
--- Giving up on what comes first, where it can't be answered now.
+-- Giving up on the first item, if it can't be answered now.
 use Rattle.std.specs.Prelude.{ℕ, cond, List, []}
 use Rattle.msproto.specs.declared.items.Reach.{Reach}
 use Rattle.msproto.specs.declared.items.Reach.TheVariants as reach
@@ -26,7 +26,7 @@ progress_by (reach.Command used) = Done
 progress_by (reach.Bad used) = Done
 progress_by reach.TooBig = Close
 
--- what giving up answers: nothing where no item is whole, or the session is closed
+-- the answer to giving up: empty if no item is whole, or the session is closed
 abbrev pub text_given_up : Client → List ℕ
 text_given_up c = cond c.closed [] (text_by (reach_in c))
 

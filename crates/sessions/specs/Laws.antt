@@ -1,4 +1,4 @@
--- From what a command comes to, to the step that it makes: for those who answer one over a store.
+-- From the outcome of a command to the step that it makes: for those who answer one over a store.
 use Rattle.std.specs.Prelude.{◌≡◌, ℕ, true, false, List, Some, None}
 use Rattle.msproto.specs.declared.commands.Command.{Command}
 use Rattle.msproto.specs.declared.items.Item.TheVariants as item
@@ -17,13 +17,13 @@ use Rattle.sessions.specs.Turns.{followed}
 abbrev pub ComesFirst : Client → Command → ℕ → Type 0
 ComesFirst c command used = (c.closed ≡ false) × (item_in c ≡ item.Command command used)
 
--- a command that is early is answered so, and nothing changes
+-- a command that is early is answered with that, and nothing changes
 abbrev pub EarlySteps : Type 0
 EarlySteps =
     (accounts : Accounts) (c : Client) (command : Command) (used : ℕ) → ComesFirst c command used → is_early c command ≡ true
     → IsStep accounts c Done (octets_of.spelled early_reply) (past used c) accounts
 
--- one that isn't about scripts makes the step of its turn, and no account changes
+-- a command that isn't about scripts makes the step of its outcome, and no account changes
 abbrev pub TurnSteps : Type 0
 TurnSteps =
     (accounts : Accounts) (c : Client) (command : Command) (used : ℕ) (turn : Turn)
@@ -31,7 +31,7 @@ TurnSteps =
     → RepliesTaken accounts (past used c) command turn.reply → taken_client accounts command (past used c) ≡ followed turn.sequel (past used c)
     → IsStep accounts c (progress_of (followed turn.sequel (past used c))) (octets_of.spelled turn.reply) (followed turn.sequel (past used c)) accounts
 
--- one about scripts makes the step of its reply: the open account of the user who is logged in changes where the word is OK, and no other
+-- a command about scripts makes the step of its reply: if the status is OK the open account of the user who is logged in changes, and no other
 abbrev pub ScriptSteps : Type 0
 ScriptSteps =
     (accounts : Accounts) (c : Client) (command : Command) (used : ℕ) (user : List ℕ) (a : Account) (reply : Reply)
@@ -39,7 +39,7 @@ ScriptSteps =
     → c.user ≡ Some user → open_of accounts user ≡ Some a → RepliesTo a command reply
     → IsStep accounts c Done (octets_of.spelled reply) (past used c) (with_user accounts user (obeyed command reply.word))
 
--- and where that user has no open account any more, it is answered as one that is early: the session is logged out, and no account changes
+-- and if that user has no open account any more, it is answered like one that is early: the user is logged out, and no account changes
 abbrev pub ClosedSteps : Type 0
 ClosedSteps =
     (accounts : Accounts) (c : Client) (command : Command) (used : ℕ) (user : List ℕ)

@@ -1,4 +1,4 @@
--- What is taken as a script and as its name.
+-- Limits on a script and on its name.
 use Rattle.std.specs.Prelude.{◌≡◌, ℕ, ◌≤◌, Bool, false, ◌&&◌, ◌||◌, ◌==◌, nat_le, List, length}
 use Rattle.std.specs.List.{list_any}
 use Rattle.std.specs.Str.{IsUtf8, chars}
@@ -11,7 +11,7 @@ script_limit = 262144
 abbrev pub scripts_limit : ℕ
 scripts_limit = 32
 
--- a character that no script's name has: control characters, and the separators of lines and of paragraphs (RFC 5804, section 1.6)
+-- a character that no script's name may have: control characters, and the separators of lines and of paragraphs (RFC 5804, section 1.6)
 abbrev pub is_forbidden_char : ℕ → Bool
 is_forbidden_char c = nat_le c 0x1f || (nat_le 0x7f c && nat_le c 0x9f) || c == 0x2028 || c == 0x2029
 

@@ -1,4 +1,4 @@
--- Logins: whom a text logs in, what is answered, and what becomes of the session (RFC 5804, 2.1; RFC 4616).
+-- Logins: whom a text logs in, the reply, and how the session changes (RFC 5804, 2.1; RFC 4616).
 use Rattle.std.specs.Prelude.{ℕ, ◌+◌, Bool, cond, not, nat_eq, nat_lt, is_some, List, map, Option, Some, None, codes}
 use Rattle.std.specs.Char.{to_ascii_lowercase}
 use Rattle.std.specs.Cmp.Lexicographic.{pointwise}
@@ -11,7 +11,7 @@ use Rattle.sessions.specs.Replies.{accepted, declined, farewell, challenge}
 
 -- ---- whom a text logs in
 
--- whether the password is the kept one
+-- whether the password is the stored one
 abbrev pub has_password : List ℕ → Password → Bool
 has_password password kept = pointwise nat_eq (digest_of kept.salt password kept.rounds) kept.digest
 
@@ -24,11 +24,11 @@ abbrev pub admitted_by : Accounts → Option (List ℕ × List ℕ) → Option (
 admitted_by accounts None = None
 admitted_by accounts (Some login) = checked_by login (open_of accounts login.0)
 
--- the user whom a text logs in: it says a login by PLAIN, the user has an open account, and the password is its own
+-- the user whom a text logs in: it is a login by PLAIN, the user has an open account, and the password is its own
 abbrev pub admitted : Accounts → List ℕ → Option (List ℕ)
 admitted accounts text = admitted_by accounts (login_of text)
 
--- ---- what is answered, and the session after it; the third failure ends the session
+-- ---- the reply, and the session after it; the third failure ends the session
 
 abbrev pub login_reply : Option (List ℕ) → ℕ → Reply
 login_reply (Some user) failures = accepted (codes "Logged in.")
@@ -38,13 +38,13 @@ abbrev pub login_client : Option (List ℕ) → Client → Client
 login_client (Some user) c = record c { user = Some user; failures = 0 }
 login_client None c = cond (nat_lt c.failures 2) (record c { failures = c.failures + 1 }) (shut c)
 
--- ---- `AUTHENTICATE`, check by check, once for the answer and once for the session
+-- ---- `AUTHENTICATE`, check by check, once for the reply and once for the session
 
--- the only mechanism, in letters of either case
+-- the only mechanism, in upper or lower case
 abbrev pub is_plain : List ℕ → Bool
 is_plain mechanism = pointwise nat_eq (map to_ascii_lowercase mechanism) (codes "plain")
 
--- with a first response the login is decided at once, without one it waits for the answer to a challenge
+-- with an initial response the login is decided at once, without one it waits for the answer to a challenge
 abbrev pub opening_reply : Accounts → ℕ → Option (List ℕ) → Reply
 opening_reply accounts failures None = challenge
 opening_reply accounts failures (Some text) = login_reply (admitted accounts text) failures

@@ -1,4 +1,4 @@
--- Commands that are answered over a store: what a step over one comes to.
+-- Commands that are answered over a store: the step over one.
 use Rattle.std.specs.Prelude.{◌≡◌, ℕ, true, List, ◌++◌, Some, Result, Ok, Err, OnOk, OnErr, IfErr, Bool, is_some}
 use Rattle.sqlite.specs.State.{State}
 use Rattle.msproto.specs.declared.commands.Command.{Command}
@@ -18,12 +18,12 @@ use Rattle.sessions.specs.Steps.{IsStep, may_lack, may_fail}
 
 -- ---- a command about a user's scripts
 
--- the user's open account, if there is one, is answered by a reply of the command's row, and changes as its word says
+-- the user's open account, if there is one, is answered by a reply of the command's row, and changes as its status says
 pub record ObeysUser (user : List ℕ) (command : Command) (reply : Reply) (accounts later : Accounts) : Type 0 where
   pub replies : RepliesOf (open_of accounts user) command reply
   pub changed : later ≡ with_user accounts user (obeyed command reply.word)
 
--- what the call wrote between two outputs is such a reply, and it answers whether the account is open; after a refusal no account changed
+-- what the call wrote between two outputs is such a reply, and it returns whether the account is open; after a refusal no account changed
 abbrev pub ObeyedTo : List ℕ → Command → Result Bool Refusal → List ℕ → List ℕ → Accounts → Accounts → Type 0
 ObeyedTo user command (Ok is_open) before after accounts later =
     (reply : Reply) × (is_open ≡ is_some (open_of accounts user)) × (after ≡ before ++ octets_of.spelled reply)
@@ -34,13 +34,13 @@ ObeyedTo user command (Err refusal) before after accounts later = later ≡ acco
 abbrev pub MayObey : List ℕ → Command → Accounts → Accounts → Type 0
 MayObey user command accounts later = (reply : Reply) × ObeysUser user command reply accounts later
 
--- what the command makes of the store, with what was written between two outputs
+-- how the command changes the store, with what was written between two outputs
 abbrev pub ActsCommand : List ℕ → Command → List ℕ → List ℕ → State → State → Result Bool Refusal → Type 0
 ActsCommand user command before after old new result = Acts (ObeyedTo user command result before after) (MayObey user command) old new result
 
 -- ---- a step
 
--- what the call wrote between two outputs answers a step that leaves the session and the accounts so; after a refusal nothing changed
+-- what the call wrote between two outputs answers a step that leaves the session and the accounts like this; after a refusal nothing changed
 abbrev pub StepsTo : Client → Client → Result Progress Refusal → List ℕ → List ℕ → Accounts → Accounts → Type 0
 StepsTo c d (Ok progress) before after accounts later = (octets : List ℕ) × (after ≡ before ++ octets) × IsStep accounts c progress octets d later
 StepsTo c d (Err refusal) before after accounts later = later ≡ accounts
@@ -49,11 +49,11 @@ StepsTo c d (Err refusal) before after accounts later = later ≡ accounts
 abbrev pub MayStep : Client → Accounts → Accounts → Type 0
 MayStep c accounts later = (progress : Progress) × (octets : List ℕ) × (d : Client) × IsStep accounts c progress octets d later
 
--- what a step from one session to another makes of the store, with what was written between two outputs
+-- how a step from one session to another changes the store, with what was written between two outputs
 abbrev pub ActsStep : Client → Client → List ℕ → List ℕ → State → State → Result Progress Refusal → Type 0
 ActsStep c d before after old new result = Acts (StepsTo c d result before after) (MayStep c) old new result
 
--- a step of a command that is answered over the store: its item is taken off, and the scan of it counts; after a refusal the session and the output are as before
+-- a step of a command that is answered over the store: its item is taken off, and its scan counts; after a refusal the session and the output are as before
 pub record StepsAsked (from to : SessionView) (before after : List ℕ) (old new : State) (result : Result Progress Refusal) : Type 0 where
   pub acts : ActsStep from.client to.client before after old new result
   pub counts : OnOk result (to.given ≡ from.given)
@@ -61,7 +61,7 @@ pub record StepsAsked (from to : SessionView) (before after : List ℕ) (old new
   pub err : OnErr result ((to ≡ from) × (after ≡ before))
   pub named : IfErr result IsTransient
 
--- which refusals a step may give
+-- the refusals that a step may have
 abbrev pub MayRefuse : Client → Refusal → Type 0
 MayRefuse c Memory = may_lack c ≡ true
 MayRefuse c Store = may_fail c ≡ true

@@ -3,8 +3,8 @@ use Rattle.mailstore.specs.declared.refusal.Refusal.{Refusal}
 use Rattle.sessions.specs.Clients.{Client}
 use Rattle.sessions.specs.Orders.{MayRefuse}
 
--- a step of this client was refused, as it may be. The definition is shut, and only the refusals of `step_free` and `step_asked` say it: so who
--- can say it asked for a step, and was refused
+-- a step of this client was refused, as it may be. The definition is opaque, and only the refusals of `step_free` and `step_asked` say it: so
+-- whoever can say it asked for a step, and was refused
 pub WasRefused : Client → Type 0
 WasRefused c = (refusal : Refusal) × MayRefuse c refusal
 
@@ -13,7 +13,7 @@ pub was_refused : (c : Client) (refusal : Refusal) → MayRefuse c refusal → W
 unfolding WasRefused
 was_refused c refusal may = (refusal, may)
 
--- the refusal is one that a step may give
+-- the refusal is one that a step may have
 pub may_refuse : (c : Client) → WasRefused c → (refusal : Refusal) × MayRefuse c refusal
 unfolding WasRefused
 may_refuse c was = was

@@ -1,4 +1,4 @@
--- What a session answers, reply by reply (RFC 5804, sections 1.2, 1.3 and 1.7).
+-- The replies of a session (RFC 5804, sections 1.2, 1.3 and 1.7).
 use Rattle.std.specs.Prelude.{ℕ, Bool, true, false, List, [], ◌∷◌, Option, Some, None, codes}
 use Rattle.std.specs.Borrow.{Bor}
 use Rattle.msproto.specs.declared.replies.Reply.{Reply}
@@ -29,7 +29,7 @@ listed lines = record { lines = lines; word = Some Ok; code = None; text = None 
 abbrev pub challenge : Reply
 challenge = record { lines = line.Empty ∷ []; word = None; code = None; text = None }
 
--- `OK "Done."`; to a string the string comes back
+-- `OK "Done."`; if the client sent a string it comes back
 abbrev pub done : Reply
 done = accepted (codes "Done.")
 
@@ -46,23 +46,23 @@ too_big = farewell (codes "Too big.")
 abbrev pub try_later : Reply
 try_later = declined (Some code.TryLater) (codes "Try later.")
 
--- the text after a reference, if there is one
+-- the text in a reference, if there is one
 abbrev pub value_of : Option (Bor (List ℕ)) → Option (List ℕ)
 value_of None = None
 value_of (Some text) = Some text.now
 
--- whether a reply's word is OK
+-- whether a reply's status is OK
 abbrev pub is_ok : Option Status → Bool
 is_ok (Some Ok) = true
 is_ok _ = false
 
--- ---- the greeting, which is also what `CAPABILITY` answers
+-- ---- the greeting, which is also the reply to `CAPABILITY`
 
 abbrev pub owner_line : Option (List ℕ) → List Line
 owner_line None = []
 owner_line (Some user) = line.Capability (codes "OWNER") (Some user) ∷ []
 
--- what the server can do, and whose scripts it serves once someone is logged in
+-- what the server can do, and whose scripts it serves after a login
 abbrev pub capability_lines : Option (List ℕ) → List Line
 capability_lines user =
     line.Capability (codes "IMPLEMENTATION") (Some (codes "sieved 1"))

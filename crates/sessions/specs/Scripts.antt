@@ -1,4 +1,4 @@
--- What a command about scripts answers, and what it makes of an account (RFC 5804, sections 2.5 to 2.12).
+-- The reply to a command about scripts, and how it changes an account (RFC 5804, sections 2.5 to 2.12).
 use Rattle.std.specs.Prelude.{◌≡◌, ℕ, ◌+◌, ◌<◌, ◌≤◌, ◌⊎◌, Bool, false, cond, nat_eq, List, [], ◌∷◌, length, map, codes, Option, Some, None, IsSome}
 use Rattle.std.specs.Cmp.Lexicographic.{pointwise}
 use Rattle.std.specs.FinMap.{get, len, keys}
@@ -21,7 +21,7 @@ use Rattle.sessions.specs.Replies.{accepted, declined, listed, done, is_ok}
 
 -- ---- checks in their order
 
--- where the fact holds the first, else the second
+-- the first if the fact holds, else the second
 abbrev pub Where : Type 0 → Type 0 → Type 0 → Type 0
 Where fact holds fails = (fact × holds) ⊎ ((fact → ⊥) × fails)
 
@@ -29,7 +29,7 @@ Where fact holds fails = (fact × holds) ⊎ ((fact → ⊥) × fails)
 abbrev pub HasScript : Account → List ℕ → Type 0
 HasScript a name = IsSome (get a.scripts name)
 
--- a script of that name is there, or there are fewer than may be
+-- a script of that name is there, or there are fewer than the limit
 abbrev pub HasRoom : Account → List ℕ → Type 0
 HasRoom a name = HasScript a name ⊎ (len a.scripts < scripts_limit)
 
@@ -37,7 +37,7 @@ HasRoom a name = HasScript a name ⊎ (len a.scripts < scripts_limit)
 abbrev pub CanActivate : Account → List ℕ → Type 0
 CanActivate a name = (name ≡ []) ⊎ HasScript a name
 
--- some tree is the text's
+-- the text has a tree
 abbrev pub IsValid : List ℕ → Type 0
 IsValid text = (tree : Commands) × Means text tree
 
@@ -55,7 +55,7 @@ too_many = declined (Some MaxScripts) (codes "Too many scripts.")
 abbrev pub absent : Reply
 absent = declined (Some NonExistent) (codes "No such script.")
 
--- a reply that tells of a fault on one of the text's lines; which line and which fault is open
+-- a reply that reports a fault on one of the text's lines; which line and which fault isn't specified
 abbrev pub TellsFault : List ℕ → Reply → Type 0
 TellsFault text reply =
     (line : ℕ) × (kind : FaultKind) × (1 ≤ line) × (line ≤ 1 + line_ends text) × (reply ≡ declined None (fault_line line kind))
@@ -65,7 +65,7 @@ abbrev pub IsVerdict : List ℕ → Option ScriptFault → Type 0
 IsVerdict text None = IsValid text
 IsVerdict text (Some fault) = (IsValid text → ⊥) × (1 ≤ fault.line) × (fault.line ≤ 1 + line_ends text)
 
--- to a text that is looked at as a script: this reply where it is one, else its fault
+-- to a text that is checked as a script: this reply if it is one, else its fault
 abbrev pub RepliesToText : List ℕ → Reply → Reply → Type 0
 RepliesToText text right reply = Where (IsValid text) (reply ≡ right) (TellsFault text reply)
 
@@ -89,7 +89,7 @@ RepliesToPut a name text reply =
     (reply ≡ too_large))
     (reply ≡ bad_name)
 
--- `CHECKSCRIPT` (RFC 5804, 2.12), which looks at no account
+-- `CHECKSCRIPT` (RFC 5804, 2.12), which needs no account
 abbrev pub RepliesToCheck : List ℕ → Reply → Type 0
 RepliesToCheck text reply = Where (length text ≤ script_limit) (RepliesToText text (accepted (codes "Valid.")) reply) (reply ≡ too_large)
 
@@ -110,7 +110,7 @@ list_reply a = listed (script_lines a.active (keys a.scripts))
 abbrev pub RepliesToSet : Account → List ℕ → Reply → Type 0
 RepliesToSet a name reply = Where (CanActivate a name) (reply ≡ done) (reply ≡ absent)
 
--- `GETSCRIPT` (RFC 5804, 2.9), by the text of that name
+-- `GETSCRIPT` (RFC 5804, 2.9), given the text of that name
 abbrev pub get_reply : Option (List ℕ) → Reply
 get_reply None = absent
 get_reply (Some text) = listed (line.Text text ∷ [])
@@ -131,7 +131,7 @@ RepliesToRename a old new reply =
     (reply ≡ bad_name))
     (reply ≡ absent)
 
--- what is answered to a command about the account's scripts; to another command nothing is
+-- the reply to a command about the account's scripts; to another command there is none
 abbrev pub RepliesTo : Account → Command → Reply → Type 0
 RepliesTo a (HaveSpace name size) reply = RepliesToHaveSpace a name size reply
 RepliesTo a (PutScript name script) reply = RepliesToPut a name script reply
@@ -157,6 +157,6 @@ carried_out (DeleteScript name) a = deletes_script name a
 carried_out (RenameScript old new) a = renames_script old new a
 carried_out _ a = a
 
--- the account after a command whose answer has this word: it changes where the word is OK, and nowhere else
+-- the account after a command whose reply has this status: it changes if the status is OK, and only then
 abbrev pub obeyed : Command → Option Status → Account → Account
 obeyed command word a = cond (is_ok word) (carried_out command a) a

@@ -1,4 +1,4 @@
--- The commands by what they ask, and which command of the protocol each is (RFC 5804, section 2).
+-- The commands by what they need, and which command of the protocol each is (RFC 5804, section 2).
 use Rattle.std.specs.Prelude.{◌≡◌, ℕ, List, Option, Some}
 use Rattle.msproto.specs.declared.commands.Command.{Command}
 use Rattle.msproto.specs.declared.commands.Command.TheVariants as command
@@ -42,7 +42,7 @@ abbrev pub of_script : ScriptCommand → Command
 of_script (script.Get name) = command.GetScript name
 of_script (script.Named named) = of_named named
 
--- the command that was split so
+-- the command that was classified like this
 abbrev pub command_of : Sort → Command
 command_of (sort.Free free) = of_free free
 command_of (sort.Login login) = of_login login
@@ -53,7 +53,7 @@ abbrev pub of_order : Order → Command
 of_order (order.Login login) = of_login login
 of_order (order.Script user script) = of_script script
 
--- an order about scripts is of the user who is logged in
+-- the order is about the scripts of the user who is logged in
 abbrev pub IsOrderOf : Option (List ℕ) → Order → Type 0
 IsOrderOf user (order.Login login) = Unit {0}
 IsOrderOf user (order.Script owner script) = user ≡ Some owner

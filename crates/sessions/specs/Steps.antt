@@ -25,7 +25,7 @@ abbrev pub changed_for : Option (List ℕ) → (Account → Account) → Account
 changed_for None change accounts = accounts
 changed_for (Some user) change accounts = with_user accounts user change
 
--- how a session goes on that was just left so
+-- how a session that is now in this state goes on
 abbrev pub progress_of : Client → Progress
 progress_of c = cond c.closed Close Done
 
@@ -42,25 +42,25 @@ pub record Obeys (accounts : Accounts) (c : Client) (command : Command) (progres
 abbrev pub Answers : Accounts → Progress → List ℕ → Client → Progress → List ℕ → Client → Accounts → Type 0
 Answers accounts said text left progress octets d later = (progress ≡ said) × (octets ≡ text) × (d ≡ left) × (later ≡ accounts)
 
--- what becomes of the first item: what is answered, and the session and the accounts after it
+-- the step of the first item: what is answered, and the session and the accounts after it
 abbrev pub StepsAt : Accounts → Client → Item → Progress → List ℕ → Client → Accounts → Type 0
 StepsAt accounts c item.Need progress octets d later = Answers accounts Need [] c progress octets d later
 StepsAt accounts c (item.Command command used) progress octets d later = Obeys accounts (past used c) command progress octets d later
 StepsAt accounts c (item.Bad used) progress octets d later = Answers accounts Done (octets_of.spelled syntax) (past used c) progress octets d later
 StepsAt accounts c item.TooBig progress octets d later = Answers accounts Close (octets_of.spelled too_big) (shut c) progress octets d later
 
--- a step of this session over these accounts, with this answer, leaves the session and the accounts so
+-- a step of this session over these accounts, with this answer, leads to this session and these accounts
 abbrev pub IsStep : Accounts → Client → Progress → List ℕ → Client → Accounts → Type 0
 IsStep accounts c progress octets d later =
     MatchBool c.closed (Answers accounts Close [] c progress octets d later) (StepsAt accounts c (item_in c) progress octets d later)
 
--- what was written between two outputs answers a step that leaves the session so, and all accounts as they are
+-- what was written between two outputs answers a step that leads to this session, and all accounts stay as they are
 pub record StepsOver (c d : Client) (progress : Progress) (before later : List ℕ) : Type 0 where
   pub octets : List ℕ
   pub written : later ≡ before ++ octets
   pub step : (accounts : Accounts) → IsStep accounts c progress octets d accounts
 
--- a command stands first, in a session that hasn't ended
+-- a command comes first, in a session that hasn't ended
 abbrev pub has_command : Client → Bool
 has_command c = not c.closed && is_command (reach_in c)
 
@@ -89,17 +89,17 @@ abbrev pub StepsFirst : Client → Client → First → List ℕ → List ℕ �
 StepsFirst c d (over.Made progress) before later = StepsOver c d progress before later
 StepsFirst c d (over.Command command) before later = HasFirst c command
 
--- a fact for what comes first, where the step was made
+-- a fact if the step was made
 abbrev pub IfOver : First → Type 0 → Type 0
 IfOver (over.Made progress) P = P
 IfOver (over.Command command) P = Unit {0}
 
--- a fact for what comes first, where it is a command
+-- a fact if a command comes first
 abbrev pub IfCommand : First → Type 0 → Type 0
 IfCommand (over.Made progress) P = Unit {0}
 IfCommand (over.Command command) P = P
 
--- this comes first in a session that hasn't ended, and is answered over the store; of scripts it is those of the user who is logged in
+-- this comes first in a session that hasn't ended, and is answered over the store; scripts are those of the user who is logged in
 pub record Asked (c : Client) (order : Order) : Type 0 where
   pub live : c.closed ≡ false
   pub used : ℕ
@@ -119,12 +119,12 @@ abbrev pub StepsFree : Client → Client → Stepped → List ℕ → List ℕ �
 StepsFree c d (Made progress) before later = StepsOver c d progress before later
 StepsFree c d (Asks order) before later = AsksFor c d order before later
 
--- a fact for a step that was made
+-- a fact if the step was made
 abbrev pub IfMade : Stepped → Type 0 → Type 0
 IfMade (Made progress) P = P
 IfMade (Asks order) P = Unit {0}
 
--- a fact for a step that wasn't made
+-- a fact if the step wasn't made
 abbrev pub IfAsks : Stepped → Type 0 → Type 0
 IfAsks (Made progress) P = Unit {0}
 IfAsks (Asks order) P = P

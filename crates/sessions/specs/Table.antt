@@ -1,4 +1,4 @@
--- The table of the commands: what each answers in a session, and what becomes of the session (RFC 5804, section 2).
+-- The table of the commands: the reply to each in a session, and how the session changes (RFC 5804, section 2).
 use Rattle.std.specs.Prelude.{◌≡◌, Bool, true, false, cond, ◌&&◌, is_none, List, ℕ, Option, Some, None, MatchBool, codes}
 use Rattle.msproto.specs.declared.commands.Command.{Command}
 use Rattle.msproto.specs.declared.commands.Command.TheVariants.{Capability, Noop, Logout, Authenticate, Unauthenticate, HaveSpace, PutScript, CheckScript, ListScripts, SetActive, GetScript, DeleteScript, RenameScript, Response}
@@ -9,7 +9,7 @@ use Rattle.sessions.specs.Replies.{accepted, declined, done, done_with, capabili
 use Rattle.sessions.specs.Scripts.{RepliesTo, RepliesToCheck}
 use Rattle.sessions.specs.Logins.{authenticate_reply, authenticate_client, response_reply, response_client}
 
--- a command of a user who is logged in
+-- a command that only a user who is logged in may send
 abbrev pub needs_login : Command → Bool
 needs_login Capability = false
 needs_login (Noop tag) = false
@@ -29,11 +29,11 @@ is_about_scripts (DeleteScript name) = true
 is_about_scripts (RenameScript old new) = true
 is_about_scripts _ = false
 
--- what is answered to a command that is early
+-- the reply to a command that is early
 abbrev pub early_reply : Reply
 early_reply = declined None (codes "Log in first.")
 
--- such a command where this user is logged in, or nobody: it lacks the login
+-- such a command if this user is logged in, or nobody: it lacks the login
 abbrev pub lacks_login : Option (List ℕ) → Command → Bool
 lacks_login user command = needs_login command && is_none user
 
@@ -46,12 +46,12 @@ abbrev pub account_of : Accounts → Option (List ℕ) → Option Account
 account_of accounts None = None
 account_of accounts (Some user) = open_of accounts user
 
--- what is answered about an open account; where there is none, the command is early
+-- the reply about an open account; if there is none, the command is early
 abbrev pub RepliesOf : Option Account → Command → Reply → Type 0
 RepliesOf None command reply = reply ≡ early_reply
 RepliesOf (Some a) command reply = RepliesTo a command reply
 
--- what is answered to a command that isn't early
+-- the reply to a command that isn't early
 abbrev pub RepliesTaken : Accounts → Client → Command → Reply → Type 0
 RepliesTaken accounts c Capability reply = reply ≡ capabilities c.user
 RepliesTaken accounts c (Noop tag) reply = reply ≡ done_with tag
@@ -62,11 +62,11 @@ RepliesTaken accounts c Unauthenticate reply = reply ≡ done
 RepliesTaken accounts c (CheckScript text) reply = RepliesToCheck text reply
 RepliesTaken accounts c command reply = RepliesOf (account_of accounts c.user) command reply
 
--- what is answered to a command in a session; of one that is early nothing else is looked at
+-- the reply to a command in a session; for one that is early nothing else is looked at
 abbrev pub RepliesIn : Accounts → Client → Command → Reply → Type 0
 RepliesIn accounts c command reply = MatchBool (is_early c command) (reply ≡ early_reply) (RepliesTaken accounts c command reply)
 
--- the session after a command about an account: whose account isn't open any more is logged out
+-- the session after a command about an account: a user whose account isn't open any more is logged out
 abbrev pub asked_client : Option Account → Client → Client
 asked_client None c = left c
 asked_client (Some a) c = c

@@ -1,4 +1,4 @@
--- What a command that isn't about scripts comes to, decided from what the session and the login have.
+-- The outcome of a command that isn't about scripts, decided from the session and the login.
 use Rattle.std.specs.Prelude.{◌≡◌, ◌⊎◌, ℕ, Bool, true, false, cond, ◌&&◌, is_none, is_some, List, Option, Some, None}
 use Rattle.msproto.specs.declared.commands.Command.{Command}
 use Rattle.msproto.specs.declared.commands.Command.TheVariants.{Authenticate, Response}
@@ -26,7 +26,7 @@ followed (LogIn user) c = login_client (Some user) c
 followed Fail c = login_client None c
 followed LogOut c = left c
 
--- of all accounts and every session that fit: the answer is that of the command's row, and the session becomes what the table says
+-- for all accounts and every session that fit: the reply is that of the command's row, and the session changes as the table says
 pub record IsTurn (Fits : Accounts → Client → Type 0) (command : Command) (turn : Turn) : Type 0 where
   pub replies : (accounts : Accounts) (c : Client) → Fits accounts c → RepliesTaken accounts c command turn.reply
   pub session : (accounts : Accounts) (c : Client) → Fits accounts c → taken_client accounts command c ≡ followed turn.sequel c
@@ -35,26 +35,26 @@ pub record IsTurn (Fits : Accounts → Client → Type 0) (command : Command) (t
 abbrev pub HasUser : Option (List ℕ) → Accounts → Client → Type 0
 HasUser user accounts c = c.user ≡ user
 
--- what a command that asks no store comes to, where this user is logged in, or nobody: one that lacks a login is told so, another has its row's answer
+-- the outcome of a command that asks no store, if this user is logged in, or nobody: one that lacks a login is told so, another has its row's reply
 abbrev pub IsTurnAlone : Option (List ℕ) → Command → Turn → Type 0
 IsTurnAlone user command turn =
     ((lacks_login user command ≡ true) × (turn ≡ record { reply = early_reply; sequel = Stay }))
     ⊎ ((lacks_login user command ≡ false) × (is_free command ≡ true) × IsTurn (HasUser user) command turn)
 
--- what a command comes to without the store: its turn, where it lacks a login or asks no store, else the order for the store
+-- what a command comes to without the store: its outcome, if it lacks a login or asks no store, else the order for the store
 abbrev pub IsFreeTurn : Option (List ℕ) → Command → FreeTurn → Type 0
 IsFreeTurn user command (Made turn) = IsTurnAlone user command turn
 IsFreeTurn user command (Asks order) = (lacks_login user command ≡ false) × (is_free command ≡ false) × (of_order order ≡ command) × IsOrderOf user order
 
 -- ---- logins
 
--- the text that decides a login, where the command has one and it is looked at
+-- the text that decides a login, if the command has one and it is looked at
 abbrev pub login_text : Option (List ℕ) → Command → Option (List ℕ)
 login_text user (Authenticate mechanism (Some text)) = cond (is_none user && is_plain mechanism) (Some text) None
 login_text user (Response text) = cond (is_star text) None (Some text)
 login_text user _ = None
 
--- whether there is such a text, and it says a login
+-- whether there is such a text, and it is a login
 abbrev pub says_login : Option (List ℕ) → Bool
 says_login None = false
 says_login (Some text) = is_some (login_of text)
@@ -70,7 +70,7 @@ pub record FitsLogin (user : Option (List ℕ)) (failures : ℕ) (command : Comm
   pub failed : c.failures ≡ failures
   pub admits : admitted_in accounts (login_text user command) ≡ who
 
--- a turn that is a login's: this user's, or a failed one
+-- the outcome of a login: this user's, or a failed one
 pub record IsLoginTurn (who : Option (List ℕ)) (failures : ℕ) (turn : Turn) : Type 0 where
   pub reply_is : turn.reply ≡ login_reply who failures
   pub session_is : (c : Client) → login_client who c ≡ followed turn.sequel c
@@ -79,6 +79,6 @@ pub record IsLoginTurn (who : Option (List ℕ)) (failures : ℕ) (turn : Turn) 
 abbrev pub stays : List ℕ → Turn
 stays text = record { reply = declined None text; sequel = Stay }
 
--- a kept password, as the account has it
+-- a stored password, as the account has it
 abbrev pub password_of : Record → Password
 password_of kept = record { salt = kept.salt; rounds = kept.rounds; digest = kept.digest }

@@ -34,9 +34,9 @@ pub(crate) struct KeptScripts {
     pub active: Option<Octets>,
 }
 
-/// Answers a command about the user's scripts, and tells whether the account is open: it is read, the answer joins the output,
-/// and what the answer says is written as the last act. Where it isn't open any more the user is told to log in. After a refusal
-/// the output and the store are as they were.
+/// Answers a command about the user's scripts, and returns whether the account is open: it is read, the answer is appended to the
+/// output, and the change that goes with the answer is written last. If the account isn't open any more, the user is told to log in.
+/// After a refusal the output and the store are as they were.
 pub(crate) fn execute<S: Alter>(
     alloc: Global,
     store: &mut Store<S>,
@@ -75,7 +75,7 @@ fn turn_away(alloc: Global, out: &mut Octets) -> Result<(), AllocError>
     spell(alloc, &reply, out)
 }
 
-/// The user whom the text logs in, if there is a text and it logs someone in. Where it says no login no store is asked, and lack
+/// The user whom the text logs in, if there is a text and it logs someone in. If it isn't a login, no store is asked, and lack
 /// of memory is the only refusal.
 pub(crate) fn admitted<S: Alter>(
     alloc: Global,
@@ -115,7 +115,7 @@ fn checked<S: Alter>(store: &mut Store<S>, login: Login) -> Result<Option<Octets
     Ok(Some(login.user))
 }
 
-/// What the account's password is tested against.
+/// The stored password of an account.
 fn record_of(profile: Profile) -> Record
     ensures { result ≡ record { salt = profile.salt; rounds = profile.rounds; digest = profile.digest } }
 {
@@ -126,7 +126,7 @@ fn record_of(profile: Profile) -> Record
     }
 }
 
-/// A refusal as a step has it: lack of memory stays, any other is `Store`. An account that was read a moment ago is there.
+/// A refusal as a step reports it: lack of memory stays, any other is `Store`, since the account was there a moment ago.
 fn in_a_step(refusal: Refusal) -> Refusal
     ensures named { IsTransient result }
     ensures memory { refusal ≡ Refusal.Memory → result ≡ Refusal.Memory }
@@ -138,7 +138,7 @@ fn in_a_step(refusal: Refusal) -> Refusal
     }
 }
 
-/// What a command about scripts comes to, decided from what the user's account has.
+/// Decides a command about scripts, from what the user's account has.
 fn decision_on<'a, S: Alter>(
     alloc: Global,
     store: &mut Store<S>,
@@ -175,7 +175,7 @@ fn kept_scripts<S: Alter>(store: &mut Store<S>, user: &[u8]) -> Result<KeptScrip
     })
 }
 
-/// Writes the change of the user's scripts, in one transaction.
+/// Writes the change to the user's scripts, in one transaction.
 fn make<S: Alter>(store: &mut Store<S>, user: &[u8], change: Change) -> Result<(), Refusal>
     ensures { WritesAccount user.now (change_made change.entry) (state S.Store store.old) (state S.Store store.new) result }
 {
@@ -197,7 +197,7 @@ fn slice_of(text: &Option<Octets>) -> Option<&[u8]>
     }
 }
 
-// Takes off all but that many octets. Takes no memory.
+// Shortens the output to that many octets. Takes no memory.
 fn shorten(alloc: Global, out: &mut Octets, count: usize)
     ensures { out.new ≡ take count out.old }
 {

@@ -1,24 +1,24 @@
-//! What a command comes to.
+//! The decision on a command.
 use msproto::Reply;
 
-/// The answer to a command, and what the command changes of the account: nothing unless the answer is `OK`.
+/// The answer to a command, and what the command changes in the account: nothing unless the answer is `OK`.
 #[derive(Drop)]
 pub struct Decision<'a> {
-    /// What is answered.
+    /// The answer.
     pub reply: Reply,
-    /// What is to be written, before the answer is given.
+    /// What is written before the answer is sent.
     pub change: Option<Change<'a>>,
 }
 
-/// What is written of an account's scripts.
+/// A change to an account's scripts.
 #[derive(Clone, Copy)]
 pub enum Change<'a> {
-    /// A script is kept under its name, in place of one that has it.
+    /// Keeps a script under its name, in place of the one that has the name.
     Put { name: &'a [u8], script: &'a [u8] },
-    /// The script of this name is active, or none.
+    /// Makes the script of this name active, or none.
     Activate(Option<&'a [u8]>),
-    /// The script of this name goes.
+    /// Deletes the script of this name.
     Delete(&'a [u8]),
-    /// A script gets another name, and stays active if it was.
+    /// Gives a script another name; it stays active if it was.
     Rename { old: &'a [u8], new: &'a [u8] },
 }

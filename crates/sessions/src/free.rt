@@ -1,4 +1,4 @@
-//! What the commands that look at no account are answered.
+//! Answers the commands that need no account.
 ghost use Rattle.std.specs.Prelude.{◌≡◌, IfOk};
 ghost use Rattle.sessions.specs.declared.turn.Sequel.TheVariants.{Stay};
 ghost use Rattle.sessions.specs.Sorts.{of_free, of_script};
@@ -16,14 +16,14 @@ use std::alloc::{AllocError, Global};
 /// What a command comes to without the store.
 #[derive(Drop)]
 pub enum FreeTurn {
-    /// The answer, and what becomes of the session.
+    /// The answer, and how the session changes.
     Made(Turn),
-    /// The store is to be asked about this.
+    /// The store has to be asked about this.
     Asks(Order),
 }
 
-/// What a command comes to without the store, in a session where this user is logged in, or nobody; the order where the
-/// store is asked. Lack of memory is the only error.
+/// Answers a command without the store, in a session where this user is logged in, or nobody; or returns the order for the
+/// store. Lack of memory is the only error.
 pub fn free_turn(
     alloc: Global,
     user: &Option<Octets>,
@@ -38,7 +38,7 @@ pub fn free_turn(
     }
 }
 
-/// What a command about scripts comes to without the store: the order of the user who is logged in, if somebody is.
+/// The order of a command about scripts, for the user who is logged in; if nobody is, the answer that a login is needed.
 fn script_turn(
     alloc: Global,
     user: &Option<Octets>,
@@ -53,7 +53,7 @@ fn script_turn(
     Ok(FreeTurn::Asks(Order::Script { user, command }))
 }
 
-/// What a command comes to that asks no store: it may lack a login.
+/// Answers a command that asks no store, unless it lacks a login.
 fn turn_of(alloc: Global, user: &Option<Octets>, command: &FreeCommand) -> Result<Turn, AllocError>
     ensures { IfOk result (IsTurnAlone user.now (of_free command.now)) }
 {
@@ -63,7 +63,7 @@ fn turn_of(alloc: Global, user: &Option<Octets>, command: &FreeCommand) -> Resul
     free(alloc, user, command)
 }
 
-/// What `CAPABILITY`, `NOOP`, `LOGOUT`, `UNAUTHENTICATE` and `CHECKSCRIPT` come to (RFC 5804, 2.3, 2.4, 2.12 to 2.14), in a
+/// Answers `CAPABILITY`, `NOOP`, `LOGOUT`, `UNAUTHENTICATE` and `CHECKSCRIPT` (RFC 5804, 2.3, 2.4, 2.12 to 2.14), in a
 /// session where this user is logged in, or nobody. Lack of memory is the only error.
 fn free(alloc: Global, user: &Option<Octets>, command: &FreeCommand) -> Result<Turn, AllocError>
     ensures { IfOk result (IsTurn (HasUser user.now) (of_free command.now)) }
@@ -80,14 +80,14 @@ fn free(alloc: Global, user: &Option<Octets>, command: &FreeCommand) -> Result<T
     }
 }
 
-/// What a command comes to that is sent before anybody is logged in, and needs a login.
+/// Answers a command that needs a login and comes before one.
 fn early(alloc: Global) -> Result<Turn, AllocError>
     ensures { IfOk result (λ turn. turn ≡ record { reply = early_reply; sequel = Stay }) }
 {
     Ok(with_sequel(declined(alloc, None, b"Log in first.")?, Sequel::Stay))
 }
 
-/// Whether the command is of a user who is logged in. Takes no memory.
+/// Whether only a user who is logged in may send the command. Takes no memory.
 fn needs_login(command: &FreeCommand) -> bool
     ensures { result ≡ needs_login_of (of_free command.now) }
 {

@@ -1,7 +1,7 @@
 //! Laws on the definitions, as contracts: what a command comes to is the step that it makes.
 ghost use Rattle.sessions.specs.Laws.{ClosedSteps, EarlySteps, TurnSteps, ScriptSteps};
 
-/// A command before anybody is logged in, that only a user may send, is answered `NO "Log in first."`, and nothing changes.
+/// A command that needs a login and comes before one is answered `NO "Log in first."`, and nothing changes.
 pub fn early_steps()
     ensures { EarlySteps }
 {}
@@ -11,13 +11,13 @@ pub fn turn_steps()
     ensures { TurnSteps }
 {}
 
-/// A command about scripts makes the step of its reply: the user's account changes as the reply's word says.
+/// A command about scripts makes the step of its reply: the user's account changes as the reply's status says.
 pub fn script_steps()
     ensures { ScriptSteps }
 {}
 
-/// A command about scripts of a user whose account isn't open any more is answered as one before a login, and the session is
-/// logged out.
+/// A command about the scripts of a user whose account isn't open any more is answered like one before a login, and the user
+/// is logged out.
 pub fn closed_steps()
     ensures { ClosedSteps }
 {}

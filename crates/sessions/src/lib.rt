@@ -1,4 +1,4 @@
-//! One client's session of ManageSieve (RFC 5804): octets come in pieces, and items are taken off and answered.
+//! One client's session of ManageSieve (RFC 5804): octets come in pieces, and items are taken off them and answered.
 #![tactic(auto)]
 
 mod account;

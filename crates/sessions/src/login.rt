@@ -14,10 +14,10 @@ use octets::Octets;
 use saslplain::{Login, ROUNDS, Record, accepts, digest};
 use std::alloc::{AllocError, Global};
 
-/// How many logins may fail before a further failure ends the session: this project's own limit.
+/// How many logins may fail before a further failure ends the session: a limit of this project.
 pub(crate) const MAX_FAILURES: u32 = 2;
 
-/// The text that decides a login, where the command has one and it is looked at: not where somebody is logged in already,
+/// The text that decides a login, if the command has one and it is looked at: it isn't if somebody is logged in already,
 /// the mechanism isn't PLAIN, or the exchange is cancelled. Takes no memory.
 pub fn login_text<'a>(user: &Option<Octets>, command: &'a LoginCommand) -> Option<&'a [u8]>
     ensures { value_of result ≡ t.login_text user.now (of_login command.entry.now) }
@@ -33,22 +33,22 @@ pub fn login_text<'a>(user: &Option<Octets>, command: &'a LoginCommand) -> Optio
     }
 }
 
-/// Whether the login's password is the one that its user's account keeps. Takes no memory, and as long as `accepts`.
+/// Whether the login's password is the one stored for its user. Takes no memory, and as much time as `accepts`.
 pub fn has_password(login: &Login, kept: &Record) -> bool
     ensures { result ≡ s.has_password login.now.password (t.password_of kept.now) }
 {
     accepts(kept, login.password.as_slice())
 }
 
-/// Takes as long as `has_password` does at an account's record, and looks at nothing: what a login by a name without an open
-/// account is given, so that the time of the answer doesn't tell which names have one. An account's salt has 16 octets.
+/// Takes as long as `has_password` does for an account's record, and looks at nothing. A login with a name that has no open
+/// account takes this time too, so that the time of the answer doesn't tell which names have one. An account's salt has 16 octets.
 pub(crate) fn spend_rounds(login: &Login) {
     let salt = [0; 16];
     let _unused = digest(&salt, ROUNDS, login.password.as_slice());
 }
 
-/// What `AUTHENTICATE` and the answer to a challenge come to, in a session where this user is logged in or nobody, and so
-/// many logins failed; the text that decides the login (`login_text`) logs this one in, or none.
+/// Answers `AUTHENTICATE` or the answer to a challenge, in a session where this user is logged in or nobody, and where that
+/// many logins failed; `who` is the user whom the text that decides the login (`login_text`) logs in, if any.
 ///
 /// Lack of memory is the only error.
 pub fn exchange(
@@ -111,7 +111,7 @@ fn respond(
     log_in(alloc, failures, who)
 }
 
-// A login that this user made, or nobody.
+// A login by this user, or a failed one.
 fn log_in(alloc: Global, failures: u32, who: Option<Octets>) -> Result<Turn, AllocError>
     ensures { IfOk result (t.IsLoginTurn who failures) }
 {
@@ -144,7 +144,7 @@ fn failure(alloc: Global, failures: u32) -> Result<Reply, AllocError>
     farewell(alloc, b"Too many failures.")
 }
 
-// `NO`, and the session stays.
+// `NO`, and the session stays as it is.
 fn stay(alloc: Global, text: &[u8]) -> Result<Turn, AllocError>
     ensures { IfOk result (λ turn. turn ≡ t.stays text.now) }
 {
@@ -155,14 +155,14 @@ fn stay(alloc: Global, text: &[u8]) -> Result<Turn, AllocError>
     })
 }
 
-// Whether it is the only mechanism, in letters of either case.
+// Whether it is PLAIN, the only mechanism, in upper or lower case.
 fn is_plain(mechanism: &[u8]) -> bool
     ensures { result ≡ s.is_plain mechanism.now }
 {
     mechanism.eq_ignore_ascii_case(b"PLAIN")
 }
 
-// Whether the exchange is cancelled.
+// Whether the client cancels the exchange.
 fn is_star(text: &[u8]) -> bool
     ensures { result ≡ s.is_star text.now }
 {

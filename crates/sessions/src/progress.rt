@@ -5,7 +5,7 @@ use msproto::Command;
 /// How a session goes on after a step.
 #[derive(Clone, Copy, Debug, PartialEq, Eq)]
 pub enum Progress {
-    /// No whole item is there: octets have to come first.
+    /// No whole item is there: more octets have to come first.
     Need,
     /// One item was answered.
     Done,
@@ -13,20 +13,20 @@ pub enum Progress {
     Close,
 }
 
-/// What comes first came to, where it is no command.
+/// What the first item came to, unless it is a command.
 #[derive(Drop)]
 pub enum First {
-    /// The step was made.
+    /// A step was made.
     Made(Progress),
     /// This command comes first.
     Command(Command),
 }
 
-/// What a step came to that asks no store.
+/// What a step without the store came to.
 #[derive(Drop)]
 pub enum Stepped {
-    /// The step was made.
+    /// A step was made.
     Made(Progress),
-    /// This comes first, and the store is to be asked about it.
+    /// The first item is this command, and the store has to be asked about it.
     Asks(Order),
 }

@@ -1,4 +1,4 @@
-//! What a session answers.
+//! The replies of a session.
 ghost use Rattle.std.specs.Prelude.{◌≡◌, ◌++◌, ◌∷◌, [], Some, None, IfOk, OnOk};
 ghost use Rattle.sievelex.specs.Faults.{fault_line};
 ghost use Rattle.msproto.specs.declared.replies.Line.TheVariants as line;
@@ -79,7 +79,7 @@ pub fn challenge(alloc: Global) -> Result<Reply, AllocError>
     })
 }
 
-/// What the server can do, and whose scripts it serves once someone is logged in: the greeting too (RFC 5804, 1.7).
+/// What the server can do, and whose scripts it serves after a login: this is the greeting too (RFC 5804, 1.7).
 pub fn capabilities(alloc: Global, user: &Option<Octets>) -> Result<Reply, AllocError>
     ensures { IfOk result (λ reply. reply ≡ s.capabilities user.now) }
 {
@@ -103,7 +103,7 @@ pub fn capabilities(alloc: Global, user: &Option<Octets>) -> Result<Reply, Alloc
     Ok(listed(lines))
 }
 
-// One capability more, with its value if it has one.
+// Appends a capability, with its value if it has one.
 fn add_capability(
     alloc: Global,
     lines: &mut List<Line>,

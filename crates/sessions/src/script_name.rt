@@ -6,10 +6,10 @@ ghost use Rattle.sessions.specs.Limits.{IsScriptName, is_forbidden_char as is_fo
 
 use std::str;
 
-/// The most characters of a script's name: this project's own limit.
+/// The largest number of characters in a script's name: a limit of this project.
 pub const MAX_NAME: usize = 128;
 
-/// Whether a text is taken as a script's name (RFC 5804, section 1.6): 1 to 128 characters in UTF-8, without control
+/// Whether a text may be a script's name (RFC 5804, section 1.6): 1 to 128 characters in UTF-8, without control
 /// characters and without the separators of lines and of paragraphs. Takes no memory, and time linear in the text.
 pub fn is_script_name(name: &[u8]) -> bool
     ensures { MatchBool result (IsScriptName name.now) (IsScriptName name.now → ⊥) }
@@ -36,7 +36,7 @@ fn has_forbidden_char(text: &str) -> bool
     text.chars().any(is_forbidden_char)
 }
 
-// Whether no script's name has this character.
+// Whether the character may not be in a script's name.
 fn is_forbidden_char(character: char) -> bool
     ensures { result ≡ is_forbidden character }
 {

@@ -1,4 +1,4 @@
-//! What the commands about scripts are answered (RFC 5804, sections 2.5 to 2.12), and what they change.
+//! Answers the commands about scripts (RFC 5804, sections 2.5 to 2.12), and says what they change.
 ghost use Rattle.std.specs.Prelude.{◌≡◌, ℕ, ◌++◌, Bool, None, Some, IfOk, IsTrue, MatchBool, nat_eq, map};
 ghost use Rattle.std.specs.List.{list_any};
 ghost use Rattle.std.specs.Cmp.Lexicographic.{pointwise};
@@ -20,15 +20,15 @@ use sievelex::{ScriptError, ScriptFault};
 use sievesyntax::check;
 use std::alloc::{AllocError, Global};
 
-/// The most octets of a script: this project's own limit.
+/// The largest size of a script in octets: a limit of this project.
 pub const MAX_SCRIPT: usize = 262_144;
 
-/// The most scripts of a user: this project's own limit.
+/// The largest number of a user's scripts: a limit of this project.
 pub const MAX_SCRIPTS: usize = 32;
 
 /// Decides a command by the names of the account's scripts, in the order of their octets, and by which one is active.
 ///
-/// Time is linear in the names, and for `PUTSCRIPT` that of `check` besides. The names that are listed aren't copied. Lack of memory is
+/// Time is linear in the names, plus that of `check` for `PUTSCRIPT`. The names that are listed aren't copied. Lack of memory is
 /// the only error.
 pub fn decide<'a>(
     alloc: Global,
@@ -53,7 +53,7 @@ pub fn decide<'a>(
     }
 }
 
-/// `GETSCRIPT` (RFC 5804, 2.9), by the text of the script of that name, which isn't copied.
+/// `GETSCRIPT` (RFC 5804, 2.9), given the text of the script of that name, which isn't copied.
 pub fn get_script(alloc: Global, text: Option<Octets>) -> Result<Reply, AllocError>
     ensures { IfOk result (λ reply. reply ≡ s.get_reply text) }
 {
@@ -65,7 +65,7 @@ pub fn get_script(alloc: Global, text: Option<Octets>) -> Result<Reply, AllocErr
     Ok(listed(lines))
 }
 
-/// `CHECKSCRIPT` (RFC 5804, 2.12): the size and the text are looked at, and no account.
+/// `CHECKSCRIPT` (RFC 5804, 2.12): looks at the size and the text, and at no account.
 pub fn check_script(alloc: Global, script: &[u8]) -> Result<Reply, AllocError>
     ensures { IfOk result (s.RepliesToCheck script.now) }
 {
@@ -239,7 +239,7 @@ fn agree<'a>(
     })
 }
 
-/// What is wrong with a text as a script, if something is. Lack of memory is the only error.
+/// What is wrong with a text as a script, if anything. Lack of memory is the only error.
 pub fn fault_in(alloc: Global, script: &[u8]) -> Result<Option<ScriptFault>, AllocError>
     ensures { IfOk result (s.IsVerdict script.now) }
 {

@@ -28,21 +28,21 @@ use sqlite::Alter;
 use std::alloc::{AllocError, Global};
 use std::marker::Model;
 
-/// What is answered where an item can't be answered now (RFC 5804, section 1.3).
+/// The reply if an item can't be answered now (RFC 5804, section 1.3).
 const TRY_LATER: &[u8] = b"NO (TRYLATER) \"Try later.\"\r\n";
 
-/// What is answered to a line that is no command.
+/// The reply to a line that is no command.
 const SYNTAX: &[u8] = b"NO \"Syntax error.\"\r\n";
 
-/// What is answered to more than is read.
+/// The reply to an item that is too long.
 const TOO_BIG: &[u8] = b"BYE \"Too big.\"\r\n";
 
 /// A client's session: who is logged in, how many logins failed, the octets that came and are not yet taken off, whether
-/// a challenge waits for its answer, and whether the session has ended. Contracts see that, and two counts of octets: of
-/// those that came, and of those that the scans looked at whose items are taken off.
+/// a challenge waits for its answer, and whether the session has ended. Contracts see these, and two counts of octets: of
+/// those that came, and of those that were scanned in items that are taken off.
 ///
-/// The scans for the ends of items count each octet that comes once at most; a command's octets are read again for its
-/// value. A session holds at most what may stand unread: what is too big ends it.
+/// The scans for the ends of items count each octet that comes at most once; a command's octets are read again for its
+/// value. A session holds at most what may be unread: what is too big ends it.
 #[derive(Drop)]
 pub struct Session {
     alloc: Global,
@@ -71,7 +71,7 @@ impl Model for Session {
 }
 
 impl Session {
-    /// A new session, whose greeting joins the output. Lack of memory is the only error, and the output then stays.
+    /// A new session, whose greeting is appended to the output. Lack of memory is the only error, and the output then stays.
     pub fn new(alloc: Global, out: &mut Octets) -> Result<Session, AllocError>
         ensures begins { IfOk result (λ session. session ≡ new_session) }
         ensures greets { OnOk result (out.new ≡ out.old ++ spelled (r.capabilities None)) }
@@ -92,7 +92,7 @@ impl Session {
         })
     }
 
-    /// A piece of the client's octets joins those that are not yet taken off, and is looked at up to the end of the first
+    /// Appends a piece of the client's octets to those that are not yet taken off, and scans it up to the end of the first
     /// item. A session that has ended keeps nothing of it. Lack of memory is the only error, and nothing changes then.
     ///
     /// Time over all pieces is linear in their octets.
@@ -111,7 +111,7 @@ impl Session {
         Ok(())
     }
 
-    /// Whether an item can be taken off: one is whole, or the octets are too big; never once the session has ended.
+    /// Whether an item can be taken off: one is whole, or the octets are too big; never after the session has ended.
     /// Takes no memory and constant time.
     pub fn ready(&self) -> bool
         ensures { result ≡ is_ready self.now.client }
@@ -119,7 +119,7 @@ impl Session {
         !self.closed && !matches!(self.scan.state(), Reach::Need)
     }
 
-    /// What giving up would answer: nothing where no item is whole, or the session has ended. Takes no memory.
+    /// The answer that `give_up` would return: empty if no item is whole, or if the session has ended. Takes no memory.
     pub fn text_given_up(&self) -> &'static [u8]
         ensures { result.now ≡ text_given_up self.now.client }
     {
@@ -133,7 +133,7 @@ impl Session {
         }
     }
 
-    /// How the session would go on after giving up: it waits where no item is whole. Takes no memory.
+    /// How the session would go on after `give_up`: it waits if no item is whole. Takes no memory.
     pub fn progress_given_up(&self) -> Progress
         ensures { result ≡ progress_given_up self.now.client }
     {
@@ -147,7 +147,7 @@ impl Session {
         }
     }
 
-    /// Whether the session has ended: nothing more is taken from the client. Takes no memory.
+    /// Whether the session has ended: nothing more is taken from the client then. Takes no memory.
     pub fn is_closed(&self) -> bool
         ensures { result ≡ self.now.client.closed }
     {
@@ -161,7 +161,7 @@ impl Session {
         self.user.is_some()
     }
 
-    /// Who is logged in, if somebody is. Takes no memory.
+    /// Who is logged in, if anybody is. Takes no memory.
     pub fn user(&self) -> Option<&[u8]>
         ensures { contents result ≡ self.now.client.user }
     {
@@ -171,7 +171,7 @@ impl Session {
         }
     }
 
-    /// Whether a login failed since nobody is logged in. Takes no memory.
+    /// Whether a login failed since the session began or the last login ended. Takes no memory.
     pub fn has_failed(&self) -> bool
         ensures { result ≡ has_failed self.now.client }
     {
@@ -185,8 +185,8 @@ impl Session {
         self.unread.as_slice().len()
     }
 
-    /// Drops the first item, which can't be answered now, and a pending challenge with it, and gives what to answer: where
-    /// no item is whole, or the session has ended, nothing, and nothing changes. What is too big ends the session.
+    /// Drops the first item, which can't be answered now, and a pending challenge with it, and returns the answer. If
+    /// no item is whole, or if the session has ended, that is empty, and nothing changes. An item that is too big ends the session.
     /// Takes no memory, and time linear in the octets up to the end of the next item.
     pub fn give_up(&mut self) -> &'static [u8]
         ensures text { result.now ≡ text_given_up self.old.client }
@@ -210,9 +210,9 @@ impl Session {
         }
     }
 
-    /// The step where no command comes first: a bad line and what is too big are answered, and where
-    /// no item is whole, or the session has ended, nothing is. A command that comes first is read and given out, and
-    /// nothing changes then. Lack of memory is the only error, where something is to be answered; nothing changes then.
+    /// The step if no command comes first: a bad line and an item that is too big are answered; nothing is answered if
+    /// no item is whole, or if the session has ended. A command that comes first is read and returned, and
+    /// nothing changes then. Lack of memory is the only error, if there is something to answer; nothing changes then.
     pub fn step_over(&mut self, out: &mut Octets) -> Result<First, AllocError>
         ensures step { IfOk result (λ first. StepsFirst self.old.client self.new.client first out.old out.new) }
         ensures command { IfOk result (λ first. gives_command first ≡ has_command self.old.client) }
@@ -244,10 +244,10 @@ impl Session {
         }
     }
 
-    /// A step that asks no store: all of `step_over`, a command that is sent before a login and needs one, and the commands
-    /// of `free`. Any other command is given out, and nothing changes then.
+    /// A step that asks no store: all of `step_over`, a command that needs a login and comes before one, and the commands
+    /// of `free`. Any other command is returned, and nothing changes then.
     ///
-    /// Lack of memory is the only error, where something is to be answered; nothing changes then.
+    /// Lack of memory is the only error, if there is something to answer; nothing changes then.
     pub fn step_free(&mut self, out: &mut Octets) -> Result<Stepped, AllocError>
         ensures step { IfOk result (λ stepped. StepsFree self.old.client self.new.client stepped out.old out.new) }
         ensures counts { OnOk result (self.new.given ≡ self.old.given) }
@@ -270,13 +270,13 @@ impl Session {
         }
     }
 
-    /// A step over a store: the first item is taken off and answered, as `step_free` does it, or what its command needs of
-    /// the accounts is read, the answer joins the output, and what the answer says is written. Where no store is asked it
+    /// A step over a store: the first item is taken off and answered, as `step_free` does it; or what its command needs of
+    /// the accounts is read, the answer is appended to the output, and the change is written. If no store is asked, it
     /// stays untouched. A user who is logged in and whose account isn't open any more is told to log in, and is logged out.
     ///
-    /// Memory and Store are the only refusals, each only where it may come; the session, the output and the store are then
-    /// as before. Time is linear in the octets of the item and in the names of the user's scripts, besides `check` for a
-    /// script and `accepts` for a login.
+    /// Memory and Store are the only refusals, each only if it may come; the session, the output and the store are then
+    /// as before. Time is linear in the octets of the item and in the names of the user's scripts, plus that of `check` for a
+    /// script and of `accepts` for a login.
     pub fn step<S: Alter>(
         &mut self,
         store: &mut Store<S>,
@@ -295,7 +295,7 @@ impl Session {
         }
     }
 
-    /// The step of what comes first and is answered over the store, as `step_free` gave it out: its octets are not read
+    /// The step of a command that is answered over the store, as `step_free` returned it: its octets are not read
     /// again. The refusals are those of `step`, and the session, the output and the store are then as before.
     pub fn step_asked<S: Alter>(
         &mut self,
@@ -330,7 +330,7 @@ impl Session {
         Ok(progress)
     }
 
-    // A command about the user's scripts: once the change is written, nothing asks for memory.
+    // A command about the user's scripts: after the change is written, nothing asks for memory.
     fn step_scripts<S: Alter>(
         &mut self,
         store: &mut Store<S>,
@@ -346,8 +346,7 @@ impl Session {
         Ok(Progress::Done)
     }
 
-    /// Takes a command off that came to this: the answer joins the output, and then the session goes on so. The command
-    /// stands first in the octets that are not yet taken off.
+    /// Takes the first item, a command with this outcome, off: appends the answer to the output, and then changes the session.
     ///
     /// Lack of memory is the only error; nothing changes then, and the output stays.
     pub fn take_turn(&mut self, turn: Turn, out: &mut Octets) -> Result<Progress, AllocError>
@@ -365,7 +364,7 @@ impl Session {
         Ok(self.progress())
     }
 
-    /// How many octets the scans for items looked at since the session began, up to the greatest number of 64 bits: never
+    /// How many octets the scans for items have looked at since the session began, up to the largest number of 64 bits: never
     /// more than came. Takes no memory.
     pub fn looked(&self) -> u64
         ensures value { result ≡ looked_in self.now }
@@ -374,7 +373,7 @@ impl Session {
         self.scanned.saturating_add(self.scan.looked())
     }
 
-    /// How many octets came since the session began, up to the greatest number of 64 bits. Takes no memory.
+    /// How many octets came since the session began, up to the largest number of 64 bits. Takes no memory.
     pub fn given(&self) -> u64
         ensures { result ≡ self.now.given }
     {
@@ -392,7 +391,7 @@ impl Session {
         }
     }
 
-    // Takes off the first item, and makes of the session what follows. Takes no memory.
+    // Takes off the first item, and changes the session. Takes no memory.
     fn follow(&mut self, sequel: Sequel)
         requires { is_item (reach_in self.old.client) ≡ true }
         ensures session { self.new.client ≡ followed sequel (without_first false (reach_in self.old.client) self.old.client) }
@@ -449,7 +448,7 @@ impl Session {
         }
     }
 
-    // Takes off the first item, if one is whole, and looks for the next; a challenge waits then, or none.
+    // Takes off the first item, if one is whole, and looks for the next; sets whether a challenge waits then.
     fn take_off(&mut self, pending: bool)
         ensures client { self.new.client ≡ without_first pending (reach_in self.old.client) self.old.client }
         ensures counts { self.new.given ≡ self.old.given }
@@ -467,7 +466,7 @@ impl Session {
     }
 }
 
-/// What becomes of a session after a command that looked at its user's account, by whether that is open.
+/// How a command about the user's account changes the session, by whether the account is open.
 fn sequel_of(is_open: bool) -> Sequel
     ensures { result ≡ cond is_open Sequel.Stay Sequel.LogOut }
 {

@@ -1,4 +1,4 @@
-//! What a command asks: nothing of the store, a login, or a user's scripts. Each is a type of its own.
+//! What a command needs: nothing of the store, a login, or a user's scripts. Each is a type of its own.
 ghost use Rattle.std.specs.Prelude.{◌≡◌};
 ghost use Rattle.sessions.specs.declared.sort.ScriptCommand.TheVariants.{Named};
 ghost use Rattle.sessions.specs.declared.sort.Sort.TheVariants.{Script};
@@ -7,7 +7,7 @@ ghost use Rattle.sessions.specs.Sorts.{command_of};
 use msproto::Command;
 use octets::Octets;
 
-/// A command, by what it asks.
+/// A command, by what it needs.
 #[derive(Drop)]
 pub enum Sort {
     /// Nothing of the store.
@@ -40,7 +40,7 @@ pub enum LoginCommand {
     Authenticate {
         /// The mechanism's name, as it was sent.
         mechanism: Octets,
-        /// The first response, where there is one.
+        /// The first response, if there is one.
         response: Option<Octets>,
     },
     /// The answer to a challenge.
@@ -50,9 +50,9 @@ pub enum LoginCommand {
 /// A command about the scripts of the user who is logged in.
 #[derive(Drop)]
 pub enum ScriptCommand {
-    /// `GETSCRIPT` (RFC 5804, 2.9): it is answered by the text of the script of this name.
+    /// `GETSCRIPT` (RFC 5804, 2.9): the answer is the text of the script of this name.
     Get(Octets),
-    /// A command that goes by the names of the scripts.
+    /// A command that is decided by the names of the scripts.
     Named(NamedCommand),
 }
 
@@ -81,9 +81,9 @@ pub enum NamedCommand {
     DeleteScript(Octets),
     /// `RENAMESCRIPT` (RFC 5804, 2.11).
     RenameScript {
-        /// The name that the script has.
+        /// The script's present name.
         old: Octets,
-        /// The name that it is to have.
+        /// The script's new name.
         new: Octets,
     },
 }
@@ -102,7 +102,7 @@ pub enum Order {
     },
 }
 
-/// What a command asks: it is split here, and nowhere else. Takes no memory.
+/// Classifies a command by what it needs. This is done here, and nowhere else. Takes no memory.
 pub fn split(command: Command) -> Sort
     ensures { command_of result ≡ command }
 {
@@ -130,7 +130,7 @@ pub fn split(command: Command) -> Sort
     }
 }
 
-// A command that goes by the names of the scripts.
+// A command that is decided by the names of the scripts.
 fn named(command: NamedCommand) -> Sort
     ensures { result ≡ Script (Named command) }
 {

@@ -1,20 +1,20 @@
-//! What a command that isn't about scripts comes to.
+//! The outcome of a command that isn't about scripts.
 use msproto::Reply;
 use octets::Octets;
 
-/// The answer to a command, and what becomes of the session.
+/// The answer to a command, and how the session changes.
 #[derive(Drop)]
 pub struct Turn {
-    /// What is answered.
+    /// The answer.
     pub reply: Reply,
-    /// What becomes of the session, once the answer is there.
+    /// How the session changes after the answer.
     pub sequel: Sequel,
 }
 
-/// What becomes of a session after a command.
+/// How a session changes after a command.
 #[derive(Drop)]
 pub enum Sequel {
-    /// Nothing.
+    /// It stays as it is.
     Stay,
     /// It ends.
     Close,

@@ -1,4 +1,4 @@
-//! Scripts in files, or on standard input, that are checked without a store.
+//! Checks scripts in files, or on standard input, without a store.
 use clap::error::ErrorKind as WordsKind;
 use sessions::scripts::MAX_SCRIPT;
 use sievedrun::check::{check_input, check_text};
@@ -9,13 +9,13 @@ use std::fs::{File, Files};
 use std::io;
 use std::io::{ErrorKind, Read, Write};
 
-/// So many octets of a file are read at most: with that many it is longer than a script may be.
+/// At most this many octets of a file are read: a file with that many is longer than a script may be.
 pub const MOST: usize = MAX_SCRIPT + 1;
 
-/// The status where a file can't be read (`EX_TEMPFAIL` of sysexits.h).
+/// The exit status if a file can't be read (`EX_TEMPFAIL` of sysexits.h).
 const UNREAD: u8 = 75;
 
-/// Checks the files that the words name, in their order, or the input where they name none. The answer is the exit status, the worst of
+/// Checks the files that the arguments name, in their order, or the input if they name none. Returns the exit status, the worst of
 /// all files.
 pub fn check<F: Files, R: Read, W: Write, E: Write>(
     system: &F,
@@ -46,7 +46,7 @@ fn fault_of(error: &ReadError) -> Fault {
     }
 }
 
-/// Checks the script in a file. The answer is the exit status.
+/// Checks the script in a file. Returns the exit status.
 fn check_file<F: Files, W: Write, E: Write>(
     system: &F,
     alloc: Global,
@@ -67,7 +67,7 @@ fn check_file<F: Files, W: Write, E: Write>(
     }
 }
 
-/// Reads a file, as far as there is room for it: how many octets came.
+/// Reads a file until the room is full or the file ends. Returns the number of octets read.
 pub fn read_front<F: Files>(system: &F, path: &str, room: &mut [u8]) -> io::Result<usize> {
     let mut file = File::open(system, path)?;
     let mut filled = 0;
@@ -85,7 +85,7 @@ pub fn read_front<F: Files>(system: &F, path: &str, room: &mut [u8]) -> io::Resu
     Ok(filled)
 }
 
-/// Tells why a file can't be read, and answers the exit status.
+/// Reports why a file can't be read, and returns the exit status.
 pub fn tell_unread<E: Write>(errors: &mut E, path: &str, kind: ErrorKind) -> u8 {
     let _ = errors.write_all(path.as_bytes());
     let _ = errors.write_all(b": ");

@@ -22,8 +22,8 @@ use std::{fs, io};
 use systemsockets::SystemSockets;
 use wires::service::Service;
 
-/// Serves many clients at once, from the store of a keeper. What is inherited is on the descriptor. The first line on the errors has
-/// the version and the number of the process. The answer is the exit status, where there is one.
+/// Serves many clients at once from a keeper's store. `descriptor` may hold a socket that another process left for LMTP. The
+/// first line on the errors has the version and the process number. Returns the exit status if the daemon ends.
 pub fn serve_many<
     N: Net + Files + Clock,
     D: AsFd,
@@ -89,7 +89,7 @@ pub fn serve_many<
     }
 }
 
-/// What listens, once the lock for life is had and the store was looked at; nothing where that is all that is asked for.
+/// The listeners, opened once the lock for life is taken and the store has been checked; none if only that check is asked for.
 fn begin<N: Net + Files, D: AsFd, E: Write, K: Keeper>(
     system: &N,
     alloc: Global,
@@ -109,8 +109,8 @@ fn begin<N: Net + Files, D: AsFd, E: Write, K: Keeper>(
     Ok(Some(listening))
 }
 
-/// Looks whether the process may have as many descriptors as the daemon needs: with too few it could neither take clients nor open the
-/// store, and would seem to be well.
+/// Checks that the process may open as many descriptors as the daemon needs: with too few it could neither accept clients nor open
+/// the store, and would still look healthy.
 fn look_at_limit() -> Result<(), Trouble> {
     if are_enough() {
         return Ok(());
@@ -121,7 +121,7 @@ fn look_at_limit() -> Result<(), Trouble> {
     })
 }
 
-/// Takes the lock for life, and looks whether the file is a store, once nobody else has it.
+/// Takes the lock for life, and then checks that the file is a store.
 fn look_at_store<E: Write, K: Keeper>(
     path: &str,
     errors: &mut E,
@@ -142,7 +142,7 @@ fn look_at_store<E: Write, K: Keeper>(
     Ok(())
 }
 
-/// Looks whether the directory of the Maildirs is there.
+/// Checks that the directory of the Maildirs exists.
 fn look_at_mail<N: Files>(system: &N, mail: Option<Mail<'_>>) -> Result<(), Trouble> {
     let Some(mail) = mail else {
         return Ok(());
@@ -153,7 +153,7 @@ fn look_at_mail<N: Files>(system: &N, mail: Option<Mail<'_>>) -> Result<(), Trou
     }
 }
 
-/// Where mail moves on to, where it does.
+/// The route of mail into Maildirs, if mail moves on.
 fn route_of(alloc: Global, mail: Option<Mail<'_>>) -> Result<Option<Route>, AllocError> {
     let Some(mail) = mail else {
         return Ok(None);
@@ -162,7 +162,7 @@ fn route_of(alloc: Global, mail: Option<Mail<'_>>) -> Result<Option<Route>, Allo
     Ok(Some(Route::new(alloc, dir, mail.separator)))
 }
 
-/// Has the system tell of the clients of all listeners, and tells that they listen.
+/// Registers all listeners with the system, and prints that they listen.
 fn watch<'n, N: Net + Clock, W: Write>(
     system: &'n N,
     alloc: Global,
@@ -176,7 +176,7 @@ fn watch<'n, N: Net + Clock, W: Write>(
     Ok(sockets)
 }
 
-/// Serves clients for good.
+/// Serves clients until the process ends.
 fn live<N: Net + Clock, E: Write + Drop, K: Keeper + Drop, T: MailSink + Drop>(
     alloc: Global,
     asked: &Asked<'_>,

@@ -7,8 +7,8 @@ use std::alloc::Global;
 use std::fs::Files;
 use std::io::Write;
 
-/// The text of the script in a file, where the words name one. It is checked as `check` does; where it can't be read or isn't valid
-/// that is told as there, and the exit status is the error.
+/// Reads the default script from its file, if the arguments name one. It is checked as `check` does. If it can't be read or isn't
+/// valid, that is reported as `check` does it, and the error is the exit status.
 pub fn read_default<F: Files, W: Write, E: Write>(
     system: &F,
     alloc: Global,

@@ -1,4 +1,4 @@
-//! Clients on the loopback address, one after the other.
+//! Serves clients on the loopback address, one after the other.
 use keepers::Keeper;
 use sievedrun::fault::{Fault, refuse};
 use sievedrun::session::serve_client;
@@ -9,7 +9,7 @@ use std::io::{ErrorKind, Write};
 use std::net::{Ipv4Addr, Net, SocketAddr, TcpListener, TcpStream};
 use std::{format, io};
 
-/// Listens on 127.0.0.1 and serves one client after the other, whatever became of the one before. The answer is the exit
+/// Listens on 127.0.0.1 and serves one client after the other, however the one before ended. Returns the exit
 /// status: 0 after as many sessions as were asked for.
 pub fn serve<R, W: Write, E: Write, K: Keeper>(
     rt: &R,
@@ -50,7 +50,7 @@ where
     serve_all(alloc, asked.location, &listener, sessions, errors, keeper)
 }
 
-/// A listener on the loopback address, of which the first line of the output tells.
+/// Opens a listener on the loopback address, and prints its address as the first line of the output.
 fn listen<R, W: Write>(rt: &R, alloc: Global, port: u16, output: &mut W) -> io::Result<TcpListener>
 where
     R: Net<Listener = TcpListener, Stream = TcpStream>,
@@ -60,7 +60,7 @@ where
     Ok(listener)
 }
 
-/// Tells on the output where clients are listened to.
+/// Prints on the output where it listens.
 pub fn tell_listening<W: Write>(
     alloc: Global,
     address: SocketAddr,
@@ -70,8 +70,8 @@ pub fn tell_listening<W: Write>(
     output.flush()
 }
 
-/// Serves each client that connects, up to that many. A client that is gone before it is accepted isn't counted. The first
-/// trouble with the store that a client meets is told on the errors.
+/// Serves each client that connects, up to that many. A client that has gone before it is accepted isn't counted. The first
+/// trouble with the store that a client meets is reported on the errors.
 fn serve_all<E: Write, K: Keeper>(
     alloc: Global,
     location: StoreLocation<'_>,

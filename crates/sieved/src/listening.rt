@@ -1,4 +1,4 @@
-//! Where the daemon's clients come in.
+//! The daemon's options, and its listeners.
 use hostzones::HostZone;
 use keepers::cause::of_socket;
 use lmtp::Names;
@@ -20,50 +20,50 @@ use systemsockets::{Listener, bind_path, inherit};
 /// The longest name of a host, in octets (RFC 5321, 4.5.3.1.2).
 const MAX_HOST: usize = 255;
 
-/// How much all connections may hold where the words don't say it, in MiB.
+/// How much all connections together may hold unless the arguments say otherwise, in MiB.
 const MEMORY: u32 = 64;
 
-/// Where clients of LMTP come in.
+/// Where clients of LMTP connect.
 #[derive(Clone, Copy)]
 pub enum Door<'a> {
     /// A port of the loopback address.
     Port(u16),
     /// A path of the file system.
     Path(&'a str),
-    /// What another process left on descriptor 0.
+    /// A listening socket that another process left on descriptor 0.
     Inherited,
 }
 
-/// Where mail moves on to.
+/// Where mail moves to.
 #[derive(Clone, Copy)]
 pub struct Mail<'a> {
     /// The directory of the users' Maildirs.
     pub dir: &'a str,
-    /// What separates the levels of a folder's name there.
+    /// The separator of the levels of a folder's name in a Maildir.
     pub separator: Separator,
 }
 
-/// What the words of the daemon ask for.
+/// What the arguments of `daemon` ask for.
 #[derive(Clone, Copy)]
 pub struct Asked<'a> {
-    /// The port for clients of ManageSieve, where some are to be served.
+    /// The port for clients of ManageSieve, if they are served.
     pub managesieve: Option<u16>,
     pub lmtp: Option<Door<'a>>,
     pub names: Names,
     pub mail: Option<Mail<'a>>,
-    /// The zone in which mail is delivered.
+    /// The time zone in which mail is delivered.
     pub zone: HostZone,
-    /// The name with which clients of LMTP are greeted.
+    /// The host name in the greeting to clients of LMTP.
     pub host: &'a str,
-    /// How much all connections may hold, in KiB.
+    /// How much all connections together may hold, in KiB.
     pub memory: u32,
 }
 
-/// What the words ask for.
+/// Reads the arguments of `daemon`.
 ///
 /// # Errors
 ///
-/// [`Fault::BadArgument`] where nothing is to be listened to, and for a number, a word or a name that is none.
+/// [`Fault::BadArgument`] if nothing is to be listened on, or if a number, a keyword or a name isn't valid.
 pub fn read_asked(words: Daemon<'_>) -> Result<Asked<'_>, Fault> {
     if words.managesieve.is_none() && words.lmtp.is_none() && words.mail.is_none() {
         return Err(Fault::BadArgument);
@@ -83,7 +83,7 @@ pub fn read_asked(words: Daemon<'_>) -> Result<Asked<'_>, Fault> {
     })
 }
 
-/// Where mail moves on to. A separator of levels is for that alone.
+/// Where mail moves to. A separator of levels may be given only with it.
 fn mail_of(words: Daemon<'_>) -> Result<Option<Mail<'_>>, Fault> {
     let Some(dir) = words.mail else {
         return match words.separator {
@@ -113,7 +113,7 @@ fn names_of(text: Option<&str>) -> Result<Names, Fault> {
     }
 }
 
-/// The name of this host: `localhost` where it isn't said.
+/// The name of this host: `localhost` unless it is given.
 pub fn host_of(text: Option<&str>) -> Result<&str, Fault> {
     let Some(name) = text else {
         return Ok("localhost");
@@ -128,7 +128,7 @@ pub fn host_of(text: Option<&str>) -> Result<&str, Fault> {
     Ok(name)
 }
 
-/// How many KiB all connections may hold.
+/// How many KiB all connections together may hold.
 fn memory_of(text: Option<&str>) -> Result<u32, Fault> {
     let mebibytes = match text {
         None => MEMORY,
@@ -137,18 +137,18 @@ fn memory_of(text: Option<&str>) -> Result<u32, Fault> {
     Ok(mebibytes.saturating_mul(1_024))
 }
 
-/// What listens, in the order of the kinds of connections, and the lines that tell of it.
+/// The listeners, in the order of the kinds of connections, and the lines that tell where they listen.
 #[derive(Drop)]
 pub struct Listening {
     pub listeners: Vec<Listener>,
     pub told: Octets,
 }
 
-/// Listens as it is asked.
+/// Opens the listeners that the options ask for.
 ///
 /// # Errors
 ///
-/// [`Fault::BadArgument`] where a path has something else than a socket; [`Fault::Stream`] where nobody can be listened to, with
+/// [`Fault::BadArgument`] if a path has something other than a socket; [`Fault::Stream`] if a listener can't be opened, with
 /// the cause.
 pub fn listen<N: Net + Files, D: AsFd>(
     system: &N,
@@ -221,14 +221,14 @@ fn bind_port<N: Net>(
     Ok(Listener::Tcp(listener))
 }
 
-/// The line that tells where clients are listened to.
+/// Appends the line that tells where it listens.
 fn tell_listening(told: &mut Octets, place: &[u8]) -> Result<(), AllocError> {
     told.extend_from_slice(b"listening on ")?;
     told.extend_from_slice(place)?;
     told.push(b'\n')
 }
 
-/// Nobody can be listened to, for this cause.
+/// The fault of a listener that can't be opened, with its cause.
 pub fn trouble_of_socket(error: io::Error) -> Trouble {
     Trouble {
         fault: Fault::Stream,
@@ -236,7 +236,7 @@ pub fn trouble_of_socket(error: io::Error) -> Trouble {
     }
 }
 
-/// The same of clients of LMTP. A path that has something else than a socket is a wrong word.
+/// The same for the listener of LMTP. A path that has something other than a socket is a bad argument.
 fn trouble_of_door(door: Option<Door<'_>>, error: io::Error) -> Trouble {
     match (door, error.kind()) {
         (Some(Door::Path(_)), ErrorKind::AlreadyExists) => Trouble {

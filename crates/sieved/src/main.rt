@@ -44,7 +44,7 @@ fn main(rt: HostRuntime) -> ExitCode {
     ExitCode::from(status)
 }
 
-/// Does what the words ask for, over the standard streams and a file, and answers the exit status.
+/// Runs the program with these arguments, over the standard streams and a file, and returns the exit status.
 fn run(rt: &HostRuntime, words: &CommandLine) -> u8 {
     match sending(rt.alloc(), words) {
         Err(refused) => return refuse(&mut rt.stderr(), Fault::from(refused)),
@@ -68,8 +68,8 @@ fn run(rt: &HostRuntime, words: &CommandLine) -> u8 {
     )
 }
 
-/// What the system says as the program begins: the clock's moment in seconds since 1970 and 16 random octets, where they can be
-/// had, and the number of the process.
+/// What the system tells when the program begins: the clock's moment in seconds since 1970 and 16 random octets, if they are
+/// available, and the process number.
 #[derive(Clone, Copy)]
 struct Moment {
     clock: Option<u64>,
@@ -77,7 +77,7 @@ struct Moment {
     pid: u32,
 }
 
-/// Does what the words ask for, and answers the exit status.
+/// Runs the program with these arguments, and returns the exit status.
 fn answer<N, R: Read + AsFd, W: Write, E: Write + Drop, K: Keeper + Drop, T: MailSink + Drop>(
     net: &N,
     alloc: Global,
@@ -136,7 +136,7 @@ where
     }
 }
 
-/// What the words ask for, where the first is `send` and the others are right.
+/// The arguments of `send`, if it is the subcommand and they are valid.
 fn sending<'a>(alloc: Global, words: &'a CommandLine) -> Result<Option<Send<'a>>, AllocError> {
     if words.first() != Some("send") {
         return Ok(None);
@@ -148,7 +148,7 @@ fn sending<'a>(alloc: Global, words: &'a CommandLine) -> Result<Option<Send<'a>>
     }
 }
 
-/// What the words ask for, where the first is `serve`, `session`, `daemon`, `check` or `deliver` and the others are right.
+/// The subcommand, if it is `serve`, `session`, `daemon`, `check` or `deliver` and its arguments are valid.
 fn server_subcommand<'a>(
     alloc: Global,
     words: &'a CommandLine,
@@ -166,7 +166,7 @@ fn server_subcommand<'a>(
     }
 }
 
-/// The words of the command line after the program's name.
+/// The arguments after the program's name.
 fn words_after_name(rt: &HostRuntime) -> Result<CommandLine, AllocError> {
     let mut words = Vec::new(rt.alloc());
     for at in 1..usize::MAX {
@@ -178,7 +178,7 @@ fn words_after_name(rt: &HostRuntime) -> Result<CommandLine, AllocError> {
     CommandLine::new(rt.alloc(), words)
 }
 
-/// The word at a place, counted from the program's name; none after the last one.
+/// The argument at an index, counted from the program's name; `None` after the last one.
 fn word_at(rt: &HostRuntime, at: usize) -> Result<Option<Octets>, AllocError> {
     let mut room = Vec::new(rt.alloc());
     for bits in 8..usize::BITS {
@@ -192,13 +192,13 @@ fn word_at(rt: &HostRuntime, at: usize) -> Result<Option<Octets>, AllocError> {
     Err(AllocError)
 }
 
-/// Seconds since 1970, where the clock can be read.
+/// Seconds since 1970, if the clock can be read.
 fn clock(rt: &HostRuntime) -> Option<u64> {
     let now = SystemTime::now(rt).ok()?;
     Some(now.duration_since(SystemTime::UNIX_EPOCH).ok()?.as_secs())
 }
 
-/// 16 octets that nobody can guess, where the system gives some.
+/// 16 random octets that can't be guessed, if the system gives some.
 fn random<S: RandomSource>(system: &S) -> Option<[u8; 16]> {
     let mut octets = [0u8; 16];
     system.fill_bytes(&mut octets).ok()?;

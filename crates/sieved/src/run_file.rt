@@ -1,4 +1,4 @@
-//! The files of a run that sends, beside the store: `FILE.send`, its lock, and `FILE.send.waits`, what is known of rows that wait.
+//! The files of a run of `send` beside the store: `FILE.send`, its lock, and `FILE.send.waits`, what is known of rows that wait.
 use keepers::cause::of_file;
 use mailstore::Refusal;
 use octets::Octets;
@@ -14,11 +14,11 @@ use std::{format, fs, io};
 /// The permissions of these files: their owner reads and writes them.
 const OWNER_ALONE: u32 = 0o600;
 
-/// The lock that one run has, until the file is dropped.
+/// Takes the lock of a run, which is held until the file is dropped.
 ///
 /// # Errors
 ///
-/// `Busy` where another run has it; else why it can't be had.
+/// `Busy` if another run has it; else why it can't be taken.
 pub fn lock_run(rt: &HostRuntime, path: &str) -> Result<File, Trouble> {
     let file = open_to_write(rt, path, "send", false)?;
     match file.try_lock() {
@@ -31,8 +31,8 @@ pub fn lock_run(rt: &HostRuntime, path: &str) -> Result<File, Trouble> {
     }
 }
 
-/// What was known of rows that wait, as the last run wrote it: nothing where there is no such file, or none that can be read. Lack of
-/// memory is the only error.
+/// What the last run knew of rows that wait: empty if there is no such file, or if it can't be read. Lack of memory is the
+/// only error.
 pub fn read_run(rt: &HostRuntime, path: &str) -> Result<Octets, AllocError> {
     let alloc = rt.alloc();
     let name = format!(in alloc; "{path}.send.waits")?;
@@ -42,7 +42,7 @@ pub fn read_run(rt: &HostRuntime, path: &str) -> Result<Octets, AllocError> {
     }
 }
 
-/// Writes what is known of rows that wait. Where that fails the next run knows what the last one knew.
+/// Writes what is known of rows that wait. If that fails, the next run knows what the last one knew.
 pub fn write_run(rt: &HostRuntime, path: &str, waits: &Waits, now: u64) {
     let Ok(text) = write_waits(rt.alloc(), waits, now) else {
         return;
@@ -50,7 +50,7 @@ pub fn write_run(rt: &HostRuntime, path: &str, waits: &Waits, now: u64) {
     let _ = replace(rt, path, &text);
 }
 
-/// Puts a new file in the place of the one that is there.
+/// Replaces the file with a new one, by a rename.
 fn replace(rt: &HostRuntime, path: &str, text: &Octets) -> Result<(), Trouble> {
     let mut file = open_to_write(rt, path, "send.waits.new", true)?;
     if let Err(error) = file.write_all(text.as_slice()) {
@@ -65,7 +65,7 @@ fn replace(rt: &HostRuntime, path: &str, text: &Octets) -> Result<(), Trouble> {
     }
 }
 
-/// The file beside the store with this ending, which is made where it is absent.
+/// Opens the file beside the store with this ending, and makes it if it is absent.
 fn open_to_write(
     rt: &HostRuntime,
     path: &str,

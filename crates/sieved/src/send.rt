@@ -1,4 +1,4 @@
-//! The queues of all users, handed to a mail server.
+//! Hands the queues of all users to a mail server.
 use crate::listening::host_of;
 use crate::run_file::{lock_run, read_run, write_run};
 use crate::wall_clock::WallClock;
@@ -16,7 +16,7 @@ use smtpsockets::{SocketPeer, Target};
 use std::alloc::{AllocError, Global};
 use std::io::Write;
 
-/// What the words ask for.
+/// What the arguments of `send` ask for.
 #[derive(Clone, Copy)]
 struct Asked<'a> {
     path: &'a str,
@@ -26,7 +26,7 @@ struct Asked<'a> {
     send_8bit: bool,
 }
 
-/// Hands the rows of all queues that are due to a mail server. The answer is the exit status.
+/// Hands the rows of all queues that are due to a mail server. Returns the exit status.
 pub fn send<W: Write, E: Write>(
     rt: &HostRuntime,
     words: Send<'_>,
@@ -64,7 +64,7 @@ fn read_asked(words: Send<'_>) -> Result<Asked<'_>, Fault> {
     })
 }
 
-/// One run at a time over a store: what is known of rows that wait is read first, and written at its end, however it ends.
+/// Runs alone over a store: what is known of rows that wait is read first and written at the end, however the run ends.
 fn send_all<W: Write, E: Write>(
     rt: &HostRuntime,
     asked: Asked<'_>,
@@ -80,7 +80,7 @@ fn send_all<W: Write, E: Write>(
     ended
 }
 
-/// The rows that are due, by what is known of those that wait, as a text.
+/// Sends the rows that are due, given the text of what is known of those that wait.
 fn send_known<W: Write, E: Write>(
     rt: &HostRuntime,
     asked: Asked<'_>,
@@ -107,7 +107,7 @@ fn send_known<W: Write, E: Write>(
     }
 }
 
-/// The rows that are due, over one connection, or another one where it is lost.
+/// Sends the rows that are due over one connection, and over another one if it is lost.
 fn send_rows<'a, W: Write, E: Write>(
     rt: &'a HostRuntime,
     asked: Asked<'_>,
@@ -133,7 +133,7 @@ fn send_rows<'a, W: Write, E: Write>(
     Ok((book.into_memory(), ended))
 }
 
-/// Why a run ended early. A row that the server has, and that is in the queue still, is named.
+/// The fault of a run that ended early. It names a row that the server has taken and that is still in the queue.
 fn trouble_of_stop<E: Write, K: Keeper>(
     stop: Stop,
     keeper: &K,
@@ -153,7 +153,7 @@ fn trouble_of_stop<E: Write, K: Keeper>(
     }
 }
 
-/// The last line: how many rows were sent, and how many others were tried.
+/// Prints the last line: how many rows were sent, and how many others were tried.
 fn tell_tally<W: Write>(
     alloc: Global,
     output: &mut W,

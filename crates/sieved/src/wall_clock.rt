@@ -1,4 +1,4 @@
-//! The clocks of a run that sends.
+//! The clocks of a run of `send`.
 use mio::{Events, Poll};
 use sendwaits::Clock;
 use std::time::{Duration, Instant, SystemTime};
@@ -7,9 +7,9 @@ use std::time::{Duration, Instant, SystemTime};
 #[derive(Clone, Copy)]
 pub struct WallClock<'a> {
     rt: &'a HostRuntime,
-    /// When it was made; none where there is no clock that never goes back.
+    /// When it was made; `None` without a monotonic clock.
     start: Option<Instant>,
-    /// How many milliseconds it paused: what is told in place of such a clock.
+    /// How many milliseconds it has paused: it stands in for a monotonic clock.
     paused: u64,
 }
 
@@ -22,7 +22,7 @@ impl<'a> WallClock<'a> {
         }
     }
 
-    /// Seconds since 1970, or 0 where the clock can't be read.
+    /// Seconds since 1970, or 0 if the clock can't be read.
     pub fn now(self) -> u64 {
         match SystemTime::now(self.rt) {
             Ok(now) => match now.duration_since(SystemTime::UNIX_EPOCH) {

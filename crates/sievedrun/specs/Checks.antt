@@ -1,4 +1,4 @@
--- What `check` says of a text.
+-- What `check` says about a text.
 use Rattle.std.specs.Prelude.{◌≡◌, ◌<◌, ◌≤◌, ◌⊎◌, ℕ, List, ◌++◌, codes, decimal, length, Option, Some, None, Result, Ok, Err}
 use Rattle.std.specs.Io.KnownBytes.{Keeps}
 use Rattle.sievelex.specs.Faults.{fault_line, text_of}
@@ -13,7 +13,7 @@ use Rattle.sievedrun.specs.Faults.{memory, status_of, line_of, IsFailure, IsPrin
 use Rattle.sievedrun.specs.Streams.{InputFailed, IsWritten}
 use Rattle.sievedrun.specs.TryScript.{OfInput}
 
--- the line on a fault of a script: `line N: TEXT`, or `FILE:N: TEXT` where it is a file's
+-- the line on a fault of a script: `line N: TEXT`, or `FILE:N: TEXT` if it is in a file
 abbrev pub fault_in_file : Option (List ℕ) → ScriptFault → List ℕ
 fault_in_file None fault = with_end (fault_line fault.line fault.kind)
 fault_in_file (Some file) fault = with_end (file ++ (codes ":" ++ (decimal fault.line ++ (codes ": " ++ text_of fault.kind))))
@@ -22,7 +22,7 @@ fault_in_file (Some file) fault = with_end (file ++ (codes ":" ++ (decimal fault
 abbrev pub too_large : Fault
 too_large = Refused ScriptTooLarge
 
--- what is told of a fault: behind the file's name where the file is too large
+-- what is reported of a fault: after the file's name if the file is too large
 abbrev pub told_in : Option (List ℕ) → Fault → List ℕ
 told_in (Some file) (Refused ScriptTooLarge) = with_end (file ++ codes ": script too large")
 told_in file fault = line_of fault
@@ -31,7 +31,7 @@ told_in file fault = line_of fault
 abbrev pub Finding : Type 0
 Finding = Result (Option ScriptFault) Fault
 
--- and the exit status that tells of it
+-- and its exit status
 abbrev pub status_found : Finding → ℕ
 status_found (Ok None) = 0
 status_found (Ok (Some fault)) = 65
@@ -41,7 +41,7 @@ status_found (Err fault) = status_of fault
 abbrev pub Has : List ℕ → Option ScriptFault → Type 0
 Has text verdict = (length text ≤ script_limit) × IsVerdict text verdict
 
--- what is on the output then: of a valid script nothing; else the line on its fault, or where a write of it failed a front; a text is too large only where it is
+-- what is then on the output: for a valid script nothing; else the line on its fault, or if a write of it failed a prefix; a text is too large only if it is
 abbrev pub PrintsFinding : Option (List ℕ) → List ℕ → Option (List ℕ) → Option (List ℕ) → Finding → Type 0
 PrintsFinding file text old new (Ok None) = Has text None × Keeps old new
 PrintsFinding file text old new (Ok (Some fault)) = Has text (Some fault) × IsPrinted (Ok tt) old new (fault_in_file file fault)
@@ -50,7 +50,7 @@ PrintsFinding file text old new (Err fault) =
     ⊎ ((fault ≡ too_large) × (script_limit < length text) × Keeps old new)
     ⊎ ((verdict : ScriptFault) × Has text (Some verdict) × IsPrinted (Err fault) old new (fault_in_file file verdict))
 
--- what is told on the errors
+-- what is reported on the errors
 abbrev pub TellsFinding : Option (List ℕ) → Option (List ℕ) → Option (List ℕ) → Finding → Type 0
 TellsFinding file old new (Ok verdict) = Keeps old new
 TellsFinding file old new (Err fault) = IsWritten old new (told_in file fault)

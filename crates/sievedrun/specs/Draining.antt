@@ -1,4 +1,4 @@
--- Messages that go from a folder into a sink.
+-- Messages that move from a folder into a sink.
 use Rattle.std.specs.Prelude.{◌≡◌, ◌⊎◌, ℕ, suc, ◌<◌, ◌≤◌, Bool, true, false, List, [], ◌∷◌, ◌++◌, codes, decimal, take, replicate, Option, Some, None, Result, Ok, Err, is_ok, IfErr, IsTrue, option_copied}
 use Rattle.std.specs.Io.KnownBytes.{Keeps}
 use Rattle.octets.specs.Decimal.{Writes}
@@ -26,16 +26,16 @@ use Rattle.sievedrun.specs.Faults.{no_user, status_of, IsHindered, IsPrinted}
 use Rattle.sievedrun.specs.Promise.{world_of}
 use Rattle.sievedrun.specs.Values.{HasNoNumber}
 
--- the messages of an account's folder; none where there is no account
+-- the messages of an account's folder; none if there is no account
 abbrev pub mail_of : Option Account → List ℕ → List (List ℕ)
 mail_of None folder = []
 mail_of (Some a) folder = messages_in a.folders folder
 
--- the messages of the folder of the user's open account, in the order in which they came; none where there is no such account or folder
+-- the messages of the folder of the user's open account, in the order in which they came; none if there is no such account or folder
 abbrev pub mail_in : Accounts → List ℕ → List ℕ → List (List ℕ)
 mail_in accounts user folder = mail_of (open_of accounts user) folder
 
--- that many messages leave the user's folder, each the first of it: an event of the machine takes it, and answers so
+-- that many messages leave the user's folder, each the first of it: an event of the machine takes it, and is answered
 abbrev pub Leave : List ℕ → List ℕ → ℕ → Accounts → Accounts → Type 0
 Leave user folder count accounts later = Runs (world_of accounts) (replicate count (TakeMail user folder)) (replicate count MailTaken) (world_of later)
 
@@ -43,14 +43,14 @@ Leave user folder count accounts later = Runs (world_of accounts) (replicate cou
 abbrev pub IsFirst : List ℕ → List ℕ → NumberedMessage → Type 0
 IsFirst user folder first = (tables : Tables) × (accounts : Accounts) × ShowsAccounts tables accounts × IsFirstOf user folder (Some first) (rows_of user tables)
 
--- these are the messages, in turn, each kept under its user, its folder and the number that it had in tables where it was the first there
+-- these are the messages, in order, each kept under its user, its folder and the number that it had in tables in which it was the first there
 abbrev pub AreFirsts : List ℕ → List ℕ → List KeptMail → List (List ℕ) → Type 0
 AreFirsts user folder [] [] = Unit {0}
 AreFirsts user folder (mail ∷ mails) (message ∷ messages) =
     (first : NumberedMessage) × IsFirst user folder first × (mail ≡ kept_mail user folder first.number first.message first.flags) × (first.message ≡ message) × AreFirsts user folder mails messages
 AreFirsts user folder mails messages = ⊥
 
--- what a sink keeps grew by these messages of the user's folder, at its end; of one that doesn't tell what it keeps nothing is said
+-- what a sink keeps grew by these messages of the user's folder, at its end; if it doesn't tell what it keeps nothing is said
 abbrev pub GrowsBy : List ℕ → List ℕ → Bool → List KeptMail → List KeptMail → List (List ℕ) → Type 0
 GrowsBy user folder tells old new messages = IsTrue tells → (mails : List KeptMail) × (new ≡ old ++ mails) × AreFirsts user folder mails messages
 
@@ -58,11 +58,11 @@ GrowsBy user folder tells old new messages = IsTrue tells → (mails : List Kept
 abbrev pub StaysAsItWas : Bool → List KeptMail → List KeptMail → Type 0
 StaysAsItWas tells old new = IsTrue tells → new ≡ old
 
--- tables of today's version show what became of accounts; or the tables are as they were, and so are the accounts
+-- tables of today's version show what the accounts became; or the tables are as they were, and so are the accounts
 abbrev pub LeavesTables : Database → Database → Accounts → Accounts → Type 0
 LeavesTables old new accounts later = Presents new later ⊎ ((new ≡ old) × (later ≡ accounts))
 
--- tables that offered accounts, of whichever version, then show what became of them; a database without tables stays so
+-- tables that offered accounts, of whichever version, then show what these became; a database without tables stays so
 pub record TurnsTables (Became : Accounts → Accounts → Type 0) (old new : Database) : Type 0 where
   pub accounts : (accounts : Accounts) → Offers old accounts → (later : Accounts) × Became accounts later × LeavesTables old new accounts later
   pub none : old.schema ≡ no_schema → new.schema ≡ no_schema
@@ -74,20 +74,20 @@ module _ (user folder : List ℕ) (Grew : List (List ℕ) → Type 0) where
     pub left : Leave user folder count accounts later
     pub kept : Grew (take count (mail_in accounts user folder))
 
-  -- it ended early: the sink has those that left, and maybe the one after them, which is in the folder still
+  -- it ended early: the sink has those that left, and maybe the one after them, which is still in the folder
   pub record StoppedShort (count : ℕ) (accounts later : Accounts) : Type 0 where
     pub left : Leave user folder count accounts later
     pub kept : Grew (take count (mail_in accounts user folder)) ⊎ Grew (take (suc count) (mail_in accounts user folder))
 
-  -- after a crash: each message that left is kept, be it with others
+  -- after a crash: each message that left is kept, maybe with others
   pub record LostNone (accounts later : Accounts) : Type 0 where
     pub count : ℕ
     pub left : Leave user folder count accounts later
     pub others : List (List ℕ)
     pub kept : Grew (take count (mail_in accounts user folder) ++ others)
 
-  -- over a store: whatever accounts it showed, it then shows what became of them; an open connection is still open where Ok was answered, and
-  -- one that a fault of the disk has shut stays shut; and of one that was open no crash loses a message
+  -- over a store: whatever accounts it showed, it then shows what these became; an open connection is still open if Ok was answered, and
+  -- one that a fault of the disk has shut stays shut; and if it was open no crash loses a message
   pub record MovesMail (answers_ok : Bool) (Became : Accounts → Accounts → Type 0) (old new : State) : Type 0 where
     pub carries : Carries Became old new
     pub live : IsTrue answers_ok → HasCleanDisk new → IsTrue old.is_open → IsTrue new.is_open
@@ -96,7 +96,7 @@ module _ (user folder : List ℕ) (Grew : List (List ℕ) → Type 0) where
 
   -- ---- the first message
 
-  -- it moved; or the folder has none; after a refusal it is in the folder still
+  -- it moved; or the folder has none; after a refusal it is still in the folder
   abbrev pub FirstMoved : Result Bool Fault → Accounts → Accounts → Type 0
   FirstMoved (Ok true) accounts later = Moved 1 accounts later
   FirstMoved (Ok false) accounts later = Moved 0 accounts later × (mail_in accounts user folder ≡ [])
@@ -118,11 +118,11 @@ module _ (user folder : List ℕ) (Grew : List (List ℕ) → Type 0) where
   abbrev pub NothingMoved : ℕ → Type 0
   NothingMoved count = (count ≡ 0) × Grew []
 
-  -- it broke off with a fault, after no more messages than were asked for; one that doesn't say that another try may help comes before anything moved
+  -- it broke off with a fault, after no more messages than were asked for; a fault that another try can't help comes before anything moved
   abbrev pub BrokeOff : ℕ → Fault → Accounts → Accounts → Type 0
   BrokeOff most fault accounts later = (count : ℕ) × StoppedShort count accounts later × (count ≤ most) × (NothingMoved count ⊎ (status_of fault ≡ 75))
 
-  -- of a user who has an open account
+  -- for a user who has an open account
   abbrev pub Drained : ℕ → Result ℕ Fault → Accounts → Accounts → Type 0
   Drained most (Ok count) accounts later = HasOpen user accounts × AllMoved most count accounts later
   Drained most (Err fault) accounts later = BrokeOff most fault accounts later
@@ -135,23 +135,23 @@ MovesFirst user folder tells had has result = MovesMail user folder (GrowsBy use
 abbrev pub MovesAll : List ℕ → List ℕ → Bool → List KeptMail → List KeptMail → ℕ → Result ℕ Fault → State → State → Type 0
 MovesAll user folder tells had has most result = MovesMail user folder (GrowsBy user folder tells had has) (is_ok result) (AnyMoved user folder (GrowsBy user folder tells had has) most result)
 
--- and there is no such user where that is said
+-- and there is no such user if that is the fault
 abbrev pub Drains : List ℕ → List ℕ → Bool → List KeptMail → List KeptMail → ℕ → Result ℕ Fault → State → State → Type 0
 Drains user folder tells had has most result =
     MovesMail user folder (GrowsBy user folder tells had has) (is_ok result) (λ accounts later. Drained user folder (GrowsBy user folder tells had has) most result accounts later × (result ≡ Err no_user → HasNoOpen user accounts))
 
--- ---- the word
+-- ---- the subcommand
 
--- as many as the digits say; without digits all, 18,446,744,073,709,551,615 at most
+-- as many as the digits say; all without digits, but at most 18,446,744,073,709,551,615
 abbrev pub IsMost : Option (List ℕ) → ℕ → Type 0
 IsMost None most = most ≡ 18446744073709551615
 IsMost (Some digits) most = Writes digits most
 
--- what is printed of it
+-- what is printed
 abbrev pub drained_line : ℕ → List ℕ
 drained_line count = with_end (codes "drained " ++ decimal count)
 
--- a sink refused a call so: what is so of one that did is so of some sink
+-- some sink refused a call with this error
 abbrev pub HasRefused : {T : Type 0} → (T → SinkError → Type 0) → SinkError → Type 0
 HasRefused refuses error = (asked : _) × refuses asked error
 
@@ -159,18 +159,18 @@ HasRefused refuses error = (asked : _) × refuses asked error
 abbrev pub IsUnkept : (SinkError → Type 0) → Type 0
 IsUnkept Sunk = (error : SinkError) × Sunk error
 
--- why a folder isn't drained to its end: no open account has the name; the place for the messages is no Maildir; or the word is kept from it, by the sink too
+-- why a folder isn't drained to its end: no open account has the name; the place for the messages is no Maildir; or the subcommand is hindered, by the sink too
 abbrev pub StopsDraining : (SinkError → Type 0) → Type 0 → (Fault → Type 0) → List ℕ → Fault → Accounts → Type 0
 StopsDraining Sunk Wrong Denied user fault accounts =
     IsHindered (IsUnkept Sunk) Wrong Denied fault ⊎ ((fault ≡ NoMaildir) × Sunk sink.NoMaildir × (Wrong → ⊥)) ⊎ ((fault ≡ no_user) × HasNoOpen user accounts × (Wrong → ⊥))
 
--- over tables: a store of theirs was drained, and where it wasn't to its end the cause is told
+-- over tables: their store was drained, and if it wasn't to its end the cause is reported
 abbrev pub MovesTables : (SinkError → Type 0) → (Fault → Type 0) → Drain → Bool → List KeptMail → List KeptMail → ℕ → Result ℕ Fault → Database → Database → Type 0
 MovesTables Sunk Denied asked tells had has most result =
     TurnsTables (λ accounts later. Drained asked.user.now asked.folder.now (GrowsBy asked.user.now asked.folder.now tells had has) most result accounts later × IfErr result (λ fault. StopsDraining Sunk ⊥ Denied asked.user.now fault accounts))
 
--- after Ok the word did what it was asked for, and printed how many messages moved; after a fault those that moved stay so, and nothing is printed, and
--- the cause is told; or that line wasn't printed whole
+-- after Ok the subcommand did what it was asked for, and printed how many messages moved; after a fault those that moved stay moved,
+-- nothing is printed, and the cause is reported; or that line wasn't printed whole
 abbrev pub WordDrained : (SinkError → Type 0) → (Fault → Type 0) → Drain → (List (List ℕ) → Type 0) → Option (List ℕ) → Option (List ℕ) → Result (Unit {0}) Fault → Accounts → Accounts → Type 0
 WordDrained Sunk Denied asked Grew old new (Ok done) accounts later =
     (most : ℕ) × (count : ℕ) × IsMost (option_copied asked.most) most × Drained asked.user.now asked.folder.now Grew most (Ok count) accounts later × IsPrinted (Ok tt) old new (drained_line count)

@@ -18,9 +18,9 @@ use Rattle.sievedrun.specs.Faults.{IsPrinted, IsPut, IsSudden}
 use Rattle.sievedrun.specs.Streams.{AppendsFront}
 use Rattle.sievedrun.specs.declared.fault.Fault.{Fault}
 
--- ---- the text of an account, which broke off
+-- ---- the text of an account, if writing broke off
 
--- what stands in the text of this user's account was written so
+-- what is in the text of this user's account was written like this
 pub record HasTold (user : List ℕ) (Written : Head → List Part → Type 0) (a : Account) : Type 0 where
   pub head : Head
   pub parts : List Part
@@ -28,7 +28,7 @@ pub record HasTold (user : List ℕ) (Written : Head → List Part → Type 0) (
   pub makes : whole head parts empty ≡ a
   pub written : Written head parts
 
--- a front of the text was written: before its sum, where memory was refused or the store failed; up to where a write failed
+-- a prefix of the text was written: before its sum, if memory was refused or the store failed; up to the write that failed
 abbrev pub BrokeIn : Option (List ℕ) → Option (List ℕ) → Fault → Head → List Part → Type 0
 BrokeIn old new fault head parts = (IsSudden ⊥ fault × AppendsFront old new (body_of head parts)) ⊎ IsPrinted (Err fault) old new (text_of head parts)
 
@@ -38,18 +38,18 @@ IsCutOff user old new fault = HasTold user (BrokeIn old new fault)
 
 -- ---- some of its parts
 
--- a text was put; or a front of it was, since memory was refused, the store failed, or a write of it did
+-- a text was written; or a prefix of it, since memory was refused, the store failed, or a write of it did
 abbrev pub PutsSome : Result (Unit {0}) Fault → Option (List ℕ) → Option (List ℕ) → List ℕ → Type 0
 PutsSome (Ok done) old new text = Appends old new text
 PutsSome (Err fault) old new text = (IsSudden ⊥ fault × AppendsFront old new text) ⊎ IsPut (Err fault) old new text
 
--- where the parts before this place were read, these are the next ones
+-- if the parts before this place were read, these are the next ones
 abbrev pub GoOn : Contents → ℕ → List Part → State → Type 0
 GoOn contents at parts old =
     OverAccounts old (λ accounts. (a : Account) → get accounts contents.head.owner.name ≡ Some a
     → (early : List Part) → length early ≡ at → AreRead contents early old.now a → AreRead contents (early ++ parts) old.now a)
 
--- the parts from one place to another were read and put; after a fault the first ones of them
+-- the parts from one place to another were read and written; after a fault the first ones of them
 pub record PutsParts (contents : Contents) (from until : ℕ) (begun ended : Writer) (out_old out_new : Option (List ℕ)) (old new : State) (result : Result (Unit {0}) Fault) : Type 0 where
   pub keeps : Keeps old new result
   pub parts : List Part

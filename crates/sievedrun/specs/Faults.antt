@@ -1,4 +1,4 @@
--- What the program says where it gives no answer.
+-- What the program reports if it gives no answer.
 use Rattle.std.specs.Prelude.{◌≡◌, ◌⊎◌, ℕ, List, [], ◌∷◌, ◌++◌, codes, Option, Some, None, Result, Ok, Err}
 use Rattle.std.specs.Io.KnownBytes.{Appends}
 use Rattle.std_io.specs.declared.io.kind.ErrorKind.{ErrorKind}
@@ -43,7 +43,7 @@ status_of Invalid = 65
 status_of BadInput = 65
 status_of BadArgument = 64
 
--- what is told of a fault
+-- what is reported of a fault
 abbrev pub text_of : Fault → List ℕ
 text_of (Refused refusal.Memory) = codes "out of memory"
 text_of (Refused refusal.Store) = codes "store failed"
@@ -71,7 +71,7 @@ text_of Invalid = codes "not valid"
 text_of BadInput = codes "bad input"
 text_of BadArgument = codes "bad argument"
 
--- the line that tells of a fault
+-- the line that reports a fault
 abbrev pub line_of : Fault → List ℕ
 line_of fault = codes "sieved: " ++ text_of fault ++ 10 ∷ []
 
@@ -87,23 +87,23 @@ store_failed = Refused refusal.Store
 abbrev pub no_user : Fault
 no_user = Refused refusal.NoUser
 
--- the fault that it is where no store is given out
+-- the fault if no store is given out
 abbrev pub denial_fault : Unavailable → Fault
 denial_fault denial.Busy = Busy
 denial_fault (denial.Refused cause) = Refused cause
 
--- the fault that it is where a message can't be kept
+-- the fault if a message can't be kept
 abbrev pub sink_fault : SinkError → Fault
 sink_fault sink.Memory = memory
 sink_fault sink.NoMaildir = NoMaildir
 sink_fault sink.Failed = Stream
 
--- the fault that it is where what was read is the text of no account
+-- the fault if what was read isn't the text of an account
 abbrev pub read_fault : ReadError → Fault
 read_fault unread.Memory = memory
 read_fault unread.NotAnAccount = BadInput
 
--- what a failure to read or to write, or lack of memory, is told as
+-- how a failure to read or to write, or lack of memory, is reported
 abbrev pub IsFailure : Fault → Type 0
 IsFailure fault = (fault ≡ memory) ⊎ (fault ≡ Stream)
 
@@ -113,12 +113,12 @@ IsUnanswered no_input (Refused refusal.Memory) = Unit {0}
 IsUnanswered no_input BadInput = no_input
 IsUnanswered no_input _ = ⊥
 
--- another try may help then: memory was refused, the store failed, or something else broke, which is told as a read or a write that failed
+-- another try may help: memory was refused, the store failed, or something else broke, which is reported as a read or a write that failed
 abbrev pub IsSudden : Type 0 → Fault → Type 0
 IsSudden Broken fault = (fault ≡ memory) ⊎ (fault ≡ store_failed) ⊎ ((fault ≡ Stream) × Broken)
 
--- what keeps any word from its work: memory was refused, or the store failed; what is read for it broke; a value in the words is wrong, and only this is
--- told as bad argument; or the store was denied, which is told as it was, and only where no value is wrong
+-- what hinders any subcommand: memory was refused, or the store failed; what it reads broke; a value in the arguments is wrong, and only this is
+-- reported as bad argument; or the store was denied, which is reported as it was, and only if no value is wrong
 abbrev pub IsHindered : Type 0 → Type 0 → (Fault → Type 0) → Fault → Type 0
 IsHindered Broken Wrong Denied fault =
     (fault ≡ memory) ⊎ (fault ≡ store_failed) ⊎ ((fault ≡ Stream) × Broken) ⊎ ((fault ≡ BadArgument) × Wrong) ⊎ (Denied fault × (Wrong → ⊥))
@@ -127,18 +127,18 @@ IsHindered Broken Wrong Denied fault =
 abbrev pub IsCutShort : Fault → Type 0
 IsCutShort fault = (fault ≡ memory) ⊎ ((fault ≡ Stream) × (InputFailed ⊎ OutputFailed))
 
--- a text joined what was written; or a write of it failed, and a front of it did
+-- a text was appended to the output; or a write of it failed, and a prefix of it was
 abbrev pub IsPut : Result (Unit {0}) Fault → Option (List ℕ) → Option (List ℕ) → List ℕ → Type 0
 IsPut (Ok done) old new text = Appends old new text
 IsPut (Err fault) old new text = (fault ≡ Stream) × IsCut old new text
 
--- a text was written whole, and all was flushed; or a write of it failed, and a front of it is written
+-- a text was written whole, and all was flushed; or a write of it failed, and a prefix of it is written
 abbrev pub IsPrinted : Result (Unit {0}) Fault → Option (List ℕ) → Option (List ℕ) → List ℕ → Type 0
 IsPrinted (Ok done) old new text = Appends old new text × WasFlushed new
 IsPrinted (Err fault) old new text = (fault ≡ Stream) × IsCut old new text
 
--- what is told at the end: why the store couldn't be closed, and why there is no answer; that a call was refused since the store failed tells of both; that a
--- script isn't valid is told on the output alone
+-- what is reported at the end: why the store couldn't be closed, and why there is no answer; if a call was refused since the store failed,
+-- that says both; that a script isn't valid is said on the output alone
 abbrev pub troubles : Option Refusal → Result (Unit {0}) Fault → List Fault
 troubles None (Ok done) = []
 troubles (Some refusal) (Ok done) = Refused refusal ∷ []
@@ -148,28 +148,28 @@ troubles (Some refusal) (Err Invalid) = Refused refusal ∷ []
 troubles None (Err fault) = fault ∷ []
 troubles (Some refusal) (Err fault) = Refused refusal ∷ fault ∷ []
 
--- what the system said of a sink's last failure, as a text; none where it said nothing
+-- what the system said of a sink's last failure, as a text; none if it said nothing
 abbrev pub text_said : Option ErrorKind → Option (List ℕ)
 text_said None = None
 text_said (Some kind) = file_text kind
 
--- what is known of a fault's cause: where the store failed, what its keeper said; where a read, a write or a Maildir did, what the sink said
+-- what is known of a fault's cause: if the store failed, what its keeper said; if a read, a write or a Maildir did, what the sink said
 abbrev pub cause_of : Option (List ℕ) → Option (List ℕ) → Fault → Option (List ℕ)
 cause_of store sink (Refused refusal.Store) = store
 cause_of store sink Stream = sink
 cause_of store sink NoMaildir = sink
 cause_of store sink _ = None
 
--- the line on a cause, where one is known
+-- the line on a cause, if one is known
 abbrev pub cause_line : Option (List ℕ) → List ℕ
 cause_line None = []
 cause_line (Some text) = (codes "sieved: " ++ text) ++ 10 ∷ []
 
--- what is told of a fault with such a cause
+-- what is reported of a fault with such a cause
 abbrev pub told_of : (Fault → Option (List ℕ)) → Fault → List ℕ
 told_of cause fault = line_of fault ++ cause_line (cause fault)
 
--- each of these is told, in turn, each with its cause; or writing broke off in that
+-- each of these is reported, in order, each with its cause; or writing broke off in that
 abbrev pub AreTold : Option (List ℕ) → Option (List ℕ) → (Fault → Option (List ℕ)) → List Fault → Type 0
 AreTold old new cause [] = new ≡ old
 AreTold old new cause (fault ∷ more) = (mid : Option (List ℕ)) × IsWritten old mid (told_of cause fault) × AreTold mid new cause more

@@ -1,4 +1,4 @@
--- How the input of the program is cut: a line with the script's length, the script, the message.
+-- How the input of the program is split: a line with the script's length, the script, the message.
 use Rattle.std.specs.Prelude.{◌≡◌, ℕ, ◌≤◌, List, ◌∷◌, ◌++◌, length}
 use Rattle.octets.specs.Decimal.{Writes}
 

@@ -5,7 +5,7 @@ use Rattle.mailfronts.specs.Sizes.{CountsSize}
 use Rattle.mailfronts.specs.declared.size.SizeCount.{SizeCount}
 use Rattle.sievedrun.specs.Framing.{IsFramed}
 
--- what came is a script and a message: of these the script is kept, and a front of the message that has its header; and the message's size is counted
+-- what came is a script and a message: of these the script is kept, and a prefix of the message that has its header; and the message's size is counted
 pub record KeepsHeader (came kept : List ℕ) (count : SizeCount) : Type 0 where
   pub script : List ℕ
   pub front : List ℕ
@@ -15,16 +15,16 @@ pub record KeepsHeader (came kept : List ℕ) (count : SizeCount) : Type 0 where
   pub headed : HasHeaderOf front message
   pub counted : CountsSize message count
 
--- all that came is kept; or so much of it, where a size is counted
+-- all that came is kept; or this much of it, if a size is counted
 abbrev pub KeepsFront : List ℕ → List ℕ → Option SizeCount → Type 0
 KeepsFront came kept None = kept ≡ came
 KeepsFront came kept (Some count) = KeepsHeader came kept count
 
--- a front of a message stands for it: it is all of it; or it has the header, where the message's size is counted
+-- the prefix decides for the message: it is all of it; or it has the header, if the message's size is counted
 abbrev pub StandsFor : List ℕ → Option SizeCount → List ℕ → Type 0
 StandsFor front None message = front ≡ message
 StandsFor front (Some count) message = HasHeaderOf front message × CountsSize message count
 
--- twice the octets that are kept are at most so many, and so is the size
+-- twice the octets that are kept are at most this many, and so is the size
 abbrev pub IsWithin : ℕ → ℕ → Option SizeCount → Type 0
 IsWithin most kept count = (2 * kept ≤ most) × IfSome count (λ c. c.size ≤ most)

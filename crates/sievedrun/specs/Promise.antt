@@ -1,4 +1,4 @@
--- What is read of an input, how a word ended, and the machine that it works on.
+-- What is read of an input, how a subcommand ended, and the machine that it works on.
 use Rattle.std.specs.Prelude.{◌==◌, ℕ, Bool, not, List, take, Result, Ok, Err}
 use Rattle.std.specs.List.{prefix_len}
 use Rattle.std.specs.FinMap.{empty}
@@ -11,7 +11,7 @@ use Rattle.sievedrun.specs.Faults.{status_of}
 abbrev pub is_in_line : ℕ → Bool
 is_in_line octet = not (octet == 10)
 
--- the octets before the first LF, or all where there is none
+-- the octets before the first LF, or all if there is none
 abbrev pub first_line : List ℕ → List ℕ
 first_line text = take (prefix_len is_in_line text) text
 

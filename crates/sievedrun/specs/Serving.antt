@@ -28,7 +28,7 @@ use Rattle.sievedrun.specs.declared.trouble.Trouble.{Trouble}
 abbrev pub largest_piece : ℕ
 largest_piece = 4096
 
--- one round: what came of the client, what was said to it, and the accounts and the client after it
+-- one round: what came from the client, what was said to it, and the accounts and the client after it
 pub record Round : Type 0 where
   pub came : List ℕ
   pub said : List ℕ
@@ -44,11 +44,11 @@ pub record Hears (accounts : Accounts) (c : Client) (r : Round) : Type 0 where
   pub joins : r.client ≡ client_given r.came c
   pub same : r.accounts ≡ accounts
 
--- a step is answered so whatever the accounts are, and changes none: it asks no store
+-- a step has this answer whatever the accounts are, and changes none: it asks no store
 abbrev pub AsksNothing : Client → List ℕ → Client → Type 0
 AsksNothing c said d = (progress : Progress) × ((accounts : Accounts) → IsStep accounts c progress said d accounts)
 
--- what comes first was answered by a step, over a store that was given where it asks one
+-- the first item was answered by a step, over a store that was given if the step asks one
 pub record Steps (Given : Type 0) (accounts : Accounts) (c : Client) (r : Round) : Type 0 where
   pub ready : is_ready c ≡ true
   pub none : r.came ≡ []
@@ -56,11 +56,11 @@ pub record Steps (Given : Type 0) (accounts : Accounts) (c : Client) (r : Round)
   pub step : IsStep accounts c progress r.said r.client r.accounts
   pub reach : AsksNothing c r.said r.client ⊎ Given
 
--- a keeper that waits as it is said refused the lock, which wasn't out, or its store at this path: what is so of one that did is so of some keeper
+-- some keeper that waits as the location says refused the lock, which wasn't out, or its store at this path
 abbrev pub IsDenied : {K : Type 0} → (K → List ℕ → Unavailable → Type 0) → (K → Bool) → StoreLocation → Type 0
 IsDenied refuses waits location = (keeper : _) × (denial : Unavailable) × refuses keeper location.path.now denial × (waits keeper ≡ location.waits)
 
--- such a keeper refused so
+-- some keeper refused this with this denial
 abbrev pub IsDeniedBy : {K : Type 0} → (K → List ℕ → Unavailable → Type 0) → (K → Bool) → StoreLocation → Unavailable → Type 0
 IsDeniedBy refuses waits location denial = (keeper : _) × refuses keeper location.path.now denial × (waits keeper ≡ location.waits)
 
@@ -68,7 +68,7 @@ IsDeniedBy refuses waits location denial = (keeper : _) × refuses keeper locati
 abbrev pub HasDenied : {K : Type 0} → (K → List ℕ → Unavailable → Type 0) → (K → Bool) → StoreLocation → Fault → Type 0
 HasDenied refuses waits location fault = (keeper : _) × (denial : Unavailable) × refuses keeper location.path.now denial × (waits keeper ≡ location.waits) × (fault ≡ denial_fault denial)
 
--- a keeper that waits so gave its store out at this path
+-- some keeper that waits as the location says gave its store out at this path
 abbrev pub HasGiven : {K : Type 0} → (K → List ℕ → Type 0) → (K → Bool) → StoreLocation → Type 0
 HasGiven gives waits location = (keeper : _) × gives keeper location.path.now × (waits keeper ≡ location.waits)
 
@@ -76,31 +76,31 @@ HasGiven gives waits location = (keeper : _) × gives keeper location.path.now �
 abbrev pub HasOpen : {K X : Type 0} → (K → List ℕ → Type 0) → (K → Bool) → StoreLocation → Option X → Type 0
 HasOpen gives waits location store = HasGiven gives waits location × IsTrue (is_some store)
 
--- what came of closing a store that a keeper took back; of one that couldn't be closed there is this: it is noted, or told
+-- a keeper took a store back and closed it; if it couldn't be closed this holds: it is noted, or reported
 abbrev pub HasClosed : {K S : Type 0} → (K → S → Option Refusal → Type 0) → Type 0 → Type 0
 HasClosed closes Told = (keeper : _) × (store : _) × (came : Option Refusal) × closes keeper store came × (IsTrue (is_some came) → Told)
 
--- a keeper that waits so gave its store out at this path, and one took it back so
+-- a keeper that waits as the location says gave its store out at this path, and one took it back like this
 abbrev pub WasOut : {K S : Type 0} → (K → List ℕ → Type 0) → (K → Bool) → (K → S → Option Refusal → Type 0) → StoreLocation → Type 0 → Type 0
 WasOut gives waits closes location Told = HasGiven gives waits location × HasClosed closes Told
 
--- why what comes first can't be answered: the lock or the store was denied, or its step was refused
+-- why the first item can't be answered: the lock or the store was denied, or its step was refused
 abbrev pub Hinders : Type 0 → Client → Type 0
 Hinders Denied c = Denied ⊎ WasRefused c
 
--- answers of that many octets, or more, aren't held back for those of other commands
+-- this many octets of answers, or more, aren't held back for those of other commands
 abbrev pub largest_wait : ℕ
 largest_wait = 65536
 
--- something stood ready
+-- something was ready
 abbrev pub StoodReady : Client → Client → Type 0
 StoodReady c d = is_ready c ≡ true
 
--- where answering stops: nothing stands ready, so much waits to be written, or as many answers were given as are given at all
+-- when answering stops: nothing is ready, this much waits to be written, or the largest number of answers was given
 abbrev pub StopsAt : Client → List ℕ → Client → Type 0
 StopsAt c waits d = (is_ready d ≡ false) ⊎ (largest_wait ≤ length waits) ⊎ InTurn StoodReady c 18446744073709551615 d
 
--- of the troubles of a connection the first is kept, and whether it was told
+-- of the troubles of a connection the first is kept, and whether it was reported
 abbrev pub KeepsFirst : FirstTrouble → FirstTrouble → Type 0
 KeepsFirst old new = (new.is_told ≡ old.is_told) × IfSome old.trouble (λ first. new.trouble ≡ Some first)
 
@@ -112,20 +112,20 @@ HasNoted noted = IsTrue (is_some noted.trouble)
 abbrev pub IsNoted : (Unavailable → Type 0) → FirstTrouble → Type 0
 IsNoted Denied noted = HasNoted noted ⊎ Denied Busy
 
--- so much was told of a trouble: its lines were written, or writing broke off in them
+-- a trouble was reported this far: its lines were written, or writing broke off in them
 abbrev pub IsTold : Option (List ℕ) → Option (List ℕ) → Type 0
 IsTold old new = (trouble : Trouble) × IsWritten old new (line_of trouble.fault ++ cause_line (option_copied trouble.cause))
 
--- at most one trouble was told
+-- at most one trouble was reported
 abbrev pub TellsOne : Option (List ℕ) → Option (List ℕ) → Type 0
 TellsOne old new = (new ≡ old) ⊎ IsTold old new
 
--- then why the session broke off was told
+-- why the session broke off was reported
 abbrev pub TellsEnding : Result (Unit {0}) Fault → Option (List ℕ) → Option (List ℕ) → Type 0
 TellsEnding (Ok done) old new = new ≡ old
 TellsEnding (Err fault) old new = IsWritten old new (line_of fault)
 
--- why what comes first can't be answered, and there is this of it: it is noted, or told. Of another process that had the store there is none
+-- why the first item can't be answered, and this holds: it is noted, or reported; it needn't be if another process had the store
 abbrev pub Stops : {K : Type 0} → (K → List ℕ → Unavailable → Type 0) → (K → Bool) → StoreLocation → Type 0 → Client → Type 0
 Stops refuses waits location Told c = Hinders (IsDenied refuses waits location) c × (Told ⊎ IsDeniedBy refuses waits location Busy)
 
@@ -133,7 +133,7 @@ Stops refuses waits location Told c = Hinders (IsDenied refuses waits location) 
 abbrev pub Unstopped : Client → Type 0
 Unstopped c = ⊥
 
--- what comes first can't be answered now, for such a cause, and was given up
+-- the first item can't be answered now, for such a cause, and was given up
 pub record GivesUp (Stopped : Client → Type 0) (accounts : Accounts) (c : Client) (r : Round) : Type 0 where
   pub ready : is_ready c ≡ true
   pub none : r.came ≡ []
@@ -145,7 +145,7 @@ pub record GivesUp (Stopped : Client → Type 0) (accounts : Accounts) (c : Clie
 abbrev pub IsRound : (Client → Type 0) → Type 0 → Accounts → Client → Round → Type 0
 IsRound Stopped Given accounts c r = Hears accounts c r ⊎ (Steps Given accounts c r ⊎ GivesUp Stopped accounts c r)
 
--- rounds in turn lead from accounts and a client to these
+-- rounds in order lead from accounts and a client to these
 abbrev pub Leads : (Client → Type 0) → Type 0 → Accounts → Client → List Round → Accounts → Client → Type 0
 Leads Stopped Given accounts c [] later d = (later ≡ accounts) × (d ≡ c)
 Leads Stopped Given accounts c (r ∷ rounds) later d = IsRound Stopped Given accounts c r × Leads Stopped Given r.accounts r.client rounds later d
@@ -162,7 +162,7 @@ abbrev pub BeginsWith : Option (List ℕ) → List ℕ → Type 0
 BeginsWith None text = Unit {0}
 BeginsWith (Some left) text = (rest : List ℕ) × (left ≡ text ++ rest)
 
--- rounds lead from accounts and a client to these, and the accounts are shown so
+-- rounds lead from accounts and a client to these, and this holds of the accounts
 pub record Passes (Stopped : Client → Type 0) (Given : Type 0) (accounts : Accounts) (c : Client) (rounds : List Round) (d : Client) (Shown : Accounts → Type 0) : Type 0 where
   pub later : Accounts
   pub leads : Leads Stopped Given accounts c rounds later d
@@ -182,7 +182,7 @@ pub record Writes (Stopped : Client → Type 0) (Given : Type 0) (accounts : Acc
   pub none : came_in rounds ≡ []
   pub written : Appends out_old out_new (said_in rounds)
 
--- the same, where a write failed: a front is written
+-- the same if a write failed: a prefix is written
 pub record Interrupted (Stopped : Client → Type 0) (Given : Type 0) (accounts : Accounts) (c : Client) (out_old out_new : Option (List ℕ)) (new : Database) : Type 0 where
   pub rounds : List Round
   pub client : Client
@@ -190,12 +190,12 @@ pub record Interrupted (Stopped : Client → Type 0) (Given : Type 0) (accounts 
   pub none : came_in rounds ≡ []
   pub written : AppendsFront out_old out_new (said_in rounds)
 
--- what comes first was answered and written, or a write failed
+-- the first item was answered and the answer written, or a write failed
 abbrev pub WritesFirst : (Client → Type 0) → Type 0 → Accounts → Client → Option (List ℕ) → Option (List ℕ) → Client → Database → Result (Unit {0}) Fault → Type 0
 WritesFirst Stopped Given accounts c out_old out_new d new (Ok done) = Writes Stopped Given accounts c out_old out_new d new
 WritesFirst Stopped Given accounts c out_old out_new d new (Err fault) = Interrupted Stopped Given accounts c out_old out_new new
 
--- all that is whole was answered and written, or a write failed
+-- all complete items were answered and the answers written, or a write failed
 abbrev pub WritesAll : (Client → Type 0) → Type 0 → Accounts → Client → Option (List ℕ) → Option (List ℕ) → Client → Database → Result (Unit {0}) Fault → Type 0
 WritesAll Stopped Given accounts c out_old out_new d new (Ok done) = Writes Stopped Given accounts c out_old out_new d new × (is_ready d ≡ false)
 WritesAll Stopped Given accounts c out_old out_new d new (Err fault) = Interrupted Stopped Given accounts c out_old out_new new
@@ -214,7 +214,7 @@ AreSeen Given sees held (Some store) accounts = Given × Presents (sees store) a
 abbrev pub PresentsSeen : Type 0 → (Accounts → Type 0) → Database → Type 0
 PresentsSeen Given Seen now = (accounts : Accounts) → Seen accounts → Given × Presents now accounts
 
--- a step was made of the session, over a store that was given where it asks one, and its answer waits after what waited; or nothing changed
+-- a step of the session was made, over a store that was given if it asks one, and its answer waits after those before; or nothing changed
 abbrev pub StepsOn : Type 0 → Accounts → Client → List ℕ → List ℕ → Client → (Accounts → Type 0) → Bool → Type 0
 StepsOn Given accounts c waited waits d Shown true =
     (progress : Progress) × (octets : List ℕ) × (later : Accounts) × (waits ≡ waited ++ octets) × IsStep accounts c progress octets d later × Shown later × (AsksNothing c octets d ⊎ Given)
@@ -234,7 +234,7 @@ pub record Ends (Stopped : Client → Type 0) (Given : Type 0) (accounts : Accou
   pub served : Served Stopped Given accounts in_old in_new out_old out_new client new
   pub over : (client.closed ≡ true) ⊎ IsAtEnd in_new
 
--- the session broke off, for want of memory, or by a read or a write that failed: a front of what was said is written
+-- the session broke off, for lack of memory, or by a read or a write that failed: a prefix of what was said is written
 pub record BreaksOff (Stopped : Client → Type 0) (Given : Type 0) (accounts : Accounts) (in_old out_old out_new : Option (List ℕ)) (new : Database) : Type 0 where
   pub rounds : List Round
   pub client : Client
@@ -247,14 +247,14 @@ abbrev pub Converses : (Client → Type 0) → Type 0 → Accounts → Option (L
 Converses Stopped Given accounts in_old in_new out_old out_new new (Ok done) = Ends Stopped Given accounts in_old in_new out_old out_new new
 Converses Stopped Given accounts in_old in_new out_old out_new new (Err fault) = BreaksOff Stopped Given accounts in_old out_old out_new new
 
--- the same of tables: accounts that they offered were served; a database without tables stays so
+-- the same over tables: accounts that they offered were served; a database without tables stays so
 pub record Serves (Stopped : Client → Type 0) (Given : Type 0) (in_old in_new out_old out_new : Option (List ℕ)) (old new : Database) (result : Result (Unit {0}) Fault) : Type 0 where
   pub talks : (accounts : Accounts) → Offers old accounts → Converses Stopped Given accounts in_old in_new out_old out_new new result
   pub none : old.schema ≡ no_schema → new.schema ≡ no_schema
 
--- the same of a reader, a writer and a keeper, by what is still to be read of the one, what was written to the other, and the tables of the third, which
--- says by `refuses` that it refused the lock or the store at the path, by `gives` that it gave the store out there, by `waits` whether it waited, and by
--- `closes` what came of closing it. Of what was given up, and of a store that couldn't be closed, there is this
+-- the same over a reader, a writer and a keeper, in terms of what is still to be read from the one, what was written to the other, and the tables
+-- of the third, which says by `refuses` that it refused the lock or the store at the path, by `gives` that it gave the store out there, by `waits`
+-- whether it waited, and by `closes` how closing it ended. Of what was given up, and of a store that couldn't be closed, this holds
 abbrev pub ServesBy : {A B C S : Type 0} → (A → Option (List ℕ)) → A → A → (B → Option (List ℕ)) → B → B → (C → List ℕ → Unavailable → Type 0) → (C → List ℕ → Type 0) → (C → Bool) → (C → S → Option Refusal → Type 0) → StoreLocation → (C → Database) → C → C → Type 0 → Result (Unit {0}) Fault → Type 0
 ServesBy remaining in_old in_new contents out_old out_new refuses gives waits closes location holds old new Told result =
     Serves (Stops refuses waits location Told) (WasOut gives waits closes location Told) (remaining in_old) (remaining in_new) (contents out_old) (contents out_new) (holds old) (holds new) result

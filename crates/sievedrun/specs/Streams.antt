@@ -1,4 +1,4 @@
--- What is read of an input and written to an output, where their octets are known.
+-- What is read from an input and written to an output, if their octets are known.
 use Rattle.std.specs.Prelude.{◌≡◌, ◌≢◌, ◌⊎◌, ℕ, suc, List, [], Option, Some, None, take}
 use Rattle.std.specs.Io.KnownBytes.{Appends, Consumes, IsAtEnd}
 use Rattle.std.specs.IoError.{error_kind}
@@ -10,7 +10,7 @@ abbrev pub ReadsAll : Option (List ℕ) → List ℕ → Type 0
 ReadsAll None octets = Unit {0}
 ReadsAll (Some left) octets = octets ≡ left
 
--- known octets grow by some front of a text
+-- known octets grow by some prefix of a text
 abbrev pub AppendsFront : Option (List ℕ) → Option (List ℕ) → List ℕ → Type 0
 AppendsFront old new text = (k : ℕ) × Appends old new (take k text)
 
@@ -18,14 +18,14 @@ AppendsFront old new text = (k : ℕ) × Appends old new (take k text)
 abbrev pub AppendsSome : Option (List ℕ) → Option (List ℕ) → Type 0
 AppendsSome old new = (more : List ℕ) × Appends old new more
 
--- ---- calls of a reader or writer, one after the other. Which octets a state of it has left, or holds, is told by a function, where those are known
+-- ---- calls of a reader or writer, one after the other. A function tells which octets a state of it has left, or holds, if those are known
 
--- a signal came before a call that led from one state of a reader or writer to the other. The definition is shut, and `read_at` and `write_some` alone
--- say it: so who can say it made such a call
+-- a signal came before a call that led from one state of a reader or writer to the other. The definition is opaque, and only `read_at` and
+-- `write_some` say it: so whoever can say it made such a call
 pub WasInterrupted : {X : Type 0} → X → X → Type 0
 WasInterrupted old new = Unit {0}
 
--- a read that led from one state of a reader to the other told that nothing is left. This too is shut, and `read_at` alone says it
+-- a read that led from one state of the reader to the other returned that nothing is left. This too is opaque, and only `read_at` says it
 pub TellsEnd : {R : Type 0} → R → R → Type 0
 TellsEnd old new = Unit {0}
 
@@ -46,16 +46,16 @@ GoesOn remaining old new = ((octets : List ℕ) × (octets ≢ []) × Consumes (
 abbrev pub Takes : {W : Type 0} → (W → Option (List ℕ)) → W → W → Type 0
 Takes contents old new = ((octets : List ℕ) × (octets ≢ []) × Appends (contents old) (contents new) octets) ⊎ WasInterrupted old new
 
--- so many steps in turn led here
+-- that many steps in order led here
 pub data InTurn {X : Type 0} (Step : X → X → Type 0) (old : X) : ℕ → X → Type 0 where
   none_yet : InTurn Step old 0 old
   one_more : (count : ℕ) (mid new : X) → InTurn Step old count mid → Step mid new → InTurn Step old (suc count) new
 
--- reads in turn, each of which went on
+-- reads in order, each of which went on
 abbrev pub ReadsOn : {R : Type 0} → (R → Option (List ℕ)) → R → R → Type 0
 ReadsOn remaining old new = (count : ℕ) × InTurn (GoesOn remaining) old count new
 
--- reads in turn went on, and the one after them, which is the last, told that nothing is left
+-- reads in order went on, and the one after them, the last, returned that nothing is left
 pub record ReadsToEnd {R : Type 0} (remaining : R → Option (List ℕ)) (old new : R) : Type 0 where
   pub mid : R
   pub reads : ReadsOn remaining old mid
@@ -67,12 +67,13 @@ ReadsAllOrNone remaining old new = (new ≡ old) ⊎ ReadsToEnd remaining old ne
 
 -- ---- failures
 
--- a read of a reader that has these octets left failed, not since a signal came before it; or as many reads as are made went on, and none told the end.
--- The definition is shut, and only the functions of `stream`, and `converse` behind its last read, say it: so who can say it made such reads
+-- a read of a reader that has these octets left failed, and not since a signal came before it; or the largest number of reads went on, and none
+-- reached the end. The definition is opaque, and only the functions of `stream`, and `converse` after its last read, say it: so whoever can say it
+-- made such reads
 pub ReadFailed : Option (List ℕ) → Type 0
 ReadFailed left = Unit {0}
 
--- for the proofs of those functions alone: of a read, and behind the last one
+-- for the proofs of those functions alone: of a read, and after the last one
 pub read_failed : (left : Option (List ℕ)) (error : Error) → error_kind error ≢ Interrupted → ReadFailed left
 unfolding ReadFailed
 read_failed left error other = tt
@@ -81,11 +82,11 @@ pub reads_end : {R : Type 0} (remaining : R → Option (List ℕ)) (old new : R)
 unfolding ReadFailed
 reads_end remaining old new all = tt
 
--- a write to a writer that has these octets failed so, or took nothing, or its flush failed; or as many turns as are made went on, and none was the last
+-- a write to a writer that has these octets failed, or took nothing, or its flush failed; or the largest number of turns went on, and none was the last
 pub WriteFailed : Option (List ℕ) → Type 0
 WriteFailed held = Unit {0}
 
--- of a write; of one that took nothing of a text, or of a flush; and behind the last turn
+-- of a write; of one that took nothing of a text, or of a flush; and after the last turn
 pub write_failed : (held : Option (List ℕ)) (error : Error) → error_kind error ≢ Interrupted → WriteFailed held
 unfolding WriteFailed
 write_failed held error other = tt
@@ -102,7 +103,7 @@ pub turns_end : {X : Type 0} (held : Option (List ℕ)) (Step : X → X → Type
 unfolding WriteFailed
 turns_end held Step old new all = tt
 
--- a writer that has these octets was flushed. This too is shut, and `flush` alone says it
+-- a writer that has these octets was flushed. This too is opaque, and only `flush` says it
 pub WasFlushed : Option (List ℕ) → Type 0
 WasFlushed held = Unit {0}
 
@@ -118,7 +119,7 @@ InputFailed = (left : Option (List ℕ)) × ReadFailed left
 abbrev pub OutputFailed : Type 0
 OutputFailed = (held : Option (List ℕ)) × WriteFailed held
 
--- known octets grow by some front of a text, and there a write failed
+-- known octets grow by some prefix of a text, after which a write failed
 abbrev pub IsCut : Option (List ℕ) → Option (List ℕ) → List ℕ → Type 0
 IsCut old new text = AppendsFront old new text × WriteFailed new
 

@@ -21,7 +21,7 @@ use Rattle.sievedrun.specs.Values.{IsWhen, HasNoWhen}
 use Rattle.sievedrun.specs.Streams.{InputFailed, IsCut, IsWritten}
 use Rattle.reportlines.specs.Reports.{with_end, report_of}
 
--- the input has a valid script, and the text is the report on what it comes to on the message with the envelope
+-- the input has a valid script, and the text is the report on its outcome on the message with the envelope
 pub record Reports (envelope : Envelope) (when : When) (input text : List ℕ) : Type 0 where
   pub script : List ℕ
   pub message : List ℕ
@@ -42,20 +42,20 @@ pub record Refuses (input text : List ℕ) : Type 0 where
   pub within : line ≤ 1 + line_ends script
   pub told : text ≡ with_end (fault_line line kind)
 
--- the input is no script and message
+-- the input isn't a script and a message
 abbrev pub IsNoInput : List ℕ → Type 0
 IsNoInput input = (script message : List ℕ) → IsFramed input script message → ⊥
 
--- of all that the reader gave: where that is not known, of some text
+-- of all that the reader gave: if that is not known, of some text
 abbrev pub OfInput : Option (List ℕ) → (List ℕ → Type 0) → Type 0
 OfInput None P = (input : List ℕ) × P input
 OfInput (Some input) P = P input
 
--- there is no answer: what was read is no script and message, memory was refused, or a read failed
+-- there is no answer: what was read isn't a script and a message, memory was refused, or a read failed
 abbrev pub HasNoAnswer : Option (List ℕ) → Fault → Type 0
 HasNoAnswer given fault = ((fault ≡ BadInput) × OfInput given IsNoInput) ⊎ (fault ≡ memory) ⊎ ((fault ≡ Stream) × InputFailed)
 
--- what an answer says is so of this input
+-- the answer is true of this input
 abbrev pub Answers : Envelope → When → List ℕ → Answer → Type 0
 Answers envelope when input (Report text) = Reports envelope when input text
 Answers envelope when input (Refusal text) = Refuses input text
@@ -65,13 +65,13 @@ abbrev pub text_in : Answer → List ℕ
 text_in (Report text) = text
 text_in (Refusal text) = text
 
--- the exit status that tells how a run ended: with an answer or with a fault
+-- the exit status of a run that ended with an answer or with a fault
 abbrev pub status_at : Result Answer Fault → ℕ
 status_at (Ok (Report _)) = 0
 status_at (Ok (Refusal _)) = 65
 status_at (Err fault) = status_of fault
 
--- what is on the output in the end: the answer, or nothing, or where a write of it failed a front of the answer
+-- what is on the output in the end: the answer, or nothing, or if a write of it failed a prefix of the answer
 abbrev pub LeavesOutput : Envelope → When → Option (List ℕ) → Option (List ℕ) → Option (List ℕ) → Result Answer Fault → Type 0
 LeavesOutput envelope when given old new (Ok answer) = OfInput given (λ input. Answers envelope when input answer) × IsPrinted (Ok tt) old new (text_in answer)
 LeavesOutput envelope when given old new (Err BadInput) = OfInput given IsNoInput × Keeps old new
@@ -80,24 +80,24 @@ LeavesOutput envelope when given old new (Err Stream) =
     (Keeps old new × InputFailed) ⊎ ((answer : Answer) × OfInput given (λ input. Answers envelope when input answer) × IsCut old new (text_in answer))
 LeavesOutput envelope when given old new (Err _) = ⊥
 
--- what is told of a fault, or a front of it where a write of it failed
+-- what is reported of a fault, or a prefix of it if a write of it failed
 abbrev pub LeavesErrors : Option (List ℕ) → Option (List ℕ) → Result Answer Fault → Type 0
 LeavesErrors old new (Ok _) = Keeps old new
 LeavesErrors old new (Err fault) = IsWritten old new (line_of fault)
 
--- a whole run: how it ended, what status tells of it, and what it left on the output and on the errors
+-- a whole run: how it ended, its status, and what it left on the output and on the errors
 pub record Runs (envelope : Envelope) (when : When) (given : Option (List ℕ)) (output_old output_new errors_old errors_new : Option (List ℕ)) (status : ℕ) : Type 0 where
   pub ending : Result Answer Fault
   pub told : status ≡ status_at ending
   pub output : LeavesOutput envelope when given output_old output_new ending
   pub errors : LeavesErrors errors_old errors_new ending
 
--- nothing was tried or printed, and this fault is told
+-- nothing was tried or printed, and this fault is reported
 abbrev pub TriesNothing : Fault → Option (List ℕ) → Option (List ℕ) → Option (List ℕ) → Option (List ℕ) → ℕ → Type 0
 TriesNothing fault output_old output_new errors_old errors_new status =
     (status ≡ status_of fault) × (output_new ≡ output_old) × IsWritten errors_old errors_new (line_of fault)
 
--- `try` with these words: a whole run at the moment that they have, or else the clock's, and in the zone that they have, or in UTC; or one of them is wrong;
+-- `try` with these arguments: a whole run at their moment, or else the clock's, and in their zone, or in UTC; or one of them is wrong;
 -- or they have no moment, and the clock has none
 abbrev pub Tries : Option (List ℕ) → Option (List ℕ) → Option ℕ → Envelope → Option (List ℕ) → Option (List ℕ) → Option (List ℕ) → Option (List ℕ) → Option (List ℕ) → ℕ → Type 0
 Tries at zone clock envelope given output_old output_new errors_old errors_new status =

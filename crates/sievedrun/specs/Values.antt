@@ -1,4 +1,4 @@
--- The values that stand in words.
+-- The values in arguments.
 use Rattle.std.specs.Prelude.{◌≡◌, ◌⊎◌, ℕ, pos, ◌<◌, ◌≤◌, ◌^◌, List, [], ◌∷◌, Option, Some, None, Ok}
 use Rattle.hex.specs.Hex.{decode_sized}
 use Rattle.maildirs.specs.Spelling.{octet_of}
@@ -10,11 +10,11 @@ use Rattle.hostzones.specs.declared.zone.HostZone.{HostZone}
 use Rattle.sieveexec.specs.declared.envelope.Envelope.{Envelope}
 use Rattle.sieveexec.specs.declared.when.When.{When}
 
--- no number of 64 bits is written so
+-- the text isn't a number of 64 bits
 abbrev pub IsNoNumber : List ℕ → Type 0
 IsNoNumber digits = (number : ℕ) → number < 2 ^ 64 → Writes digits number → ⊥
 
--- the words have digits there, which are no number
+-- the argument is there, and isn't a number
 abbrev pub HasNoNumber : Option (List ℕ) → Type 0
 HasNoNumber (Some digits) = IsNoNumber digits
 HasNoNumber None = ⊥
@@ -31,61 +31,61 @@ IsNoPort digits = (port : ℕ) → port < 65536 → Writes digits port → ⊥
 abbrev pub IsNoSize : List ℕ → Type 0
 IsNoSize digits = (size : ℕ) → 1 ≤ size → size ≤ 65536 → Writes digits size → ⊥
 
--- these digits write no moment that the database can have, in seconds since 1970
+-- these digits write no moment that the database can hold, in seconds since 1970
 abbrev pub IsNoUntil : List ℕ → Type 0
 IsNoUntil digits = (until : ℕ) → until < 2 ^ 63 → Writes digits until → ⊥
 
--- no salt is written so
+-- the text isn't a salt
 abbrev pub IsNoSalt : List ℕ → Type 0
 IsNoSalt digits = (salt : List ℕ) → WritesSalt digits salt → ⊥
 
--- the salt that the words have in hexadecimal digits, or else the system's random octets
+-- the salt that the argument has in hexadecimal digits, or else the system's random octets
 abbrev pub IsSalt : Option (List ℕ) → Option (List ℕ) → List ℕ → Type 0
 IsSalt (Some digits) random salt = WritesSalt digits salt
 IsSalt None random salt = random ≡ Some salt
 
--- the words have digits there, which are no salt
+-- the argument is there, and isn't a salt
 abbrev pub HasNoSalt : Option (List ℕ) → Type 0
 HasNoSalt (Some digits) = IsNoSalt digits
 HasNoSalt None = ⊥
 
--- the moment that the words have in decimal, or else the clock's
+-- the moment that the argument has in decimal, or else the clock's
 abbrev pub IsMoment : Option (List ℕ) → Option ℕ → ℕ → Type 0
 IsMoment (Some digits) clock moment = Writes digits moment
 IsMoment None clock moment = clock ≡ Some moment
 
--- no zone of a host is written so
+-- the text isn't a zone of a host
 abbrev pub IsNoZone : List ℕ → Type 0
 IsNoZone text = (zone : HostZone) → IsZoneText text zone → ⊥
 
--- the zone that the words have; UTC where they have none
+-- the zone in the argument; UTC if there is none
 abbrev pub IsHostZone : Option (List ℕ) → HostZone → Type 0
 IsHostZone (Some text) zone = IsZoneText text zone
 IsHostZone None zone = (moment : ℕ) → IsOffsetAt zone moment (pos 0)
 
--- at that moment the host's zone is as the words say
+-- at that moment the host's zone is as the argument says
 abbrev pub IsZoned : Option (List ℕ) → When → Type 0
 IsZoned text when = (zone : HostZone) × IsHostZone text zone × IsOffsetAt zone when.moment when.zone
 
--- the moment that the words have in decimal, or else the clock's, and the host's zone at it
+-- the moment that the argument has in decimal, or else the clock's, and the host's zone at it
 abbrev pub IsWhen : Option (List ℕ) → Option (List ℕ) → Option ℕ → When → Type 0
 IsWhen at zone clock when = IsMoment at clock when.moment × IsZoned zone when
 
--- the words have a zone, which is none
+-- the argument is there, and isn't a zone
 abbrev pub HasNoZone : Option (List ℕ) → Type 0
 HasNoZone (Some text) = IsNoZone text
 HasNoZone None = ⊥
 
--- the words have digits for a moment, which are no number, or a zone, which is none
+-- the argument for a moment isn't a number, or the one for a zone isn't a zone
 abbrev pub HasNoWhen : Option (List ℕ) → Option (List ℕ) → Type 0
 HasNoWhen at zone = HasNoNumber at ⊎ HasNoZone zone
 
--- this separates the levels of folders: `.` where the words have nothing
+-- the separator of the levels of folders: `.` if it is left out
 abbrev pub IsSeparator : Option (List ℕ) → Separator → Type 0
 IsSeparator (Some text) separator = text ≡ octet_of separator ∷ []
 IsSeparator None separator = separator ≡ Dot
 
--- the words have something else
+-- the argument is something else
 abbrev pub HasNoSeparator : Option (List ℕ) → Type 0
 HasNoSeparator text = (separator : Separator) → IsSeparator text separator → ⊥
 

@@ -1,4 +1,4 @@
--- What a word of the command line does: what becomes of the accounts, what is printed, and why it is refused.
+-- What a subcommand does: how the accounts change, what is printed, and why it is refused.
 use Prim.Native.Nat.{zero}
 use Rattle.std.specs.Prelude.{◌≡◌, ◌≢◌, ◌⊎◌, ℕ, suc, Bool, true, false, List, [], ◌++◌, codes, decimal, filter, map, nat_le, slice_get, IsTrue, Option, Some, None, option_copied, Result, Ok, Err, MatchResult, OnOk, cond, length, ◌==◌, ◌&&◌}
 use Rattle.std.specs.FinMap.{entries, get, keys}
@@ -62,9 +62,9 @@ use Rattle.sievedrun.specs.declared.fault.Fault.{Fault}
 use Rattle.sieveexec.specs.declared.when.When.{When}
 use Rattle.sievedrun.specs.declared.fault.Fault.TheVariants.{Refused, Stream, NoMessage, NoScript, Invalid, BadInput, BadArgument}
 
--- ---- how a word ends, whatever it does
+-- ---- how a subcommand ends, whatever it does
 
--- it was done: the accounts became these, and the text that tells of it is printed so
+-- it was done: the accounts became these, and the text that reports it is printed like this
 pub record IsDone (Deed : Accounts → Accounts → List ℕ → Type 0) (IsPrinted : List ℕ → Type 0) (accounts later : Accounts) : Type 0 where
   pub text : List ℕ
   pub deed : Deed accounts later text
@@ -81,9 +81,9 @@ abbrev pub Finishes : (Accounts → Accounts → List ℕ → Type 0) → (Fault
 Finishes Deed Cause old new (Ok done) accounts later = IsDone Deed (IsPrinted (Ok tt) old new) accounts later
 Finishes Deed Cause old new (Err fault) accounts later = IsUndone Cause old new fault accounts later ⊎ IsDone Deed (IsPrinted (Err fault) old new) accounts later
 
--- ---- words that are an event of the machine
+-- ---- subcommands that are an event of the machine
 
--- `adduser`: the account of these words, whose password is the first line of what was read
+-- `adduser`: the account of these arguments, whose password is the first line of what was read
 pub record Adds (digits random : Option (List ℕ)) (name address : List ℕ) (given : Option (List ℕ)) (event : Event) : Type 0 where
   pub octets : List ℕ
   pub read : ReadsAll given octets
@@ -91,7 +91,7 @@ pub record Adds (digits random : Option (List ℕ)) (name address : List ℕ) (g
   pub salted : IsSalt digits random salt
   pub same : event ≡ AddUser name address salt (first_line octets)
 
--- `passwd`: the user's other password is the first line of what was read
+-- `passwd`: the user's new password is the first line of what was read
 pub record Guards (digits random : Option (List ℕ)) (user : List ℕ) (given : Option (List ℕ)) (event : Event) : Type 0 where
   pub octets : List ℕ
   pub read : ReadsAll given octets
@@ -103,7 +103,7 @@ pub record Guards (digits random : Option (List ℕ)) (user : List ℕ) (given :
 abbrev pub IsKeeping : List ℕ → Upkeep → Event → Type 0
 IsKeeping user upkeep event = event ≡ Keep user upkeep
 
--- no text is looked at, so that it is done or refused
+-- no text is checked, so it is done or refused
 abbrev pub IsPlain : Upkeep → Type 0
 IsPlain (upkeep.StoreScript name text activate) = ⊥
 IsPlain other = Unit {0}
@@ -113,7 +113,7 @@ abbrev pub IsDoneBy : Answer → Result (Unit {0}) Fault → Type 0
 IsDoneBy (answer.Refused refusal) result = result ≡ Err (Refused refusal)
 IsDoneBy other result = result ≡ Ok tt
 
--- what is answered where it is done
+-- what is answered if it is done
 abbrev pub said_of : Upkeep → Answer
 said_of (upkeep.SetPassword salt password) = answer.Changed
 said_of (upkeep.SetAddress address) = answer.Changed
@@ -123,8 +123,8 @@ said_of upkeep.OpenAccount = answer.Opened
 said_of (upkeep.RemoveAccount mail) = answer.Removed
 said_of (upkeep.TakeNotices until) = answer.NoticesTaken
 
--- `deliver`: all that was read is for the user, with these addresses, at the moment of these words or of the clock and in the zone of the words, by a host with this
--- default script
+-- `deliver`: all that was read is for the user, with these addresses, at the moment in the arguments or of the clock and in the zone of the
+-- arguments, by a host with this default script
 pub record Posts (from to : List ℕ) (at zone : Option (List ℕ)) (user : List ℕ) (clock : Option ℕ) (default given : Option (List ℕ)) (event : Event) : Type 0 where
   pub message : List ℕ
   pub read : ReadsAll given message
@@ -175,7 +175,7 @@ Tells (Keep user upkeep) answer.Opened text = text ≡ with_end (codes "opened "
 Tells (Keep user upkeep) answer.Removed text = text ≡ with_end (codes "removed " ++ user)
 Tells event answer text = ⊥
 
--- an event of the word's own was made, and this tells of it
+-- an event of the subcommand's own was made, and this reports it
 pub record Makes (Own : Event → Type 0) (accounts later : Accounts) (text : List ℕ) : Type 0 where
   pub event : Event
   pub own : Own event
@@ -191,25 +191,26 @@ pub record RefusesEvent (Own : Event → Type 0) (fault : Fault) (accounts : Acc
   pub told : fault ≡ Refused refusal
   pub next : Next (world_of accounts) event (answer.Refused refusal) (world_of accounts)
 
--- one event over a store that was taken for it and handed back: it was made, with what is told of the result; or the machine refuses it, or the
--- word was kept from it
+-- one event over a store that was taken for it and handed back: it was made, with this said of the result; or the machine refuses it, or
+-- the subcommand was hindered
 abbrev pub Puts : {X : Type 0} → (Fault → Type 0) → Event → (X → Answer) → Result X Fault → Accounts → Accounts → Type 0
 Puts Denied event told (Ok x) accounts later = Next (world_of accounts) event (told x) (world_of later)
 Puts Denied event told (Err fault) accounts later = (later ≡ accounts) × (IsHindered ⊥ ⊥ Denied fault ⊎ RefusesEvent (λ e. e ≡ event) fault accounts)
 
--- the word over tables: an event of its own
+-- the subcommand over tables: an event of its own
 abbrev pub DoesEvent : Type 0 → Type 0 → (Fault → Type 0) → (Event → Type 0) → Option (List ℕ) → Option (List ℕ) → Result (Unit {0}) Fault → Database → Database → Type 0
 DoesEvent Broken Wrong Denied Own old new result = TurnsTables (Finishes (Makes Own) (λ fault accounts. IsHindered Broken Wrong Denied fault ⊎ RefusesEvent Own fault accounts) old new result)
 
 -- ---- `put`, whose text may be no script
 
--- a script was put to the machine: it was stored; or its text is none, and no account changed; or it is refused, or the word was kept from it
+-- a script was given to the machine: it was stored; or its text is none, and no account changed; or it is refused, or the subcommand was hindered
 abbrev pub PutsScript : (Fault → Type 0) → List ℕ → Upkeep → Result (Option ScriptFault) Fault → Accounts → Accounts → Type 0
 PutsScript Denied user upkeep (Ok None) accounts later = Next (world_of accounts) (Keep user upkeep) answer.Stored (world_of later)
 PutsScript Denied user upkeep (Ok (Some fault)) accounts later = (later ≡ accounts) × Next (world_of accounts) (Keep user upkeep) (answer.Invalid fault) (world_of accounts)
 PutsScript Denied user upkeep (Err fault) accounts later = (later ≡ accounts) × (IsHindered ⊥ ⊥ Denied fault ⊎ RefusesEvent (λ e. e ≡ Keep user upkeep) fault accounts)
 
--- the line on a script's fault is printed whole, and the word's fault is that the script isn't valid; or there was no memory for the line, or a write of it failed
+-- the line on a script's fault is printed whole, and the subcommand's fault is that the script isn't valid; or there was no memory for the line, or
+-- a write of it failed
 abbrev pub TellsInvalid : ScriptFault → Option (List ℕ) → Option (List ℕ) → Result (Unit {0}) Fault → Type 0
 TellsInvalid fault old new (Ok done) = ⊥
 TellsInvalid fault old new (Err told) =
@@ -217,12 +218,12 @@ TellsInvalid fault old new (Err told) =
     ⊎ ((told ≡ memory) × Keeps old new)
     ⊎ IsPrinted (Err told) old new (with_end (fault_line fault.line fault.kind))
 
--- what is told of a script: that it was stored, or what is wrong with it
+-- what is printed of a script: that it was stored, or what is wrong with it
 abbrev pub TellsVerdict : List ℕ → Option ScriptFault → Option (List ℕ) → Option (List ℕ) → Result (Unit {0}) Fault → Type 0
 TellsVerdict name None old new result = IsPrinted result old new (with_end (codes "stored " ++ name))
 TellsVerdict name (Some fault) old new result = TellsInvalid fault old new result
 
--- the machine answers such an event that the text is no script, no account changes, and that is told
+-- the machine answers to such an event that the text is no script, no account changes, and that is printed
 pub record RefusesScript (Own : Event → Type 0) (old new : Option (List ℕ)) (result : Result (Unit {0}) Fault) (accounts later : Accounts) : Type 0 where
   pub event : Event
   pub own : Own event
@@ -231,53 +232,53 @@ pub record RefusesScript (Own : Event → Type 0) (old new : Option (List ℕ)) 
   pub stays : later ≡ accounts
   pub told : TellsInvalid fault old new result
 
--- the word over tables
+-- the subcommand over tables
 abbrev pub DoesPut : (Fault → Type 0) → (Event → Type 0) → Option (List ℕ) → Option (List ℕ) → Result (Unit {0}) Fault → Database → Database → Type 0
 DoesPut Denied Own old new result =
     TurnsTables (λ accounts later.
     Finishes (Makes Own) (λ fault all. IsHindered InputFailed ⊥ Denied fault ⊎ RefusesEvent Own fault all) old new result accounts later ⊎ RefusesScript Own old new result accounts later)
 
--- ---- `import`, whose text may be that of no account
+-- ---- `import`, whose text may not be that of an account
 
--- all that was read is the text of no account
+-- all that was read isn't the text of an account
 abbrev pub IsNoAccount : Option (List ℕ) → Type 0
 IsNoAccount given = (text : List ℕ) × ReadsAll given text × ((head : Head) (parts : List Part) → IsTextOf text head parts → ⊥)
 
--- no account was read: memory was refused, a read failed, or all that was read is the text of none
+-- no account was read: memory was refused, a read failed, or all that was read isn't the text of one
 abbrev pub IsNotRead : Option (List ℕ) → Fault → Type 0
 IsNotRead given fault = (fault ≡ memory) ⊎ ((fault ≡ Stream) × InputFailed) ⊎ ((fault ≡ BadInput) × IsNoAccount given)
 
--- that is told, no account changed, and nothing is printed
+-- that is reported, no account changed, and nothing is printed
 pub record RefusesText (given old new : Option (List ℕ)) (result : Result (Unit {0}) Fault) (accounts later : Accounts) : Type 0 where
   pub none : IsNoAccount given
   pub told : result ≡ Err BadInput
   pub stays : later ≡ accounts
   pub silent : Keeps old new
 
--- the word over tables
+-- the subcommand over tables
 abbrev pub DoesImport : (Fault → Type 0) → Option (List ℕ) → Option (List ℕ) → Option (List ℕ) → Result (Unit {0}) Fault → Database → Database → Type 0
 DoesImport Denied given old new result =
     TurnsTables (λ accounts later.
     Finishes (Makes (Brings given)) (λ fault all. IsHindered InputFailed ⊥ Denied fault ⊎ RefusesEvent (Brings given) fault all) old new result accounts later ⊎ RefusesText given old new result accounts later)
 
--- ---- words that only read
+-- ---- subcommands that only read
 
--- no account changes, and the text shows the user's open account so
+-- no account changes, and the text shows the user's open account like this
 pub record Shows (user : List ℕ) (IsShown : Account → List ℕ → Type 0) (accounts later : Accounts) (text : List ℕ) : Type 0 where
   pub stays : later ≡ accounts
   pub shown : OfOpen accounts user (λ a. IsShown a text)
 
--- what was read of the user's open account: this is found in it; or there is none, or the word was kept from it
+-- what was read of the user's open account: this is found in it; or there is none, or the subcommand was hindered
 abbrev pub FindsIn : {X : Type 0} → (Fault → Type 0) → List ℕ → (X → Account → Type 0) → Result X Fault → Accounts → Type 0
 FindsIn Denied user Finds (Ok found) accounts = OfOpen accounts user (Finds found)
 FindsIn Denied user Finds (Err fault) accounts = IsHindered ⊥ ⊥ Denied fault ⊎ ((fault ≡ no_user) × HasNoOpen user accounts)
 
--- why nothing is shown: the word was kept from it; no value in the words is wrong, and there is no open account of the name; or what was asked for isn't there, which
--- this fault tells
+-- why nothing is shown: the subcommand was hindered; no value in the arguments is wrong, and there is no open account of the name; or what was
+-- asked for isn't there, which this fault says
 abbrev pub HasNone : Type 0 → (Fault → Type 0) → List ℕ → (Fault → Account → Type 0) → Fault → Accounts → Type 0
 HasNone Wrong Denied user Lacks fault accounts = IsHindered ⊥ Wrong Denied fault ⊎ ((fault ≡ no_user) × HasNoOpen user accounts × (Wrong → ⊥)) ⊎ OfOpen accounts user (Lacks fault)
 
--- the word over tables: it shows a part of the user's account
+-- the subcommand over tables: it shows a part of the user's account
 abbrev pub DoesRead : Type 0 → (Fault → Type 0) → List ℕ → (Account → List ℕ → Type 0) → (Fault → Account → Type 0) → Option (List ℕ) → Option (List ℕ) → Result (Unit {0}) Fault → Database → Database → Type 0
 DoesRead Wrong Denied user IsShown Lacks old new result = TurnsTables (Finishes (Shows user IsShown) (HasNone Wrong Denied user Lacks) old new result)
 
@@ -297,7 +298,7 @@ folder_listing line folders = flat_map with_end (map line folders)
 abbrev pub ListsFolders : (List ℕ × ℕ → List ℕ) → Account → List ℕ → Type 0
 ListsFolders line a text = text ≡ folder_listing line (map size_of (entries a.folders))
 
--- `folders --maildir`, where this separates the levels of folders
+-- `folders --maildir`, with this separator of the levels of folders
 abbrev pub ListsDirectories : Option (List ℕ) → Account → List ℕ → Type 0
 ListsDirectories levels a text = (separator : Separator) × IsSeparator levels separator × ListsFolders (directory_line separator) a text
 
@@ -348,7 +349,7 @@ LacksNothing fault a = ⊥
 
 -- ---- `users`
 
--- what stands for the active script: its name as ManageSieve spells it (RFC 5804, section 4), or a hyphen where none is active
+-- the word for the active script: its name as ManageSieve spells it (RFC 5804, section 4), or a hyphen if none is active
 abbrev pub active_word : Option (List ℕ) → List ℕ
 active_word None = codes "-"
 active_word (Some name) = string_spelled name
@@ -359,11 +360,11 @@ open_line name active address = with_end (name ++ (codes " " ++ (active_word act
 abbrev pub closed_line : List ℕ → List ℕ
 closed_line name = with_end (codes "closed " ++ name)
 
--- the line of an account, which a removed one doesn't have
+-- the line of an account; a removed one has none
 abbrev pub user_line : List ℕ → Account → List ℕ
 user_line name a = cond (is_removed a) [] (cond (is_closed a) (closed_line name) (open_line name a.active a.address))
 
--- the same of what the store answers of the account, and of a name, which may have none
+-- the same from what the store returns of the account, and for a name, which may have none
 abbrev pub profile_line : List ℕ → Profile → List ℕ
 profile_line name p = cond (p.rounds == 0 && length p.digest == 0) [] (cond (p.rounds == 0) (closed_line name) (open_line name p.active p.address))
 
@@ -380,28 +381,28 @@ pub record ListsUsers (accounts later : Accounts) (text : List ℕ) : Type 0 whe
   pub stays : later ≡ accounts
   pub listed : text ≡ user_listing (entries accounts)
 
--- the word over tables: the users are listed, or it was kept from it
+-- the subcommand over tables: the users are listed, or it was hindered
 abbrev pub DoesUsers : (Fault → Type 0) → Option (List ℕ) → Option (List ℕ) → Result (Unit {0}) Fault → Database → Database → Type 0
 DoesUsers Denied old new result = TurnsTables (Finishes ListsUsers (λ fault accounts. IsHindered ⊥ ⊥ Denied fault) old new result)
 
--- what was read of all accounts: they are listed, or the word was kept from it
+-- what was read of all accounts: they are listed, or the subcommand was hindered
 abbrev pub FindsUsers : (Fault → Type 0) → Result (List ℕ) Fault → Accounts → Type 0
 FindsUsers Denied (Ok text) accounts = text ≡ user_listing (entries accounts)
 FindsUsers Denied (Err fault) accounts = IsHindered ⊥ ⊥ Denied fault
 
--- the line of the user with the name, where there is an account
+-- the line of the user with the name, if there is an account
 abbrev pub line_at : List ℕ → Option Account → List ℕ
 line_at name None = []
 line_at name (Some a) = user_line name a
 
--- the text has the line of the user with the name more at its end, and the next user is this one
+-- the line of the user with the name is appended to the text, and the next user is this one
 pub record AddsUser (name old new : List ℕ) (next : Option (List ℕ)) (accounts : Accounts) : Type 0 where
   pub added : new ≡ old ++ line_at name (get accounts name)
   pub follows : IsNextUser name next accounts
 
 -- ---- `notices`, which may take what it prints
 
--- over a store that is open at the end: whatever accounts it showed, it then shows what became of them
+-- over a store that is open at the end: whatever accounts it showed, it then shows what these became
 abbrev pub TurnsStore : (Accounts → Accounts → Type 0) → State → State → Type 0
 TurnsStore Became old new = HasCleanDisk new → IsTrue new.is_open → (accounts : Accounts) → Presents old.now accounts → (later : Accounts) × Became accounts later × Presents new.now later
 
@@ -409,7 +410,7 @@ TurnsStore Became old new = HasCleanDisk new → IsTrue new.is_open → (account
 abbrev pub notices_until : ℕ → List Notice → List Notice
 notices_until until notices = filter (λ notice. nat_le notice.moment until) notices
 
--- what is listed of them
+-- their lines
 abbrev pub ListsUntil : ℕ → Account → List ℕ → Type 0
 ListsUntil until a text = text ≡ notice_listing (notices_until until a.notices)
 
@@ -433,7 +434,7 @@ TakesListed user until old new (Ok done) accounts later =
     (text : List ℕ) × OfOpen accounts user (λ a. ListsUntil until a text) × IsPrinted (Ok tt) old new text × Next (world_of accounts) (taking user until) answer.NoticesTaken (world_of later)
 TakesListed user until old new (Err fault) accounts later = (later ≡ accounts) × (IsUnlisted user old new fault accounts ⊎ IsUntaken user until old new fault accounts)
 
--- the word was kept from it: nothing is printed, and no account changed
+-- the subcommand was hindered: nothing is printed, and no account changed
 abbrev pub IsKeptFrom : Type 0 → (Fault → Type 0) → Option (List ℕ) → Option (List ℕ) → Result (Unit {0}) Fault → Accounts → Accounts → Type 0
 IsKeptFrom Wrong Denied old new (Ok done) accounts later = ⊥
 IsKeptFrom Wrong Denied old new (Err fault) accounts later = IsHindered ⊥ Wrong Denied fault × (later ≡ accounts) × Keeps old new
@@ -453,16 +454,16 @@ closing user = Keep user upkeep.CloseAccount
 abbrev pub HasExported : List ℕ → Option (List ℕ) → Option (List ℕ) → Accounts → Type 0
 HasExported user old new accounts = (text : List ℕ) × OfOpen accounts user (IsCopyOf text user) × IsPrinted (Ok tt) old new text
 
--- it isn't: nothing is written; or it broke off, and a front of the text is
+-- it isn't: nothing is written; or it broke off, and a prefix of the text is
 abbrev pub IsUnprinted : List ℕ → Option (List ℕ) → Option (List ℕ) → Fault → Accounts → Type 0
 IsUnprinted user old new fault accounts = IsUnlisted user old new fault accounts ⊎ OfOpen accounts user (IsCutOff user old new fault)
 
--- reads of a store, of which that comes
+-- reads of a store, with this result
 pub record PrintsText (user : List ℕ) (out_old out_new : Option (List ℕ)) (old new : State) (result : Result (Unit {0}) Fault) : Type 0 where
   pub keeps : KeepsStore old new result
   pub printed : HasCleanDisk new → OverAccounts old (λ accounts. MatchResult result (λ done. HasExported user out_old out_new accounts) (λ fault. IsUnprinted user out_old out_new fault accounts))
 
--- what becomes of the accounts behind that: nothing, or the user's was closed
+-- what the accounts become after that: they stay, or the user's was closed
 abbrev pub BecomesClosed : Bool → List ℕ → Accounts → Accounts → Type 0
 BecomesClosed false user accounts later = later ≡ accounts
 BecomesClosed true user accounts later = Next (world_of accounts) (closing user) answer.Closed (world_of later)
@@ -472,32 +473,32 @@ abbrev pub IsUnclosed : Bool → List ℕ → Option (List ℕ) → Option (List
 IsUnclosed false user old new fault accounts = ⊥
 IsUnclosed true user old new fault accounts = HasExported user old new accounts × (IsSudden ⊥ fault ⊎ RefusesEvent (λ e. e ≡ closing user) fault accounts)
 
--- after Ok the text is written whole and flushed, and only behind that the account was closed, where that is asked for; after a fault no account changed, and
--- nothing is written, a front of the text, or all of it
+-- after Ok the text is written whole and flushed, and only then the account was closed, if that is asked for; after a fault no account
+-- changed, and nothing is written, a prefix of the text, or all of it
 abbrev pub Exports : Bool → List ℕ → Option (List ℕ) → Option (List ℕ) → Result (Unit {0}) Fault → Accounts → Accounts → Type 0
 Exports closes user old new (Ok done) accounts later = HasExported user old new accounts × BecomesClosed closes user accounts later
 Exports closes user old new (Err fault) accounts later =
     (later ≡ accounts) × (IsUnprinted user old new fault accounts ⊎ IsUnclosed closes user old new fault accounts)
 
--- the word over tables
+-- the subcommand over tables
 abbrev pub DoesExport : (Fault → Type 0) → Option (List ℕ) → Option (List ℕ) → Bool → List ℕ → Result (Unit {0}) Fault → Database → Database → Type 0
 DoesExport Denied old new closes user result = TurnsTables (λ accounts later. IsKeptFrom ⊥ Denied old new result accounts later ⊎ Exports closes user old new result accounts later)
 
 -- ---- `init`
 
--- where no table was there is a store without accounts then; after a fault only where the output failed
+-- if there was no table, there is a store without accounts then; after a fault only if the output failed
 abbrev pub DoesInit : (Fault → Type 0) → Option (List ℕ) → Option (List ℕ) → Result (Unit {0}) Fault → Database → Database → Type 0
 DoesInit Denied out_old out_new (Ok done) old new = (old.schema ≡ no_schema) × Presents new no_accounts × IsPrinted (Ok tt) out_old out_new (codes "ready\n")
 DoesInit Denied out_old out_new (Err fault) old new =
     (IsHindered ⊥ ⊥ Denied fault × (new ≡ old) × Keeps out_old out_new) ⊎ ((old.schema ≡ no_schema) × Presents new no_accounts × IsPrinted (Err fault) out_old out_new (codes "ready\n"))
 
--- ---- the words
+-- ---- the subcommands
 
--- the words ask for nothing that there is
+-- nothing is done here
 abbrev pub DoesNothing : Option (List ℕ) → Option (List ℕ) → Result (Unit {0}) Fault → Database → Database → Type 0
 DoesNothing out_old out_new result old new = (result ≡ Err BadArgument) × (new ≡ old) × Keeps out_old out_new
 
--- `folders`: directories in a Maildir are shown where they are asked for, and only then may the separator of levels be said
+-- `folders`: directories in a Maildir are shown if they are asked for, and only then may a separator of levels be given
 abbrev pub DoesFolders : (Fault → Type 0) → Option (List ℕ) → Option (List ℕ) → List ℕ → Bool → Option (List ℕ) → Result (Unit {0}) Fault → Database → Database → Type 0
 DoesFolders Denied out_old out_new user true levels result = DoesRead (HasNoSeparator levels) Denied user (ListsDirectories levels) LacksNothing out_old out_new result
 DoesFolders Denied out_old out_new user false None result = DoesRead ⊥ Denied user (ListsFolders folder_line) LacksNothing out_old out_new result
@@ -518,26 +519,27 @@ abbrev pub DoesNotices : (Fault → Type 0) → Option (List ℕ) → Option (Li
 DoesNotices Denied out_old out_new user None result = DoesRead ⊥ Denied user ListsNotices LacksNothing out_old out_new result
 DoesNotices Denied out_old out_new user (Some digits) result = TakesNotices Denied out_old out_new user digits result
 
--- what `deliver` reads broke: its input, or the clock, whose moment it takes where the words have none
+-- what `deliver` reads broke: its input, or the clock, whose moment it takes if the arguments have none
 abbrev pub PostFailed : Option (List ℕ) → Option ℕ → Type 0
 PostFailed at clock = InputFailed ⊎ ((at ≡ None) × (clock ≡ None))
 
--- what `adduser` and `passwd` read broke: their input, or the system's random octets, which are the salt where the words have none
+-- what `adduser` and `passwd` read broke: their input, or the system's random octets, which are the salt if the arguments have none
 abbrev pub SaltFailed : Option (List ℕ) → Option (List ℕ) → Type 0
 SaltFailed digits random = InputFailed ⊎ ((digits ≡ None) × (random ≡ None))
 
--- the store was denied once all of the input was read
+-- the store was denied after all of the input was read
 abbrev pub DeniedAtEnd : (Fault → Type 0) → Option (List ℕ) → Fault → Type 0
 DeniedAtEnd Denied left fault = Denied fault × IsAtEnd left
 
--- whoever denies the store at a place, why a sink refused, the clock, the system's random octets, what was to be read and what is left of it, whether a sink tells what it keeps and
--- what that was and is, and the output before and after
+-- who denies the store at a place, why a sink refused, the clock, the system's random octets, what was to be read and what is left of it, whether a
+-- sink tells what it keeps and what that was and is, and the output before and after
 module _ (Denied : StoreLocation → Fault → Type 0) (Sunk : SinkError → Type 0) (clock : Option ℕ) (random default : Option (List ℕ)) (given left : Option (List ℕ)) (tells : Bool) (had has : List KeptMail) (out_old out_new : Option (List ℕ)) where
   -- no message came to the sink, and nothing of the input was read
   abbrev pub Idle : Type 0
   Idle = StaysAsItWas tells had has × (left ≡ given)
 
-  -- each word does its own work; only `init` makes a store, only `drain` moves messages into the sink, and only `adduser`, `passwd`, `put`, `import` and `deliver` read
+  -- each subcommand does its own work; only `init` makes a store, only `drain` moves messages into the sink, and only `adduser`, `passwd`, `put`,
+  -- `import` and `deliver` read
   abbrev pub Does : Subcommand → Result (Unit {0}) Fault → Database → Database → Type 0
   Does (word.Init a) result old new = Idle × DoesInit (Denied a.location) out_old out_new result old new
   Does (word.AddUser a) result old new =
@@ -571,7 +573,7 @@ module _ (Denied : StoreLocation → Fault → Type 0) (Sunk : SinkError → Typ
   Does (word.Daemon a) result old new = Idle × DoesNothing out_old out_new result old new
   Does (word.Check a) result old new = Idle × DoesNothing out_old out_new result old new
 
--- the store that a word works on, and for `drain` the Maildir, are those that it names, and the store was waited for as it says
+-- the store that a subcommand works on, and for `drain` the Maildir, are those that it names, and the store was waited for as it says
 abbrev pub Reaches : (StoreLocation → Type 0) → (List ℕ → Type 0) → Subcommand → Type 0
 Reaches Given At (word.Init a) = Given a.location
 Reaches Given At (word.AddUser a) = Given a.location
@@ -604,18 +606,18 @@ Reaches Given At (word.Check a) = Unit {0}
 abbrev pub Untouched : Bool → List KeptMail → List KeptMail → Database → Database → Type 0
 Untouched tells had has old new = StaysAsItWas tells had has × (new ≡ old)
 
--- `clap` says that the words are wrong; else it shows help or a version
+-- `clap` says that the arguments are wrong; else it shows help or a version
 abbrev pub IsMistake : Error → Type 0
 IsMistake error = (kind_of error ≢ DisplayHelp) × (kind_of error ≢ DisplayVersion)
 
--- the words are wrong, and a text says so
+-- the arguments are wrong, and a text says so
 pub record IsUsage (error : Error) (out_old out_new err_old err_new : Option (List ℕ)) (status : ℕ) : Type 0 where
   pub mistake : IsMistake error
   pub ended : status ≡ 64
   pub silent : out_new ≡ out_old
   pub told : AppendsSome err_old err_new
 
--- a text is shown that is asked for
+-- a text that was asked for is shown
 pub record IsHelp (error : Error) (out_old out_new err_old err_new : Option (List ℕ)) (status : ℕ) : Type 0 where
   pub right : IsMistake error → ⊥
   pub ended : status ≡ 0
@@ -629,22 +631,22 @@ pub record IsUnsaid (error : Error) (out_old out_new err_old err_new : Option (L
   pub ended : status ≡ status_of fault
   pub told : IsWritten err_old err_new (line_of fault)
 
--- what comes of a text that `clap` has
+-- what is printed of a text that `clap` has
 abbrev pub IsSaid : Error → Option (List ℕ) → Option (List ℕ) → Option (List ℕ) → Option (List ℕ) → ℕ → Type 0
 IsSaid error out_old out_new err_old err_new status =
     IsUsage error out_old out_new err_old err_new status ⊎ IsHelp error out_old out_new err_old err_new status ⊎ IsUnsaid error out_old out_new err_old err_new status
 
--- nothing was done, and this fault is told
+-- nothing was done, and this fault is reported
 abbrev pub IsOnly : Fault → Option (List ℕ) → Option (List ℕ) → Option (List ℕ) → Option (List ℕ) → ℕ → Type 0
 IsOnly fault out_old out_new err_old err_new status = (status ≡ status_of fault) × (out_new ≡ out_old) × IsWritten err_old err_new (line_of fault)
 
--- what comes of words that ask for nothing
+-- what is printed of arguments that ask for nothing
 abbrev pub IsUnread : ReadError → Option (List ℕ) → Option (List ℕ) → Option (List ℕ) → Option (List ℕ) → ℕ → Type 0
 IsUnread (Said error) out_old out_new err_old err_new status = IsSaid error out_old out_new err_old err_new status
 IsUnread NotText out_old out_new err_old err_new status = IsOnly BadArgument out_old out_new err_old err_new status
 IsUnread Unknown out_old out_new err_old err_new status = IsOnly BadArgument out_old out_new err_old err_new status
 
--- a word did its work: its status is that of how it ended, and what went wrong is told, with its cause
+-- a subcommand did its work: its status is that of how it ended, and what went wrong is reported, with its cause
 pub record Works (Did : Result (Unit {0}) Fault → Type 0) (Reached : Type 0) (cause : Fault → Option (List ℕ)) (err_old err_new : Option (List ℕ)) (status : ℕ) : Type 0 where
   pub ending : Result (Unit {0}) Fault
   pub ended : status ≡ status_after ending
@@ -654,12 +656,12 @@ pub record Works (Did : Result (Unit {0}) Fault → Type 0) (Reached : Type 0) (
   pub reached : OnOk ending Reached
 
 module _ (Denied : StoreLocation → Fault → Type 0) (Sunk : SinkError → Type 0) (Given : StoreLocation → Type 0) (At : List ℕ → Type 0) (cause : Fault → Option (List ℕ)) (clock : Option ℕ) (random default : Option (List ℕ)) (given left : Option (List ℕ)) (tells : Bool) (had has : List KeptMail) (out_old out_new err_old err_new : Option (List ℕ)) (status : ℕ) (old new : Database) where
-  -- what comes of words that were read so: a script was tried; a word did its work; or the words ask for nothing, which is told
+  -- what arguments that were read like this do: a script was tried; a subcommand did its work; or they ask for nothing, which is reported
   abbrev pub RunsAs : Result Subcommand ReadError → Type 0
   RunsAs (Ok (word.Try a)) = Tries (option_copied a.at) (option_copied a.zone) clock (envelope_with a.from.now a.to.now) given out_old out_new err_old err_new status × Untouched tells had has old new
   RunsAs (Ok asked) = Works (λ ending. Does Denied Sunk clock random default given left tells had has out_old out_new asked ending old new) (Reaches Given At asked) cause err_old err_new status
   RunsAs (Err error) = IsUnread error out_old out_new err_old err_new status × Untouched tells had has old new × (left ≡ given)
 
-  -- a run of the program with these words
+  -- a run of the program with these arguments
   abbrev pub RunsWords : CommandLine → Type 0
   RunsWords line = (answer : Result Subcommand ReadError) × WasRead line answer × RunsAs answer

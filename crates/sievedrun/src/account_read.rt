@@ -1,4 +1,4 @@
-//! Reads of one user's account, each of a store that is taken and handed back.
+//! Reads of one user's account, each over a store that is taken and handed back.
 ghost use Rattle.std.specs.Prelude.{◌≡◌, ℕ, None, List, false, IsTrue, OnOk};
 ghost use Rattle.sqlite.specs.Held.{state};
 ghost use Rattle.mailstore.specs.Account.{Account};
@@ -17,7 +17,7 @@ use octets::{List, Octets, Texts};
 use sievedwords::StoreLocation;
 use sqlite::Alter;
 
-/// What is read of a user's account.
+/// A read of a user's account.
 pub trait AccountRead {
     /// What is found.
     type Found: Drop;
@@ -25,10 +25,10 @@ pub trait AccountRead {
     /// The user's name.
     ghost user: { Self → List ℕ };
 
-    /// What is found in which account.
+    /// What is found in an account.
     ghost finds: { Self → Self.Found → Account → Type 0 };
 
-    /// Reads it of a store. Errors are those of the store's read.
+    /// Reads it from a store. Errors are those of the store's read.
     fn read<S: Alter>(&self, store: &mut Store<S>) -> Result<Self::Found, Refusal>
         ensures { Reads (user self.now) (finds self.now) (state S.Store store.old) (state S.Store store.new) result };
 }
@@ -37,7 +37,7 @@ pub trait AccountRead {
 #[derive(Clone, Copy)]
 pub struct FoldersOf<'a>(pub &'a str);
 
-/// The folders of the user with this name, each with its directory in a Maildir where this parts the levels of folders.
+/// The folders of the user with this name, each with its directory in a Maildir, if a separator of levels is given.
 #[derive(Clone, Copy)]
 pub struct DirectoriesOf<'a>(pub &'a str, pub Separator);
 
@@ -203,7 +203,7 @@ fn script_names<S: Alter>(store: &mut Store<S>, user: &[u8]) -> Result<ScriptNam
     })
 }
 
-/// No message, of a user who has an account.
+/// `None` for a message, if the user has an account.
 fn none_of<S: Alter>(store: &mut Store<S>, user: &[u8]) -> Result<Option<Octets>, Refusal>
     ensures { Reads user.now (λ message a. message ≡ None) (state S.Store store.old) (state S.Store store.new) result }
 {
@@ -211,7 +211,7 @@ fn none_of<S: Alter>(store: &mut Store<S>, user: &[u8]) -> Result<Option<Octets>
     Ok(None)
 }
 
-/// What is found in the store at a place, which is taken for this read and handed back.
+/// Reads from the store at a place, which is taken for this read and handed back.
 pub fn read_once<Q: AccountRead, K: Keeper>(
     location: StoreLocation<'_>,
     wanted: &Q,

@@ -1,4 +1,4 @@
-//! What is said of an input.
+//! The answer to an input.
 ghost use Rattle.std.specs.Prelude.{◌≡◌, ◌≤◌, ◌+◌, ℕ, List, IfOk, IfErr};
 ghost use Rattle.sievelex.specs.Finding.{IfFault, IfFaultLine};
 ghost use Rattle.sievelex.specs.Text.{line_ends};
@@ -26,7 +26,7 @@ use sieveexec::When;
 use sievelex::ScriptError;
 use std::alloc::Global;
 
-/// What is said of an input that is a script and a message.
+/// The answer to an input that is a script and a message.
 #[derive(Drop)]
 pub enum Answer {
     /// The report on what the script does.
@@ -36,7 +36,7 @@ pub enum Answer {
 }
 
 impl Answer {
-    /// What is printed.
+    /// The text that is printed.
     pub fn text(&self) -> &[u8]
         ensures { result.now ≡ text_in self.now }
     {
@@ -46,7 +46,7 @@ impl Answer {
     }
 }
 
-/// Tries the script of an input on its message, received with the envelope and delivered then.
+/// Tries the script of an input on its message, received with the envelope and delivered at that moment.
 pub fn answer_to(
     alloc: Global,
     envelope: Envelope,
@@ -69,7 +69,7 @@ pub fn answer_to(
     }
 }
 
-/// Tries a script on a message for which this front stands, received with the envelope and delivered then.
+/// Tries a script on a message, of which this is a prefix that decides, received with the envelope and delivered at that moment.
 fn answer_on(
     alloc: Global,
     envelope: Envelope,
@@ -89,7 +89,7 @@ fn answer_on(
     }
 }
 
-/// What a script comes to on a message for which this front stands, or why it is no valid script.
+/// The outcome of a script on a message, of which this is a prefix that decides, or why it is no valid script.
 fn outcome_on(
     alloc: Global,
     script: &[u8],

@@ -1,4 +1,4 @@
-//! Texts that are checked as scripts, without a store.
+//! Checks texts as scripts, without a store.
 ghost use Rattle.std.specs.Prelude.{◌≡◌, ◌≢◌, Some, false, IfOk, IsTrue, option_copied};
 ghost use Rattle.sievedrun.specs.Checks.{ChecksInput, IsChecked, PrintsFinding, fault_in_file, too_large, told_in};
 ghost use Rattle.sievedrun.specs.Faults.{status_of};
@@ -14,8 +14,8 @@ use sievelex::ScriptFault;
 use std::alloc::{AllocError, Global};
 use std::io::{Read, Write};
 
-/// Checks the input as a script. Of one that is valid nothing is printed, of another the line that tells why it isn't. What goes wrong is
-/// told on the errors. The answer is the exit status.
+/// Checks the input as a script. For a valid one nothing is printed, for another one the line that tells why it isn't valid. What
+/// goes wrong is reported on the errors. Returns the exit status.
 pub fn check_input<R: Read, W: Write, E: Write>(
     alloc: Global,
     input: &mut R,
@@ -31,9 +31,9 @@ pub fn check_input<R: Read, W: Write, E: Write>(
     }
 }
 
-/// Checks a text as a script, and prints the line that tells why it isn't valid, if it isn't: `line N: TEXT`, or `FILE:N: TEXT` of a
-/// file's. A text that is longer than a script may be is no script. The answer is the exit status: 0, 65, or 75 where memory or a
-/// write failed. Time and memory are those of `sievesyntax::check`.
+/// Checks a text as a script, and if it isn't valid prints the line that tells why: `line N: TEXT`, or `FILE:N: TEXT` for a
+/// file. A text that is longer than a script may be is no script. Returns the exit status: 0, 65, or 75 if memory or a write
+/// failed. Time and memory are those of `sievesyntax::check`.
 pub fn check_text<W: Write, E: Write>(
     alloc: Global,
     file: Option<&str>,
@@ -50,7 +50,7 @@ pub fn check_text<W: Write, E: Write>(
     }
 }
 
-/// Why a text is no valid script, which is printed; nothing of one that is.
+/// Prints why a text is no valid script; nothing if it is one.
 fn print_finding<W: Write>(
     alloc: Global,
     file: Option<&str>,
@@ -93,7 +93,7 @@ fn line_in_file(alloc: Global, file: &str, fault: ScriptFault) -> Result<Octets,
     Ok(text)
 }
 
-/// Tells of a fault, behind the file's name where the file is too large, and gives its exit status.
+/// Reports a fault, after the file's name if the file is too large, and returns its exit status.
 fn refuse_in<E: Write>(errors: &mut E, file: Option<&str>, fault: Fault) -> u8
     ensures status { result ≡ status_of fault }
     ensures line { IsWritten (E.contents errors.old) (E.contents errors.new) (told_in (option_copied file.entry) fault) }
@@ -108,7 +108,7 @@ fn refuse_in<E: Write>(errors: &mut E, file: Option<&str>, fault: Fault) -> u8
     refuse(errors, fault)
 }
 
-/// Whether it is that a text is longer than a script may be.
+/// Whether the fault is that a text is longer than a script may be.
 fn is_too_large(fault: Fault) -> bool
     ensures yes { IsTrue result → fault ≡ too_large }
     ensures other { result ≡ false → fault ≢ too_large }

@@ -1,4 +1,4 @@
-//! The words that work on a store, a function each.
+//! The subcommands that work on a store, a function each.
 ghost use Rattle.std.specs.Prelude.{◌≡◌, ◌≢◌, false, IsTrue, IfOk, OnOk, OnErr, IfErr, option_copied};
 ghost use Rattle.sqlite.specs.Held.{state};
 ghost use Rattle.keepers.specs.Taken.{IsTaken};
@@ -41,7 +41,7 @@ pub fn run_init<W: Write, K: Keeper>(
     write_all(output, b"ready\n")
 }
 
-/// `adduser`: a new account. Its password is the first line of the input. `random` is the salt where the words have none.
+/// `adduser`: a new account. Its password is the first line of the input. `random` is the salt if the arguments have none.
 pub fn run_adduser<R: Read, W: Write, K: Keeper>(
     alloc: Global,
     asked: AddUser<'_>,
@@ -74,7 +74,7 @@ pub fn run_adduser<R: Read, W: Write, K: Keeper>(
     write_line(output, b"added ", asked.name.as_bytes())
 }
 
-/// The account is added, in a store that is taken and handed back.
+/// Adds the account, in a store that is taken and handed back.
 fn add<K: Keeper>(
     alloc: Global,
     location: StoreLocation<'_>,
@@ -96,11 +96,11 @@ fn add<K: Keeper>(
     Ok(added?)
 }
 
-/// `deliver`: the input is a message for a user. `clock` is the moment where the words have none, and `default` the text of the script
-/// for accounts without an active one.
+/// `deliver`: the input is a message for a user. `clock` is the moment if the arguments have none, and `default` the text of the
+/// script for accounts without an active one.
 ///
-/// The report is written once the store was handed back, and takes no memory. What was delivered is on the disk by then, whether or
-/// not the store could be closed.
+/// The report is written after the store was handed back, and takes no memory. What was delivered is on the disk by then, whether
+/// or not the store could be closed.
 pub fn run_deliver<R: Read, W: Write, K: Keeper>(
     alloc: Global,
     asked: Deliver<'_>,
@@ -136,7 +136,7 @@ pub fn run_deliver<R: Read, W: Write, K: Keeper>(
     print_report(&report, output)
 }
 
-/// The message is delivered, in a store that is taken and handed back.
+/// Delivers the message, in a store that is taken and handed back.
 fn post<K: Keeper>(
     alloc: Global,
     location: StoreLocation<'_>,
@@ -160,7 +160,7 @@ fn post<K: Keeper>(
     Ok(delivered?)
 }
 
-/// `show`: a message of a user's folder, by its number from 1. No other is read.
+/// `show`: a message of a user's folder, by its number from 1. No other message is read.
 pub fn run_show<W: Write, K: Keeper>(
     asked: Show<'_>,
     output: &mut W,
@@ -180,7 +180,7 @@ pub fn run_show<W: Write, K: Keeper>(
     write_all(output, message.as_slice())
 }
 
-/// The store at a place: the one that is there, or with `fresh` a new one.
+/// Takes the store at a place: the one that is there, or with `fresh` a new one.
 pub fn take_store<K: Keeper>(
     location: StoreLocation<'_>,
     fresh: bool,

@@ -1,4 +1,4 @@
-//! The word on what leaves a folder: its messages go into a sink, and then out of the store.
+//! The subcommand that empties a folder: its messages go into a sink, and then out of the store.
 ghost use Rattle.std.specs.Prelude.{◌≡◌, ◌≢◌, ◌⊎◌, ℕ, List, false, IfErr, IfOk, OnOk, IsTrue, option_copied};
 ghost use Rattle.sqlite.specs.Held.{state};
 ghost use Rattle.sievedrun.specs.Draining.{IsMost, MovesFirst, MovesAll, Drains, MovesTables, HasDrained, HasRefused, IsUnkept};
@@ -18,7 +18,7 @@ use sievedwords::Drain;
 use sqlite::Alter;
 use std::io::Write;
 
-/// `drain`: a folder's messages move into a Maildir, the first ones first. Where the words or the path are wrong no store is
+/// `drain`: moves a folder's messages into a Maildir, the first ones first. If the arguments or the path are wrong, no store is
 /// taken.
 pub fn run_drain<W: Write, K: Keeper, T: MailSink>(
     asked: Drain<'_>,
@@ -38,7 +38,7 @@ pub fn run_drain<W: Write, K: Keeper, T: MailSink>(
     write_number(output, b"drained ", moved)
 }
 
-/// How many messages the words ask for, at most.
+/// How many messages the arguments ask for, at most.
 fn most_of(digits: Option<&str>) -> Result<u64, Fault>
     ensures ok { IfOk result (IsMost (option_copied digits.entry)) }
     ensures right { OnOk result (HasNoNumber (option_copied digits.entry) → ⊥) }
@@ -51,7 +51,7 @@ fn most_of(digits: Option<&str>) -> Result<u64, Fault>
     }
 }
 
-/// The messages move out of a store that is taken and handed back. Answers how many moved.
+/// Moves the messages out of a store that is taken and handed back. Returns how many moved.
 fn drain_store<K: Keeper, T: MailSink>(
     asked: Drain<'_>,
     most: u64,
@@ -73,11 +73,11 @@ fn drain_store<K: Keeper, T: MailSink>(
 }
 
 /// Moves the first message of the folder of a user who has an account: the sink keeps it, and then it leaves the store.
-/// Answers whether there was one.
+/// Returns whether there was one.
 ///
 /// # Errors
 ///
-/// `Memory`, `Store`, or `Stream` where the sink failed. The message is in the folder still, and may be kept too.
+/// `Memory`, `Store`, or `Stream` if the sink failed. The message is in the folder still, and may be in the sink too.
 fn move_first<S: Alter, T: MailSink>(
     store: &mut Store<S>,
     user: &[u8],
@@ -105,7 +105,7 @@ fn move_first<S: Alter, T: MailSink>(
     }
 }
 
-/// Why the folder of a user who was there a moment ago can't be read.
+/// Why the folder of a user whose account was there a moment ago can't be read.
 fn failure_of(refusal: Refusal) -> Fault
     ensures sudden { IsSudden ⊥ result }
     ensures memory { refusal ≡ Refusal.Memory → result ≡ memory }
@@ -129,8 +129,8 @@ fn sink_failure(error: SinkError) -> Fault
     }
 }
 
-/// Moves the first messages of the folder, of a user who has an account, until as many moved or none is left. Answers how
-/// many moved. Errors are those of `move_first`.
+/// Moves the first messages of the folder, of a user who has an account, until that many have moved or none is left. Returns
+/// how many moved. Errors are those of `move_first`.
 fn move_all<S: Alter, T: MailSink>(
     store: &mut Store<S>,
     user: &[u8],
@@ -150,13 +150,13 @@ fn move_all<S: Alter, T: MailSink>(
     Ok(most)
 }
 
-/// Moves messages of the user's folder into the sink, the first ones first, until as many moved or none is left. Answers
-/// how many moved. Time is in proportion to the messages that move, memory to one of them.
+/// Moves messages of the user's folder into the sink, the first ones first, until that many have moved or none is left. Returns
+/// how many moved. Time is in proportion to the messages that move, memory to the largest of them.
 ///
 /// # Errors
 ///
-/// `NoUser` where there is no such account that is open, and then nothing moved. `Memory`, `Store`, and `Stream` where the sink failed,
-/// may come at any place: what moved until then stays so, and the next message may be kept though it is in the folder still.
+/// `NoUser` if there is no open account of the name; nothing has moved then. `Memory`, `Store`, and `Stream` if the sink failed,
+/// may come at any message: those that moved before stay in the sink, and the next one may be there though it is in the folder still.
 fn drain<S: Alter, T: MailSink>(
     store: &mut Store<S>,
     user: &[u8],

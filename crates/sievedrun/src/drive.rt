@@ -1,4 +1,4 @@
-//! A run of the program: the words, and what comes of them.
+//! A run of the program: reads the arguments and does what they ask for.
 ghost use Rattle.std.specs.Prelude.{◌≡◌, false, None, IsTrue, IfSome, OnOk, option_copied};
 ghost use Rattle.mailstore.specs.Cells.{contents};
 ghost use Rattle.sievedrun.specs.Draining.{HasRefused};
@@ -36,16 +36,16 @@ use std::alloc::{AllocError, Global};
 use std::format;
 use std::io::{Read, Write};
 
-/// The status where the words are wrong (`EX_USAGE` of sysexits.h).
+/// The exit status if the arguments are wrong (`EX_USAGE` of sysexits.h).
 const USAGE: u8 = 64;
 
-/// Does what the words after the program's name ask for, and answers the exit status. The message, the password or the
+/// Runs what the arguments after the program's name ask for, and returns the exit status. The message, the password or the
 /// script is read from the input, the answer is written to the output, and what goes wrong to the errors.
 ///
-/// `clock` is the moment in seconds since 1970, where the clock could be read, and `random` are 16 octets that nobody can guess,
-/// where the system gave some, and `default` is the text of the script for accounts without an active one, for `deliver`. Where
-/// words or values are wrong nothing is read. The store is taken at most once, and handed back before the answer is written, but for notices, which are taken only once
-/// they are written. Messages that leave it go into the sink.
+/// `clock` is the moment in seconds since 1970, if the clock could be read, `random` are 16 octets that can't be guessed, if the
+/// system gave some, and `default` is for `deliver` the text of the script for accounts without an active one. If arguments or
+/// values are wrong, nothing is read. The store is taken at most once, and handed back before the answer is written, except for
+/// notices, which are taken only after they were written. Messages that leave the store go into the sink.
 pub fn drive<R: Read, W: Write, E: Write, K: Keeper, T: MailSink>(
     alloc: Global,
     words: &CommandLine,
@@ -82,7 +82,7 @@ pub fn drive<R: Read, W: Write, E: Write, K: Keeper, T: MailSink>(
     }
 }
 
-/// Tries a script on a message that comes with this envelope at the moment of the words, or else of the clock, and answers the exit
+/// Tries a script on a message with this envelope, at the moment in the arguments or else the clock's, and returns the exit
 /// status.
 fn try_script<R: Read, W: Write, E: Write>(
     alloc: Global,
@@ -107,7 +107,7 @@ fn try_script<R: Read, W: Write, E: Write>(
     }
 }
 
-/// Does what a word asks for that works on a store. `try`, `check` and those that serve do none.
+/// Carries out a subcommand that works on a store. `try`, `check` and those that serve do nothing here.
 fn act<R: Read, W: Write, K: Keeper, T: MailSink>(
     alloc: Global,
     asked: Subcommand<'_>,
@@ -158,9 +158,9 @@ fn act<R: Read, W: Write, K: Keeper, T: MailSink>(
     }
 }
 
-/// The status of what was done in a store, or of the fault. Told are: why the store couldn't be closed, and the fault, each
-/// with what the keeper or the sink knows of it. That a call was refused because the store failed tells of both, and that a script
-/// isn't valid was told on the output.
+/// The exit status of what was done in a store, or of the fault. It reports why the store couldn't be closed, and the fault,
+/// each with what the keeper or the sink knows of it. If a call was refused because the store failed, the report says both. That a
+/// script isn't valid was printed on the output.
 fn conclude<E: Write, K: Keeper, T: MailSink>(
     done: Result<(), Fault>,
     errors: &mut E,
@@ -194,7 +194,7 @@ fn conclude<E: Write, K: Keeper, T: MailSink>(
     }
 }
 
-/// Tells why the store couldn't be closed, where it couldn't.
+/// Reports why the store couldn't be closed, if it couldn't.
 fn tell_unclosed<E: Write, K: Keeper, T: MailSink>(
     errors: &mut E,
     unclosed: Option<Refusal>,
@@ -210,7 +210,7 @@ fn tell_unclosed<E: Write, K: Keeper, T: MailSink>(
     }
 }
 
-/// Tells of a fault, with what the keeper or the sink knows of it, and gives its status.
+/// Reports a fault, with what the keeper or the sink knows of it, and returns its status.
 fn tell_fault<E: Write, K: Keeper, T: MailSink>(
     errors: &mut E,
     fault: Fault,
@@ -245,7 +245,7 @@ fn sink_cause<T: MailSink>(sink: &T) -> Option<&'static str>
     of_file(sink.cause()?)
 }
 
-/// Tells why words ask for nothing.
+/// Reports why the arguments ask for nothing.
 fn tell_unread<W: Write, E: Write>(
     alloc: Global,
     error: ReadError,
@@ -260,7 +260,7 @@ fn tell_unread<W: Write, E: Write>(
     }
 }
 
-/// Tells what `clap` has to say: of wrong words on the errors, of help and version on the output.
+/// Prints what `clap` has to say: errors of usage on the errors, help and version on the output.
 fn tell<W: Write, E: Write>(alloc: Global, error: &Error, output: &mut W, errors: &mut E) -> u8
     ensures { IsSaid error.now (W.contents output.old) (W.contents output.new) (E.contents errors.old) (E.contents errors.new) result }
 {

@@ -1,4 +1,4 @@
-//! The word that prints an account as a text, and may close it behind that.
+//! The subcommand that prints an account as a text, and may close it after that.
 ghost use Rattle.std.specs.Prelude.{◌≡◌, ◌+◌, ◌<◌, false, length, IsTrue, OnOk};
 ghost use Rattle.accountfiles.specs.Writing.{text_in};
 ghost use Rattle.sqlite.specs.Held.{state};
@@ -22,10 +22,11 @@ use sqlite::Alter;
 use std::alloc::Global;
 use std::io::Write;
 
-/// `export`: the text of the user's account, which is closed behind it where that is asked for, in one holding of the store.
+/// `export`: prints the text of the user's account, and closes the account after that if asked to, without giving the store back
+/// in between.
 ///
-/// Time is linear in the text. Memory is that of the names and numbers of what the account has, and one to four times its largest text or
-/// message, nearly all of it SQLite's.
+/// Time is linear in the text. Memory is that of the names and numbers of what the account has, and one to four times its largest
+/// text or message, nearly all of it SQLite's.
 pub fn run_export<W: Write, K: Keeper>(
     alloc: Global,
     asked: Export<'_>,
@@ -49,7 +50,7 @@ pub fn run_export<W: Write, K: Keeper>(
     exported
 }
 
-/// Prints the text of the user's account, and closes it once that is written and flushed, where that is asked for.
+/// Prints the text of the user's account, and if asked to closes it after the text is written and flushed.
 fn export<S: Alter, W: Write>(
     alloc: Global,
     store: &mut Store<S>,
@@ -83,7 +84,7 @@ fn print_text<S: Alter, W: Write>(
     write_all(output, end.as_slice())
 }
 
-/// Reads each part, and puts its line.
+/// Reads each part, and writes its line.
 fn put_parts<S: Alter, W: Write>(
     alloc: Global,
     store: &mut Store<S>,
@@ -101,7 +102,7 @@ fn put_parts<S: Alter, W: Write>(
     Ok(())
 }
 
-/// Reads the part at a place, and puts its line.
+/// Reads the part at a place, and writes its line.
 fn put_part<S: Alter, W: Write>(
     alloc: Global,
     store: &mut Store<S>,
@@ -119,7 +120,7 @@ fn put_part<S: Alter, W: Write>(
     put_pieces(output, &line)
 }
 
-/// Puts a line, which isn't flushed yet.
+/// Writes a line, without flushing.
 fn put_pieces<W: Write>(output: &mut W, line: &Line<'_>) -> Result<(), Fault>
     ensures { IsPut result (W.contents output.old) (W.contents output.new) (text_in line.now) }
 {

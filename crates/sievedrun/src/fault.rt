@@ -1,4 +1,4 @@
-//! What goes wrong, as the program tells it.
+//! What goes wrong, as the program reports it.
 ghost use Rattle.std.specs.Prelude.{◌≡◌, ◌≢◌, false, IsTrue};
 ghost use Rattle.sievedrun.specs.Faults.{status_of, line_of, store_failed};
 ghost use Rattle.sievedrun.specs.declared.fault.Fault.TheVariants.{Refused};
@@ -16,14 +16,14 @@ use thiserror::Error;
 /// Why a run gives no answer.
 #[derive(Clone, Copy, Debug, PartialEq, Eq, Error)]
 pub enum Fault {
-    /// What a store or the engine refuses is refused: memory, a database that failed or whose file or lock's can't be used,
+    /// A refusal of a store or of the engine: memory, a database that failed or whose file or lock can't be used,
     /// and what a name, a message or a number is not.
     #[error(transparent)]
     Refused(Refusal),
     /// Another process has the lock.
     #[error("busy")]
     Busy,
-    /// A read or a write failed, the input has more pieces than are read, or the clock can't be read.
+    /// A read or a write failed, the input comes in more pieces than are read, or the clock can't be read.
     #[error("input or output failed")]
     Stream,
     /// No message of the folder has the number.
@@ -32,22 +32,22 @@ pub enum Fault {
     /// The path is no Maildir: `tmp` or `new` isn't there.
     #[error("no such Maildir")]
     NoMaildir,
-    /// No script of the user has the name.
+    /// The user has no script of the name.
     #[error("no such script")]
     NoScript,
-    /// A script isn't valid. Where a run ends so, the line that tells why is on the output, and nothing else is told.
+    /// A script isn't valid. If a run ends with this, the line that tells why is on the output, and nothing else is reported.
     #[error("not valid")]
     Invalid,
-    /// The input is no count, script and message, or the text of no account.
+    /// The input has no length, script and message, or is the text of no account.
     #[error("bad input")]
     BadInput,
-    /// A value that is no number or salt, or a word that is not UTF-8.
+    /// A value that is no number or salt, or an argument that is not UTF-8.
     #[error("bad argument")]
     BadArgument,
 }
 
 impl Fault {
-    /// The exit status that tells of it, a number of `sysexits.h`.
+    /// The exit status of the fault, a number of `sysexits.h`.
     pub fn status(self) -> u8
         ensures { result ≡ status_of self }
     {
@@ -61,7 +61,7 @@ impl Fault {
         }
     }
 
-    /// Whether it is that the store failed.
+    /// Whether the fault is that the store failed.
     pub fn is_store_failure(self) -> bool
         ensures failed { IsTrue result → self ≡ store_failed }
         ensures other { result ≡ false → self ≢ store_failed }
@@ -69,7 +69,7 @@ impl Fault {
         matches!(self, Fault::Refused(Refusal::Store))
     }
 
-    /// The line that tells of it on standard error.
+    /// The line on standard error that reports the fault.
     pub fn line(self) -> &'static [u8]
         ensures { result.now ≡ line_of self }
     {
@@ -87,7 +87,7 @@ impl Fault {
     }
 }
 
-/// The line that tells of a refusal.
+/// The line that reports a refusal.
 fn refusal_line(refusal: Refusal) -> &'static [u8]
     ensures { result.now ≡ line_of (Refused refusal) }
 {
@@ -177,7 +177,7 @@ impl From<ReadError> for Fault {
     }
 }
 
-/// Tells of a fault, and gives its exit status. Where that can't be written the status alone tells.
+/// Reports a fault, and returns its exit status. If the write fails, the status is all that reports it.
 pub fn refuse<E: Write>(errors: &mut E, fault: Fault) -> u8
     ensures status { result ≡ status_of fault }
     ensures line { IsWritten (E.contents errors.old) (E.contents errors.new) (line_of fault) }

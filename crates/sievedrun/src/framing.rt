@@ -1,4 +1,4 @@
-//! How the input is cut: a line with the length of the script in decimal, the script, and the message.
+//! Splits the input: a line with the length of the script in decimal, the script, and the message.
 ghost use Rattle.std.specs.Prelude.{◌≡◌, ℕ, List, MatchOption, IfSome, IfNone};
 ghost use Rattle.std.specs.List.{prefix_len};
 ghost use Rattle.octets.specs.Ascii.{is_digit};
@@ -6,20 +6,20 @@ ghost use Rattle.sievedrun.specs.Framing.{Counts, IsFramed};
 
 use octets::parse_decimal;
 
-/// A count of more digits than this isn't one.
+/// A length with more digits than this isn't one.
 const MAX_DIGITS: usize = 9;
 
-/// A script and the message that it is tried on, as they stand in the input.
+/// A script and the message that it is tried on, as they are in the input.
 #[derive(Clone, Copy)]
 pub struct Framed<'a> {
     /// The script.
     pub script: &'a [u8],
-    /// The message: all that follows the script.
+    /// The message: all after the script.
     pub message: &'a [u8],
 }
 
-/// The script and the message of an input: a line of one to nine digits with how many octets the script has,
-/// that many octets of script, and the message to the end. `None` where the input is no such thing. Takes no memory.
+/// Splits an input into script and message: a line of one to nine digits with the script's length in octets,
+/// the script of that length, and the message up to the end. `None` if the input isn't that. Takes no memory.
 pub fn split(input: &[u8]) -> Option<Framed<'_>>
     ensures found { IfSome result (λ f. IsFramed input.now f.script.now f.message.now) }
     ensures only { IfSome result (λ f. (script message : List ℕ) → IsFramed input.now script message →
@@ -52,7 +52,7 @@ fn split_count(input: &[u8]) -> Option<(u64, &[u8])>
     Some((number, rest))
 }
 
-/// How many digits stand at the front.
+/// How many digits the input begins with.
 fn digits_len(input: &[u8]) -> usize
     ensures { result ≡ prefix_len is_digit input.now }
 {

@@ -13,26 +13,26 @@ use mailfronts::{SizeCount, has_empty_line};
 use std::alloc::Global;
 use std::io::Read;
 
-/// What is kept of an input: all of it, or where it is long the front of it that has the script and the message's header, and the
+/// What is kept of an input: all of it, or if it is long the prefix that has the script and the message's header, and the
 /// message's size.
 #[derive(Drop)]
 pub struct Front {
-    /// What is kept, and while the input is read room behind it.
+    /// What is kept, and while the input is read also the free room after it.
     octets: Vec<u8>,
-    /// How much of that is kept.
+    /// How many octets of that are kept.
     kept: usize,
-    /// What is kept is looked at once it is so long.
+    /// What is kept is searched for the header once it has this many octets.
     due: usize,
-    /// The size of the message so far, once its header is there and what comes is passed over.
+    /// The size of the message so far, once its header is there and what comes is only counted.
     count: Option<SizeCount>,
 }
 
 impl Front {
     /// Reads to the end, in pieces.
     ///
-    /// What comes is kept until the message's header is there. That is looked for when a piece is full, and then each time that what
+    /// What comes is kept until the message's header is there. That is checked when a piece is full, and then each time that what
     /// is kept has doubled: so the time is linear, and the memory in proportion to script and header, and a constant. What comes
-    /// then is counted in a piece that is used again.
+    /// after that is counted in a piece that is used again.
     pub fn read<R: Read>(alloc: Global, input: &mut R) -> Result<Front, Fault>
         ensures ok { IfOk result (λ front. OfInput (R.remaining input.old) (λ came. KeepsFront came front.octets.items front.count)) }
         ensures reads { OnOk result (ReadsToEnd R.remaining input.old input.new) }
@@ -65,14 +65,14 @@ impl Front {
         self.octets.as_slice()
     }
 
-    /// The count of the message's size, where not all of it is kept.
+    /// The count of the message's size, unless all of the message is kept.
     pub fn count(&self) -> Option<SizeCount>
         ensures { result ≡ self.now.count }
     {
         self.count
     }
 
-    /// Nothing more comes: the room behind what is kept goes.
+    /// The input has ended: truncates the free room after what is kept.
     fn end(&mut self)
         ensures kept { self.new.octets.items ≡ take self.old.kept self.old.octets.items }
         ensures same { self.new.count ≡ self.old.count }
@@ -80,7 +80,7 @@ impl Front {
         self.octets.truncate(self.kept);
     }
 
-    /// So many octets more came, behind what is kept.
+    /// This many octets more came, right after what is kept.
     fn take(&mut self, more: usize)
         requires room { self.old.kept + more ≤ vec_len self.old.octets }
         requires piece { more ≤ PIECE }
@@ -104,7 +104,7 @@ impl Front {
         }
     }
 
-    /// Begins to pass over what comes, where it is time to look whether the message's header is there, and it is.
+    /// Begins to count instead of keep, if it is time to look for the message's header, and the header is there.
     fn look(&mut self)
         requires room { self.old.kept ≤ vec_len self.old.octets }
         requires small { 2 * self.old.kept ≤ 2 ^ 63 }
@@ -121,7 +121,7 @@ impl Front {
     }
 }
 
-/// The size of the message so far, in an input that has so much of a message that its header is there.
+/// The size of the message so far, if the input has enough of a message that its header is there.
 fn header_count(input: &[u8]) -> Option<SizeCount>
     ensures keeps { KeepsFront input.now input.now result }
     ensures within { IsWithin (2 * length input.now) (length input.now) result }

@@ -1,4 +1,4 @@
-//! The word that adds the account of a text.
+//! The subcommand that adds the account of a text.
 ghost use Rattle.std.specs.Prelude.{◌≡◌, ◌≢◌, ◌⊎◌, false, IsTrue, IfErr, IfOk, OnOk};
 ghost use Rattle.std.specs.Io.KnownBytes.{IsAtEnd};
 ghost use Rattle.mailengine.specs.declared.answer.Answer.TheVariants.{Imported};
@@ -18,10 +18,10 @@ use sievedwords::{Import, StoreLocation};
 use std::alloc::Global;
 use std::io::{Read, Write};
 
-/// `import`: the account whose text is the input is added.
+/// `import`: adds the account whose text is the input.
 ///
-/// Time is linear in the text. Memory is that of the text and of its parts, and, once the text is let go, of its parts and of what the
-/// transaction takes.
+/// Time is linear in the text. Memory is that of the text and of its parts, and, after the text was freed, of its parts and of what
+/// the transaction takes.
 pub fn run_import<R: Read, W: Write, K: Keeper>(
     alloc: Global,
     asked: Import<'_>,
@@ -53,7 +53,7 @@ fn read_file<R: Read>(alloc: Global, input: &mut R) -> Result<AccountFile, Fault
     Ok(accountfiles::read(alloc, octets.as_slice())?)
 }
 
-/// The account is added, in a store that is taken and handed back.
+/// Adds the account, in a store that is taken and handed back.
 fn add_file<K: Keeper>(
     alloc: Global,
     location: StoreLocation<'_>,

@@ -1,4 +1,4 @@
-//! Runs of the program: what each word of the command line does to the store, and what is printed.
+//! Runs of the program: what each subcommand does to the store, and what is printed.
 #![tactic(auto)]
 
 mod account_read;

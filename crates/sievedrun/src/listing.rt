@@ -1,4 +1,4 @@
-//! The words that list what is in a user's account.
+//! The subcommands that list what is in a user's account.
 ghost use Rattle.std.specs.Prelude.{◌≡◌, ◌++◌, ℕ, List, codes, decimal, map, false, IsTrue, IfOk, OnOk, option_copied};
 ghost use Rattle.mailstore.specs.Account.{Account};
 ghost use Rattle.mailstore.specs.Tally.{count_of};
@@ -19,12 +19,12 @@ use sievedwords::{Folders, StoreLocation};
 use std::alloc::{AllocError, Global};
 use std::io::Write;
 
-/// What is listed of a user's account, a line for each thing that is found.
+/// A listing of a user's account, a line for each thing that is found.
 pub trait Listing: AccountRead {
-    /// Which lines show which account.
+    /// The lines that show an account.
     ghost shows: { Self → Account → List ℕ → Type 0 };
 
-    /// The lines. The error: memory.
+    /// The lines. Lack of memory is the only error.
     fn lines(&self, alloc: Global, found: &Self::Found) -> Result<Octets, AllocError>
         ensures { IfOk result (λ text. (a : Account) → Self.finds self.now found.now a → shows self.now a text) };
 }
@@ -59,7 +59,7 @@ impl Listing for QueueOf<'_> {
     }
 }
 
-/// Each folder with the number of its messages.
+/// The line of each folder, with the number of its messages.
 fn folder_lines(alloc: Global, folders: &[Folder]) -> Result<Octets, AllocError>
     ensures { IfOk result (λ text. text ≡ folder_listing folder_line (map count_of folders.now)) }
 {
@@ -80,7 +80,7 @@ fn add_folder(text: &mut Octets, folder: &Folder) -> Result<(), AllocError>
     text.push(b'\n')
 }
 
-/// Each folder's directory in a Maildir, the number of its messages, and the folder.
+/// For each folder its directory in a Maildir, the number of its messages, and its name.
 fn directory_lines(
     alloc: Global,
     folders: &[Folder],
@@ -96,7 +96,7 @@ fn directory_lines(
     Ok(text)
 }
 
-/// Appends the line of a folder after its directory.
+/// Appends the line of a folder, which begins with its directory.
 fn add_directory(text: &mut Octets, directory: &[u8], folder: &Folder) -> Result<(), AllocError>
     ensures { OnOk result (text.new ≡ text.old ++ with_end (directory.now ++ (codes " " ++ (decimal folder.now.count ++ (codes " " ++ folder.now.name))))) }
 {
@@ -108,7 +108,7 @@ fn add_directory(text: &mut Octets, directory: &[u8], folder: &Folder) -> Result
     text.push(b'\n')
 }
 
-/// Prints what is listed.
+/// Prints the listing.
 pub fn run_listing<Q: Listing, W: Write, K: Keeper>(
     alloc: Global,
     location: StoreLocation<'_>,
@@ -126,8 +126,8 @@ pub fn run_listing<Q: Listing, W: Write, K: Keeper>(
     write_all(output, text.as_slice())
 }
 
-/// `folders`: the user's folders, each with its directory in a Maildir where that is asked for. A separator of levels is for
-/// these alone.
+/// `folders`: the user's folders, each with its directory in a Maildir if asked for. A separator of levels may be given only
+/// with these.
 pub fn run_folders<W: Write, K: Keeper>(
     alloc: Global,
     asked: Folders<'_>,

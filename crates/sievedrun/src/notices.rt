@@ -1,4 +1,4 @@
-//! The word on a user's notices, which may take them once they are printed.
+//! The subcommand on a user's notices, which may take them after they are printed.
 ghost use Rattle.std.specs.Prelude.{◌≡◌, ◌≢◌, false, IsTrue, IfOk, OnOk, option_copied};
 ghost use Rattle.sqlite.specs.Held.{state};
 ghost use Rattle.reportlines.specs.Listings.{notice_listing};
@@ -33,7 +33,7 @@ impl Listing for NoticesOf<'_> {
     }
 }
 
-/// `notices`: what went wrong in the user's deliveries. With a moment the notices up to it are printed, and taken after that.
+/// `notices`: what went wrong in the user's deliveries. With a moment the notices up to it are printed, and then taken.
 pub fn run_notices<W: Write, K: Keeper>(
     alloc: Global,
     asked: Notices<'_>,
@@ -57,7 +57,7 @@ pub fn run_notices<W: Write, K: Keeper>(
     }
 }
 
-/// `notices --until`: the notices are printed and taken in one holding of the store.
+/// `notices --until`: prints the notices and takes them, without giving the store back in between.
 fn run_taking<W: Write, K: Keeper>(
     alloc: Global,
     location: StoreLocation<'_>,
@@ -78,7 +78,7 @@ fn run_taking<W: Write, K: Keeper>(
     taken
 }
 
-/// Prints the notices up to the moment, and takes them once they are written and flushed.
+/// Prints the notices up to the moment, and takes them after they are written and flushed.
 fn print_and_take<S: Alter, W: Write>(
     alloc: Global,
     store: &mut Store<S>,

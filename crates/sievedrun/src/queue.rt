@@ -1,4 +1,4 @@
-//! The words on one message of a user's queue: its octets, and that it went out.
+//! The subcommands on a user's queue: the list, the octets of one message, and that one was sent.
 ghost use Rattle.std.specs.Prelude.{◌≡◌, ◌≢◌, false, IsTrue, OnOk, option_copied};
 ghost use Rattle.mailengine.specs.declared.answer.Answer.TheVariants.{Taken};
 ghost use Rattle.mailengine.specs.declared.event.Event.TheVariants.{TakeOut};
@@ -59,7 +59,7 @@ fn run_queued<W: Write, K: Keeper>(
     write_all(output, row.message.as_slice())
 }
 
-/// `done`: a message leaves the queue, since it went out.
+/// `done`: a message leaves the queue, since it was sent.
 pub fn run_done<W: Write, K: Keeper>(
     asked: Done<'_>,
     output: &mut W,
@@ -76,7 +76,7 @@ pub fn run_done<W: Write, K: Keeper>(
     write_number(output, b"taken ", id)
 }
 
-/// The message with the number leaves the queue, in a store that is taken and handed back.
+/// Takes the message with the number out of the queue, in a store that is taken and handed back.
 fn dequeue<K: Keeper>(
     location: StoreLocation<'_>,
     user: &[u8],

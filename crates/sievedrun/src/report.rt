@@ -1,4 +1,4 @@
-//! The report on a delivery, as it is printed: without memory, since the delivery was made.
+//! The report on a delivery, printed without taking memory, since the delivery was made already.
 ghost use Rattle.std.specs.Prelude.{◌≡◌, ◌≢◌, ◌++◌, [], false, map, IsTrue};
 ghost use Rattle.std.specs.List.{flat_map};
 ghost use Rattle.reportlines.specs.Reports.{delivery_lines, delivery_report, notice_lines, vacation_lines, with_end};
@@ -11,8 +11,8 @@ use mailstore::{Report, VacationReport};
 use octets::Octets;
 use std::io::Write;
 
-/// Prints the report on a delivery that was made: a line for each folder that the message joined, for each address that it goes
-/// on to, on a vacation reply and of a notice, in this order, or `discard` where there is none.
+/// Prints the report on a delivery: a line for each folder that the message joined, for each address that it is
+/// sent on to, for a vacation reply and for a notice, in this order, or `discard` if there is none of these.
 pub fn print_report<W: Write>(report: &Report, output: &mut W) -> Result<(), Fault>
     ensures { IsPrinted result (W.contents output.old) (W.contents output.new) (delivery_report report.now) }
 {
@@ -33,7 +33,7 @@ fn put_report<W: Write>(report: &Report, output: &mut W) -> Result<(), Fault>
     put_notice(output, &report.notice)
 }
 
-/// Whether a delivery did nothing that its report tells.
+/// Whether a delivery did nothing that its report shows.
 fn is_discarded(report: &Report) -> bool
     ensures yes { IsTrue result → delivery_lines report.now ≡ [] }
     ensures no { result ≡ false → delivery_lines report.now ≢ [] }

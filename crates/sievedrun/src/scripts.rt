@@ -1,4 +1,4 @@
-//! The words on a user's scripts: `scripts` and `put`.
+//! The subcommands on a user's scripts: `scripts` and `put`.
 ghost use Rattle.std.specs.Prelude.{◌≡◌, ◌≢◌, false, IsTrue, IfOk, OnOk, option_copied};
 ghost use Rattle.mailengine.specs.Hosts.{answer_of};
 ghost use Rattle.mailengine.specs.declared.upkeep.Upkeep.TheVariants as upkeep;
@@ -52,7 +52,7 @@ fn script_lines(alloc: Global, found: &ScriptNames) -> Result<Octets, AllocError
     Ok(text)
 }
 
-/// The name of the active script, if one is.
+/// The name of the active script, if there is one.
 fn active_in(found: &ScriptNames) -> Option<&[u8]>
     ensures { value_of result ≡ found.now.active }
 {
@@ -105,7 +105,7 @@ fn run_script<W: Write, K: Keeper>(
     write_all(output, text.as_slice())
 }
 
-/// `put`: a script, which is the input, is stored, and becomes the active one where that is said. Of one that isn't valid the line
+/// `put`: stores the script in the input, and makes it the active one if asked to. If it isn't valid, the line
 /// that tells why is written, and nothing is stored.
 pub fn run_put<R: Read, W: Write, K: Keeper>(
     alloc: Global,
@@ -136,7 +136,7 @@ pub fn run_put<R: Read, W: Write, K: Keeper>(
     tell_verdict(alloc, asked.script.as_bytes(), verdict, output)
 }
 
-/// The script is stored, in a store that is taken and handed back; or what is wrong with it.
+/// Stores the script, in a store that is taken and handed back; or returns what is wrong with it.
 fn store_script<K: Keeper>(
     alloc: Global,
     location: StoreLocation<'_>,
@@ -163,7 +163,7 @@ fn store_script<K: Keeper>(
     stored_by(kept)
 }
 
-/// What is wrong with the script, if something is: a refusal of the machine is the fault.
+/// What is wrong with the script, if anything; a refusal of the engine is the fault.
 fn stored_by(kept: Result<Answer, Refusal>) -> Result<Option<ScriptFault>, Fault>
     ensures { IsStoredBy (answer_of kept) result }
 {
@@ -175,7 +175,7 @@ fn stored_by(kept: Result<Answer, Refusal>) -> Result<Option<ScriptFault>, Fault
     }
 }
 
-/// Tells that the script was stored, or what is wrong with it, which is a fault then.
+/// Prints that the script was stored, or what is wrong with it, which is a fault then.
 fn tell_verdict<W: Write>(
     alloc: Global,
     name: &[u8],

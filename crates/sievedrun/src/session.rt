@@ -29,23 +29,23 @@ use std::alloc::{AllocError, Global};
 use std::io;
 use std::io::{Read, Write};
 
-/// At most this many octets are read at once.
+/// The largest number of octets that are read at once.
 const PIECE: usize = 4096;
 
-/// Answers of that many octets, or more, aren't held back for those of other commands.
+/// Once this many octets of answers wait, they are written, even if other commands are to be answered.
 const MAX_WAITING: usize = 65_536;
 
 /// Serves one client of ManageSieve (RFC 5804) over a reader and a writer: greets, and answers each command as soon as it
-/// is whole. For the commands that came together the lock of the store there is asked for once, and the store is opened
-/// once, for the first that asks it; both are given back before anything is written or waited for. Where the lock or the store
-/// can't be had, or the store refuses the step, the client is put off (`NO (TRYLATER)`), and the command is dropped.
+/// is whole. For the commands that came together the store's lock is asked for once, and the store is opened
+/// once, for the first command that needs it; both are given back before anything is written or waited for. If the lock or the store
+/// can't be taken, or the store refuses the step, the client is told to try later (`NO (TRYLATER)`), and the command is dropped.
 ///
 /// Answers to commands that came together are written together, in their order, up to 64 KiB. Ends with the client's `LOGOUT`, with a
 /// `BYE`, or with the input.
 ///
 /// # Errors
 ///
-/// `Memory` where memory is lacking for the greeting or a piece of at most 4,096 octets, and `Stream` where a read or a write
+/// `Memory` if there is none for the greeting or a piece of at most 4,096 octets, and `Stream` if a read or a write
 /// fails, or after 40,000,000 reads. The session has ended then; the store has what its steps wrote.
 pub fn serve_one<R: Read, W: Write, K: Keeper>(
     alloc: Global,
@@ -65,8 +65,8 @@ pub fn serve_one<R: Read, W: Write, K: Keeper>(
     serve_client(alloc, location, input, output, &mut errors, keeper)
 }
 
-/// Serves one client as `serve_one` does, with the same errors. The first trouble with the store is told on the errors: why it
-/// can't be had, refused a step or couldn't be closed. That another process has it is no trouble, and passes.
+/// Serves one client as `serve_one` does, with the same errors. The first trouble with the store is reported on the errors: why
+/// it can't be taken, refused a step or couldn't be closed. That another process has it is no trouble, and passes.
 pub fn serve_client<R: Read, W: Write, E: Write, K: Keeper>(
     alloc: Global,
     location: StoreLocation<'_>,
@@ -89,7 +89,7 @@ pub fn serve_client<R: Read, W: Write, E: Write, K: Keeper>(
     converse(alloc, &mut session, location, input, output, errors, keeper)
 }
 
-/// `session`: serves one client, and answers the exit status. What goes wrong is told on the errors.
+/// `session`: serves one client, and returns the exit status. What goes wrong is reported on the errors.
 pub fn run_session<R: Read, W: Write, E: Write, K: Keeper>(
     alloc: Global,
     location: StoreLocation<'_>,
@@ -111,7 +111,7 @@ pub fn run_session<R: Read, W: Write, E: Write, K: Keeper>(
     }
 }
 
-/// Serves a client that was greeted, piece by piece.
+/// Serves a client after the greeting, piece by piece.
 fn converse<R: Read, W: Write, E: Write, K: Keeper>(
     alloc: Global,
     session: &mut Session,
@@ -181,8 +181,8 @@ fn answer_all<W: Write, K: Keeper>(
     Err(Fault::Stream)
 }
 
-/// Answers what stands ready, and writes the answers once the lock and the store are given back. One that can't be answered now is
-/// given up, and that is written after them.
+/// Answers the items that are ready, and writes the answers after the lock and the store are given back. An item that can't be
+/// answered now is given up, and that is written after them.
 fn answer_some<W: Write, K: Keeper>(
     alloc: Global,
     session: &mut Session,
@@ -210,8 +210,8 @@ fn answer_some<W: Write, K: Keeper>(
     write_all(output, session.give_up())
 }
 
-/// Answers what stands ready, up to the first that can't be answered now, and says whether there was none. The lock is asked for
-/// first, and both it and the store are given back. Trouble is noted.
+/// Answers the items that are ready, up to the first that can't be answered now, and returns whether there was none. The lock is
+/// asked for first, and both it and the store are given back. Trouble is noted.
 fn answer_under_lock<K: Keeper>(
     session: &mut Session,
     location: StoreLocation<'_>,
@@ -254,8 +254,8 @@ fn answer_under_lock<K: Keeper>(
     }
 }
 
-/// Gives back what is out: a store with the lock, or the lock alone. Why the store couldn't be closed, if it couldn't: what was made of
-/// it stays.
+/// Gives back what is out: a store with the lock, or the lock alone. Returns why the store couldn't be closed, if it couldn't:
+/// what was written in it stays.
 fn give_back<K: Keeper>(store: Option<Store<K::S>>, keeper: &mut K) -> Option<Refusal>
     ensures held { IsTrue K.tells → K.holds keeper.new ≡ database_seen (λ s. (state K.S.Store s).now) (K.holds keeper.old) store }
     ensures told { IfSome store (λ given. K.closes keeper.old given result) }
@@ -274,8 +274,8 @@ fn give_back<K: Keeper>(store: Option<Store<K::S>>, keeper: &mut K) -> Option<Re
     }
 }
 
-/// Answers what stands ready, each by a step whose answer joins those that wait, until nothing is ready or much waits. Why the first one
-/// that couldn't be answered wasn't. The lock is held; the store is opened for the first one that asks for it, and stays open.
+/// Answers the items that are ready, each by a step whose answer joins those that wait, until nothing is ready or much waits.
+/// Returns why the first item that couldn't be answered wasn't. The lock is held; the store is opened for the first that needs it, and stays open.
 fn answer_ready<K: Keeper>(
     session: &mut Session,
     location: StoreLocation<'_>,
@@ -304,7 +304,7 @@ fn answer_ready<K: Keeper>(
     Ok(())
 }
 
-/// Answers what comes first by a step, over the store where its command asks for one. After a refusal nothing has changed, but that
+/// Answers the first item by a step, over the store if its command needs it. After a refusal nothing has changed, except that
 /// the store may be open.
 fn answer_first<K: Keeper>(
     session: &mut Session,
@@ -334,7 +334,7 @@ fn answer_first<K: Keeper>(
     }
 }
 
-/// Answers what comes first and asks the store, which is opened where none is.
+/// Answers the first item, which needs the store; the store is opened if it isn't.
 fn answer_over_store<K: Keeper>(
     session: &mut Session,
     location: StoreLocation<'_>,
@@ -365,7 +365,7 @@ fn answer_over_store<K: Keeper>(
     }
 }
 
-/// The store, out of its place; where none is there it is opened under the lock that is held.
+/// Takes the store out of its place; if there is none, it is opened under the lock that is held.
 fn open_store<K: Keeper>(
     location: StoreLocation<'_>,
     store: &mut Option<Store<K::S>>,
@@ -389,7 +389,7 @@ fn open_store<K: Keeper>(
     }
 }
 
-/// Notes why no store is given out, but for one that another process has.
+/// Notes why no store is given out, unless another process has it.
 fn note_denial<K: Keeper>(trouble: &mut FirstTrouble, denial: Unavailable, keeper: &K)
     ensures busy { denial ≡ Busy → trouble.new ≡ trouble.old }
     ensures noted { denial ≢ Busy → IsTrue (is_some trouble.new.trouble) }
@@ -401,7 +401,7 @@ fn note_denial<K: Keeper>(trouble: &mut FirstTrouble, denial: Unavailable, keepe
     }
 }
 
-/// Notes what a store refused, if anything.
+/// Notes the refusal of a store, if there is one.
 fn note_refusal<K: Keeper>(trouble: &mut FirstTrouble, refusal: Option<Refusal>, keeper: &K)
     ensures none { refusal ≡ None → trouble.new ≡ trouble.old }
     ensures noted { IfSome refusal (λ refusal. IsTrue (is_some trouble.new.trouble)) }

@@ -1,4 +1,4 @@
-//! Reading all of an input, and writing a text, with what is left where that fails.
+//! Reads an input to its end and writes texts, and how far a write came if it fails.
 ghost use Rattle.std.specs.Prelude.{◌≡◌, ◌≢◌, ◌+◌, ◌<◌, ◌≤◌, ◌++◌, [], Some, None, take, drop, decimal, length, vec_len, unwrap_or, IfOk, IfErr, IfSome, OnOk, OnErr};
 ghost use Rattle.std.specs.Io.KnownBytes.{Appends, Consumes, IsAtEnd, Keeps};
 ghost use Rattle.std.specs.IoError.{error_kind};
@@ -15,10 +15,10 @@ use std::io::{ErrorKind, Read, Write};
 /// An input that needs more reads than this is given up, and so is a session.
 pub(crate) const MAX_READS: u32 = 40_000_000;
 
-/// So much room is made for a read, in octets, once the last one is full.
+/// How much room is made for a read, in octets, once the last one is full.
 pub(crate) const PIECE: usize = 262_144;
 
-/// Reads to the end, in place and in large pieces, and copies nothing but where the vector grows.
+/// Reads to the end, in place and in large pieces, and copies nothing except when the vector grows.
 pub fn read_all<R: Read>(alloc: Global, input: &mut R) -> Result<Vec<u8>, Fault>
     ensures ok { IfOk result (λ octets. ReadsAll (R.remaining input.old) octets.items) }
     ensures end { OnOk result (IsAtEnd (R.remaining input.new)) }
@@ -54,7 +54,7 @@ pub(crate) fn make_room(octets: &mut Vec<u8>, filled: usize) -> Result<(), Alloc
     octets.resize(filled + PIECE, 0)
 }
 
-/// One read into the room from `at` on: how many octets came, none of them where a signal came first,
+/// One read into the room from `at` on: how many octets came, 0 if a signal came first,
 /// or `None` at the end of the input.
 pub fn read_at<R: Read>(input: &mut R, room: &mut [u8], at: usize) -> Result<Option<usize>, Fault>
     requires { at < length room.old }
@@ -79,7 +79,7 @@ pub fn read_at<R: Read>(input: &mut R, room: &mut [u8], at: usize) -> Result<Opt
     }
 }
 
-/// Refuses each failure but that a signal came before the call, which is then made again.
+/// Refuses every failure except a signal before the call, which is made again then.
 fn allow_retry(error: &io::Error) -> Result<(), Fault>
     ensures retried { OnOk result (error_kind error.now ≡ ErrorKind.Interrupted) }
     ensures refused { OnErr result (error_kind error.now ≢ ErrorKind.Interrupted) }
@@ -91,7 +91,7 @@ fn allow_retry(error: &io::Error) -> Result<(), Fault>
     }
 }
 
-/// Writes the whole text, and flushes. Where that fails, a front of it is written.
+/// Writes the whole text, and flushes. If that fails, a prefix of it is written.
 pub fn write_all<W: Write>(output: &mut W, text: &[u8]) -> Result<(), Fault>
     ensures { IsPrinted result (W.contents output.old) (W.contents output.new) text.now }
 {
@@ -99,7 +99,7 @@ pub fn write_all<W: Write>(output: &mut W, text: &[u8]) -> Result<(), Fault>
     flush(output)
 }
 
-/// Writes a word and what it is said of, as a line, and flushes. Takes no memory.
+/// Writes a word and its object as a line, and flushes. Takes no memory.
 pub fn write_line<W: Write>(output: &mut W, word: &[u8], what: &[u8]) -> Result<(), Fault>
     ensures { IsPrinted result (W.contents output.old) (W.contents output.new) (with_end (word.now ++ what.now)) }
 {
@@ -107,7 +107,7 @@ pub fn write_line<W: Write>(output: &mut W, word: &[u8], what: &[u8]) -> Result<
     flush(output)
 }
 
-/// Writes a word and a number in decimal, as a line, and flushes. Takes no memory.
+/// Writes a word and a number in decimal as a line, and flushes. Takes no memory.
 pub fn write_number<W: Write>(output: &mut W, word: &[u8], number: u64) -> Result<(), Fault>
     ensures { IsPrinted result (W.contents output.old) (W.contents output.new) (with_end (word.now ++ decimal number)) }
 {
@@ -115,7 +115,7 @@ pub fn write_number<W: Write>(output: &mut W, word: &[u8], number: u64) -> Resul
     write_line(output, word, buffer.format(number).as_bytes())
 }
 
-/// Writes a word and what it is said of, as a line, which isn't flushed yet. Takes no memory.
+/// Writes a word and its object as a line, without flushing. Takes no memory.
 pub fn put_line<W: Write>(output: &mut W, word: &[u8], what: &[u8]) -> Result<(), Fault>
     ensures { IsPut result (W.contents output.old) (W.contents output.new) (with_end (word.now ++ what.now)) }
 {
@@ -124,7 +124,7 @@ pub fn put_line<W: Write>(output: &mut W, word: &[u8], what: &[u8]) -> Result<()
     put(output, b"\n")
 }
 
-/// Writes the whole text, which isn't flushed yet.
+/// Writes the whole text, without flushing.
 pub fn put<W: Write>(output: &mut W, text: &[u8]) -> Result<(), Fault>
     ensures { IsPut result (W.contents output.old) (W.contents output.new) text.now }
 {
@@ -139,7 +139,7 @@ pub fn put<W: Write>(output: &mut W, text: &[u8]) -> Result<(), Fault>
     Err(Fault::Stream)
 }
 
-/// One write: how many octets of the text are written, none of them where a signal came first.
+/// One write: how many octets of the text are written, 0 if a signal came first.
 fn write_some<W: Write>(output: &mut W, text: &[u8]) -> Result<usize, Fault>
     requires { text.now ≢ [] }
     ensures bound { IfOk result (λ n. n ≤ length text.now) }

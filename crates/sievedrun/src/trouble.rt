@@ -1,4 +1,4 @@
-//! What goes wrong with a store, or on the way to one, as it is told on standard error.
+//! Trouble with a store, or in taking one, as it is reported on standard error.
 ghost use Rattle.std.specs.Prelude.{◌≡◌, ◌≢◌, ◌++◌, false, Some, None, IsTrue, IfSome, option_copied};
 ghost use Rattle.sievedrun.specs.Faults.{cause_line, line_of, store_failed};
 ghost use Rattle.sievedrun.specs.Streams.{IsWritten};
@@ -9,7 +9,7 @@ use keepers::Keeper;
 use mailstore::Refusal;
 use std::io::Write;
 
-/// A fault, and what is known of its cause.
+/// A fault, and its cause as far as it is known.
 #[derive(Clone, Copy)]
 pub struct Trouble {
     pub fault: Fault,
@@ -31,7 +31,7 @@ impl Trouble {
         Trouble { fault, cause }
     }
 
-    /// Tells of it, on a line, and of its cause, where that is known, on a second one. Where a write fails nothing more is told.
+    /// Reports it on a line, and its cause, if known, on a second one. If a write fails, nothing more is written.
     pub fn tell<E: Write>(self, errors: &mut E)
         ensures { IsWritten (E.contents errors.old) (E.contents errors.new) (line_of self.fault ++ cause_line (option_copied self.cause)) }
     {
@@ -50,7 +50,7 @@ fn tell_cause<E: Write>(errors: &mut E, cause: Option<&'static str>)
     }
 }
 
-/// The first trouble that a connection has with the store, which is told once; those after it aren't.
+/// The first trouble that a connection has with the store, which is reported once; later ones aren't.
 #[derive(Clone, Copy)]
 pub struct FirstTrouble {
     trouble: Option<Trouble>,
@@ -69,7 +69,7 @@ impl FirstTrouble {
         }
     }
 
-    /// Keeps a trouble, where it is the first one.
+    /// Keeps a trouble if it is the first one.
     pub fn note(&mut self, trouble: Trouble)
         ensures first { self.old.trouble ≡ None → self.new.trouble ≡ Some trouble }
         ensures later { IfSome self.old.trouble (λ first. self.new.trouble ≡ Some first) }
@@ -80,7 +80,7 @@ impl FirstTrouble {
         }
     }
 
-    /// Tells of it, where there is one that wasn't told yet.
+    /// Reports it, if there is one that wasn't reported yet.
     pub fn tell<E: Write>(&mut self, errors: &mut E)
         ensures once { IsTrue self.old.is_told → E.contents errors.new ≡ E.contents errors.old }
         ensures none { self.old.trouble ≡ None → E.contents errors.new ≡ E.contents errors.old }

@@ -1,4 +1,4 @@
-//! One script tried on one message.
+//! Tries one script on one message.
 ghost use Rattle.std.specs.Prelude.{◌≡◌, IfErr, IfOk, OnOk};
 ghost use Rattle.sievedrun.specs.Streams.{ReadsToEnd};
 ghost use Rattle.sievedrun.specs.TryScript.{Answers, HasNoAnswer, LeavesOutput, OfInput, Runs};
@@ -13,9 +13,9 @@ use std::alloc::Global;
 use std::io::{Read, Write};
 
 /// Reads a script and a message from the input, and prints on the output what the script does with the message under
-/// the envelope, delivered then. What goes wrong is told on the errors. The answer is the exit status.
+/// the envelope, if it is delivered then. What goes wrong is reported on the errors. Returns the exit status.
 ///
-/// Of a large message the body is counted and not kept. Reads at most 40,000,000 times.
+/// The body of a large message is counted and not kept. Reads at most 40,000,000 times.
 pub fn try_run<R: Read, W: Write, E: Write>(
     alloc: Global,
     envelope: Envelope,
@@ -50,7 +50,7 @@ fn print_answer<R: Read, W: Write>(
     Ok(answer)
 }
 
-/// What is said of an input.
+/// The answer to an input.
 fn answer_of<R: Read>(
     alloc: Global,
     envelope: Envelope,

@@ -1,4 +1,4 @@
-//! The words with which an administrator keeps an account up: each is one event of the machine.
+//! The subcommands with which an administrator maintains an account: each is one event of the engine.
 ghost use Rattle.std.specs.Prelude.{◌≡◌, ◌≢◌, false, IsTrue, OnOk, option_copied};
 ghost use Rattle.mailengine.specs.Hosts.{answer_of};
 ghost use Rattle.mailengine.specs.declared.event.Event.TheVariants.{Keep};
@@ -22,7 +22,7 @@ use sievedwords::{Open, Passwd, Remove, SetAddress, StoreLocation};
 use std::alloc::Global;
 use std::io::{Read, Write};
 
-/// `passwd`: another password, which is the first line of the input. `random` is the salt where the words have none.
+/// `passwd`: another password, which is the first line of the input. `random` is the salt if the arguments have none.
 pub fn run_passwd<R: Read, W: Write, K: Keeper>(
     alloc: Global,
     asked: Passwd<'_>,
@@ -79,7 +79,7 @@ pub fn run_address<W: Write, K: Keeper>(
     write_line(output, b"changed ", asked.user.as_bytes())
 }
 
-/// `open`: an account that is closed is opened as it was.
+/// `open`: opens a closed account as it was.
 pub fn run_open<W: Write, K: Keeper>(
     alloc: Global,
     asked: Open<'_>,
@@ -97,7 +97,7 @@ pub fn run_open<W: Write, K: Keeper>(
     write_line(output, b"opened ", user)
 }
 
-/// `remove`: an account goes, its mail only where that is said.
+/// `remove`: removes an account, its mail only if asked to.
 pub fn run_remove<W: Write, K: Keeper>(
     alloc: Global,
     asked: Remove<'_>,
@@ -116,7 +116,7 @@ pub fn run_remove<W: Write, K: Keeper>(
     write_line(output, b"removed ", user)
 }
 
-/// The account is kept up, in a store that is taken and handed back. What was asked for was done after Ok.
+/// Maintains the account, in a store that is taken and handed back. `Ok` says that it was done.
 fn keep_up<K: Keeper>(
     alloc: Global,
     location: StoreLocation<'_>,
@@ -137,7 +137,7 @@ fn keep_up<K: Keeper>(
     done_by(kept)
 }
 
-/// Whether it was done: a refusal of the machine is the fault.
+/// Whether it was done: a refusal of the engine is the fault.
 pub fn done_by(kept: Result<Answer, Refusal>) -> Result<(), Fault>
     ensures { IsDoneBy (answer_of kept) result }
 {

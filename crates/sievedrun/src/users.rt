@@ -1,4 +1,4 @@
-//! The word on all users: who has an account, and which script is active.
+//! The subcommand on all users: who has an account, and which script is active.
 ghost use Rattle.std.specs.Prelude.{◌≡◌, ◌≢◌, ◌++◌, false, IsTrue, IfErr, OnOk};
 ghost use Rattle.std.specs.FinMap.{entries};
 ghost use Rattle.sqlite.specs.Held.{state};
@@ -39,7 +39,7 @@ pub fn run_users<W: Write, K: Keeper>(
     write_all(output, text.as_slice())
 }
 
-/// The lines, of a store that is taken and handed back.
+/// The lines, read from a store that is taken and handed back.
 fn list_users<K: Keeper>(
     alloc: Global,
     location: StoreLocation<'_>,
@@ -75,7 +75,7 @@ fn user_lines<S: Alter>(alloc: Global, store: &mut Store<S>) -> Result<Octets, R
     Err(Refusal::Store)
 }
 
-/// Appends the line of the user with this name, where there is an account, and gives the name of the next user.
+/// Appends the line of the user with this name, if there is an account, and returns the name of the next user.
 fn add_user<S: Alter>(
     store: &mut Store<S>,
     name: &[u8],
@@ -89,7 +89,7 @@ fn add_user<S: Alter>(
     store.next_user(name)
 }
 
-/// Appends the line of the account that was found, where there is one.
+/// Appends the line of the account that was found, if there is one.
 fn add_found(name: &[u8], found: &Option<Profile>, text: &mut Octets) -> Result<(), AllocError>
     ensures { OnOk result (text.new ≡ text.old ++ found_line name.now found.now) }
 {
@@ -99,7 +99,7 @@ fn add_found(name: &[u8], found: &Option<Profile>, text: &mut Octets) -> Result<
     }
 }
 
-/// Appends the line of an account, which a removed one doesn't have.
+/// Appends the line of an account; a removed one has none.
 fn add_line(name: &[u8], profile: &Profile, text: &mut Octets) -> Result<(), AllocError>
     ensures { OnOk result (text.new ≡ text.old ++ profile_line name.now profile.now) }
 {

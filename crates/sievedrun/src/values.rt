@@ -1,4 +1,4 @@
-//! Values that stand in the words, and the first line of an input.
+//! Values in the arguments, and the first line of an input.
 ghost use Rattle.std.specs.Prelude.{◌≡◌, ◌⊎◌, ◌≤◌, None, IfOk, IfErr, OnOk, option_copied};
 ghost use Rattle.std.specs.List.{prefix_len};
 ghost use Rattle.octets.specs.Decimal.{Writes};
@@ -15,10 +15,10 @@ use octets::{Octets, parse_decimal};
 use sieveexec::When;
 use std::alloc::{AllocError, Global};
 
-/// The last moment that the database can have.
+/// The last moment that the database can hold.
 const MAX_UNTIL: u64 = 9_223_372_036_854_775_807;
 
-/// The greatest size that may be said, in MiB: 64 GiB.
+/// The largest size that may be given, in MiB: 64 GiB.
 const MAX_MEBIBYTES: u64 = 65_536;
 
 /// A number in decimal digits, without a sign.
@@ -72,7 +72,7 @@ pub fn until_of(text: &str) -> Result<u64, Fault>
     Ok(until)
 }
 
-/// What separates the levels of folders: `.` where it isn't said.
+/// The separator of the levels of folders: `.` unless it is given.
 pub fn separator_of(text: Option<&str>) -> Result<Separator, Fault>
     ensures ok { IfOk result (IsSeparator (option_copied text.entry)) }
     ensures fault { IfErr result (λ fault. fault ≡ Fault.BadArgument) }
@@ -98,7 +98,7 @@ pub fn salt_of(text: &str) -> Result<[u8; 16], Fault>
     }
 }
 
-/// The salt that the words have, or else the system's random octets.
+/// The salt in the arguments, or else the system's random octets.
 pub fn given_salt(digits: Option<&str>, random: Option<[u8; 16]>) -> Result<[u8; 16], Fault>
     ensures ok { IfOk result (IsSalt (option_copied digits.entry) random) }
     ensures right { OnOk result (HasNoSalt (option_copied digits.entry) → ⊥) }
@@ -111,7 +111,7 @@ pub fn given_salt(digits: Option<&str>, random: Option<[u8; 16]>) -> Result<[u8;
     }
 }
 
-/// The moment that the words have, or else the clock's, in seconds since 1970.
+/// The moment in the arguments, or else the clock's, in seconds since 1970.
 fn moment_of(at: Option<&str>, clock: Option<u64>) -> Result<u64, Fault>
     ensures ok { IfOk result (IsMoment (option_copied at.entry) clock) }
     ensures right { OnOk result (HasNoNumber (option_copied at.entry) → ⊥) }
@@ -124,7 +124,7 @@ fn moment_of(at: Option<&str>, clock: Option<u64>) -> Result<u64, Fault>
     }
 }
 
-/// The host's zone that the words have; UTC where they have none.
+/// The host's zone in the arguments; UTC if they have none.
 pub fn zone_of(text: Option<&str>) -> Result<HostZone, Fault>
     ensures ok { IfOk result (IsHostZone (option_copied text.entry)) }
     ensures right { OnOk result (HasNoZone (option_copied text.entry) → ⊥) }
@@ -137,7 +137,7 @@ pub fn zone_of(text: Option<&str>) -> Result<HostZone, Fault>
     }
 }
 
-/// The moment that the words have, or else the clock's, in seconds since 1970, and the host's zone at it.
+/// The moment in the arguments, or else the clock's, in seconds since 1970, and the host's zone at that moment.
 pub fn when_of(at: Option<&str>, zone: Option<&str>, clock: Option<u64>) -> Result<When, Fault>
     ensures ok { IfOk result (IsWhen (option_copied at.entry) (option_copied zone.entry) clock) }
     ensures right { OnOk result (HasNoWhen (option_copied at.entry) (option_copied zone.entry) → ⊥) }
@@ -162,7 +162,7 @@ pub fn envelope_of(alloc: Global, from: &[u8], to: &[u8]) -> Result<Envelope, Al
     })
 }
 
-/// The octets before the first LF, or all where there is none.
+/// The octets before the first LF, or all if there is none.
 pub fn first_line(text: &[u8]) -> &[u8]
     ensures { result.now ≡ promise.first_line text.now }
 {

@@ -1,4 +1,4 @@
--- What words ask for, by what `clap` found in them.
+-- What arguments ask for, from what `clap` found in them.
 use Rattle.std.specs.Prelude.{◌≡◌, ◌⊎◌, ℕ, Bool, true, false, List, [], codes, Option, Some, None, option_copied, option_map, unwrap_or, Result, Ok, Err}
 use Rattle.clap.specs.Words.{first_value, found_of, matched_of, one_text, raw_values, rows_of, subcommand_name_of, subcommand_rows_of}
 use Rattle.clap.specs.declared.error.Error.{Error}
@@ -43,7 +43,7 @@ use Rattle.sievedwords.specs.declared.subcommand.users.Users.{Users}
 abbrev pub value_in : ArgMatches → List ℕ → Option (List ℕ)
 value_in m id = first_value (found_of m) id
 
--- the value of an argument, or the empty one where it was left out
+-- the value of an argument, or the empty text if it was left out
 abbrev pub text_in : ArgMatches → List ℕ → List ℕ
 text_in m id = unwrap_or (value_in m id) []
 
@@ -53,8 +53,8 @@ pub record IsFlag (m : ArgMatches) (id : List ℕ) (flag : Bool) : Type 0 where
   pub set : one_text (found_of m) id ≡ Some (codes "true") → flag ≡ true
   pub unset : one_text (found_of m) id ≡ Some (codes "false") → flag ≡ false
 
--- in the command line these are the octets of the address with this value: its own, or those that it stands in for. The definition is shut, and only
--- `CommandLine::address` says it
+-- in the command line these are the octets of the address with this value: its own, or those that it stands in for. The definition is opaque,
+-- and only `CommandLine::address` says it
 pub IsAddress : CommandLine → List ℕ → List ℕ → Type 0
 IsAddress line value octets = Unit {0}
 
@@ -230,7 +230,7 @@ AsksFor line m w s = ⊥
 
 -- ---- the command line
 
--- `clap` answered so to the texts of these words. The definition is shut, and only the one function that asks `clap` says it
+-- `clap` answered this to the texts of these arguments. The definition is opaque, and only the one function that asks `clap` says it
 pub WasMatched : CommandLine → Result ArgMatches Error → Type 0
 WasMatched line answer = Unit {0}
 
@@ -239,7 +239,7 @@ pub was_matched : (line : CommandLine) (answer : Result ArgMatches Error) → Wa
 unfolding WasMatched
 was_matched line answer = tt
 
--- a word isn't UTF-8, and isn't an address. The definition is shut, and only the two functions that look for such a word say it
+-- an argument isn't UTF-8, and isn't an address. The definition is opaque, and only the two functions that look for such an argument say it
 pub HasNoText : CommandLine → Type 0
 HasNoText line = Unit {0}
 
@@ -258,21 +258,21 @@ abbrev pub AsksForNothing : Subcommand → Type 0
 AsksForNothing (asked.Try a) = (a.from.now ≡ []) × (a.to.now ≡ []) × (option_copied a.at ≡ None) × (option_copied a.zone ≡ None)
 AsksForNothing s = ⊥
 
--- the words that `clap` matched so ask for a subcommand; without one it is `try` with an empty envelope
+-- the arguments that `clap` matched like this ask for a subcommand; without one it is `try` with an empty envelope
 abbrev pub AsksIn : CommandLine → ArgMatches → Subcommand → Type 0
 AsksIn line m s =
     ((subcommand_name_of m ≡ None) × AsksForNothing s)
     ⊎ ((w : Word) × (given : ArgMatches) × Enters m (name_of w) given × AsksFor line given w s)
 
--- the values of an argument that may have many, in their order; none where it was left out
+-- the values of an argument that may have many, in their order; none if it was left out
 abbrev pub texts_in : ArgMatches → List ℕ → List (List ℕ)
 texts_in m id = unwrap_or (option_map raw_values (matched_of (found_of m) id)) []
 
--- `clap` found `check` in these words, and these are the files that were given to it, in their order
+-- `clap` found `check` in these arguments, and these are the files that were given to it, in their order
 abbrev pub NamesFiles : CommandLine → List (List ℕ) → Type 0
 NamesFiles line files = (m : ArgMatches) × (given : ArgMatches) × WasMatched line (Ok m) × Enters m (codes "check") given × (files ≡ texts_in given (codes "file"))
 
--- what these words ask for; or why they ask for nothing: `clap` refused them, or has a text to show; a word isn't UTF-8
+-- what these arguments ask for; or why they ask for nothing: `clap` refused them, or has a text to show; an argument isn't UTF-8
 abbrev pub WasRead : CommandLine → Result Subcommand ReadError → Type 0
 WasRead line (Ok s) = (m : ArgMatches) × WasMatched line (Ok m) × AsksIn line m s
 WasRead line (Err (Said error)) = WasMatched line (Err error)

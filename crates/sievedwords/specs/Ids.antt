@@ -1,4 +1,4 @@
--- The names of subcommands, and of what may be given to them.
+-- The names of subcommands, and of their arguments.
 use Rattle.std.specs.Prelude.{ℕ, List, codes}
 use Rattle.sievedwords.specs.declared.argument.Argument.{Argument}
 use Rattle.sievedwords.specs.declared.argument.Argument.TheVariants as argument
@@ -32,7 +32,7 @@ name_of word.Session = codes "session"
 name_of word.Daemon = codes "daemon"
 name_of word.Check = codes "check"
 
--- no subcommand is named so. The definition is shut, and only the one function that looks at all of them says it
+-- no subcommand has this name. The definition is opaque, and only the one function that looks at all of them says it
 pub IsNoWord : List ℕ → Type 0
 IsNoWord name = Unit {0}
 
@@ -41,7 +41,7 @@ pub is_no_word : (name : List ℕ) → IsNoWord name
 unfolding IsNoWord
 is_no_word name = tt
 
--- what an argument is known by: an option's name, or an operand's
+-- the name of an argument: an option's name, or an operand's
 abbrev pub id_of : Argument → List ℕ
 id_of argument.Db = codes "db"
 id_of argument.Wait = codes "wait"

@@ -1,11 +1,11 @@
-//! What may be given to a subcommand.
+//! The arguments of subcommands.
 ghost use Rattle.std.specs.Prelude.{◌≡◌};
 ghost use Rattle.sievedwords.specs.Ids.{id_of};
 
 use clap::{Arg, ArgAction};
 use std::alloc::Global;
 
-/// An argument of a subcommand. What one subcommand has to have and another may have is two of these.
+/// An argument of a subcommand. One that a subcommand requires and another one may have is two of these.
 #[derive(Clone, Copy)]
 pub enum Argument {
     Db,
@@ -58,14 +58,14 @@ enum Form {
     Flag,
     /// `--name` and a value, which may begin with a hyphen.
     Option,
-    /// A value that stands by its place.
+    /// A value without a name, known by its position.
     Operand,
-    /// Values that stand by their places, as many as there are.
+    /// Values without names, as many as are given.
     Operands,
 }
 
 impl Argument {
-    /// The argument as `clap` reads it.
+    /// The argument for `clap`.
     pub fn arg(self, alloc: Global) -> Arg<'static> {
         let arg = Arg::new(alloc, self.name())
             .required(self.is_required())
@@ -130,7 +130,7 @@ impl Argument {
         }
     }
 
-    /// What it is known by.
+    /// The argument's name.
     pub fn name(self) -> &'static str
         ensures { result.now ≡ id_of self }
     {
@@ -173,7 +173,7 @@ impl Argument {
         }
     }
 
-    /// What the help calls its value.
+    /// The placeholder of its value in the help.
     fn value_name(self) -> &'static str {
         match self {
             Argument::Wait

@@ -1,4 +1,4 @@
-//! The words of a command line: the octets that the system hands over, and the texts that `clap` reads.
+//! The arguments of a command line: the octets that the system hands over, and the texts that `clap` reads.
 ghost use Rattle.std.specs.Prelude.{IsTrue};
 ghost use Rattle.sievedwords.specs.Asks.{HasNoText, IsAddress};
 
@@ -6,15 +6,15 @@ use octets::Octets;
 use std::alloc::{AllocError, Global};
 use std::str;
 
-/// What stands before the address in a word that has an option and its value.
+/// The options that may come before an address, in the same argument.
 const ADDRESS_OPTIONS: [&str; 2] = ["--from=", "--to="];
 
-/// The words after the program's name.
+/// The arguments after the program's name.
 ///
-/// An address may be any octets, and `clap` reads texts. So a word that isn't UTF-8 has a stand-in there, in which `--from=` and
-/// `--to=` stay. Each stand-in is longer than any word, and than those before it: no other value is like it, and where
-/// `clap` finds that it is an address, the octets of its word are. Memory is that of the words, and of the longest one for
-/// each stand-in.
+/// An address may be any octets, while `clap` reads texts. So an argument that isn't UTF-8 has a stand-in there, in which `--from=`
+/// and `--to=` stay. Each stand-in is longer than any argument, and than the stand-ins before it: no other value equals it, and if
+/// `clap` finds it as an address, the octets of its argument are the address. Memory is that of the arguments, and of the longest
+/// one for each stand-in.
 #[derive(Drop)]
 pub struct CommandLine {
     octets: Vec<Octets>,
@@ -22,7 +22,7 @@ pub struct CommandLine {
 }
 
 impl CommandLine {
-    /// The words in their order. The error: memory.
+    /// From the arguments in their order. Lack of memory is the only error.
     pub fn new(alloc: Global, words: Vec<Octets>) -> Result<CommandLine, AllocError> {
         let longest = words.iter().map(|word| word.len()).max().unwrap_or(0);
         let mut texts = Vec::new(alloc);
@@ -36,17 +36,17 @@ impl CommandLine {
         })
     }
 
-    /// What the first word is, where it is a text.
+    /// The first argument, if it is UTF-8.
     pub fn first(&self) -> Option<&str> {
         str::from_utf8(self.octets.first()?.as_slice()).ok()
     }
 
-    /// What `clap` reads, a text for each word.
+    /// What `clap` reads, a text for each argument.
     pub(crate) fn texts(&self) -> &[String] {
         &self.texts
     }
 
-    /// How many words aren't UTF-8.
+    /// The number of arguments that aren't UTF-8.
     pub(crate) fn stand_ins(&self) -> usize {
         let words = self.octets.iter().zip(self.texts.iter());
         words
@@ -54,21 +54,21 @@ impl CommandLine {
             .count()
     }
 
-    /// Whether some word isn't UTF-8.
+    /// Whether some argument isn't UTF-8.
     pub(crate) fn has_stand_ins(&self) -> bool
         ensures { IsTrue result → HasNoText self.now }
     {
         self.stand_ins() > 0
     }
 
-    /// The octets of an address with this value: its own, or those that it stands in for.
+    /// The octets of the address with this value: the value itself, or the octets that it stands in for.
     pub(crate) fn address<'a>(&'a self, value: &'a str) -> &'a [u8]
         ensures { IsAddress self.now value.now result.now }
     {
         self.behind(value).unwrap_or(value.as_bytes())
     }
 
-    /// The octets that a value of an option stands in for; none where it stands for itself.
+    /// The octets that the value of an option stands in for; `None` if it stands for itself.
     pub(crate) fn behind(&self, value: &str) -> Option<&[u8]> {
         for (octets, text) in self.octets.iter().zip(self.texts.iter()) {
             let found = behind_value(octets.as_slice(), text.as_str(), value);
@@ -80,7 +80,7 @@ impl CommandLine {
     }
 }
 
-/// What `clap` reads of a word, where a stand-in has that many octets.
+/// What `clap` reads for an argument, if a stand-in has that many octets.
 fn text_of(alloc: Global, word: &[u8], stand_in: usize) -> Result<String, AllocError> {
     match str::from_utf8(word) {
         Ok(text) => String::from_str(alloc, text),
@@ -96,7 +96,7 @@ fn stand_in_of(alloc: Global, option: &str, len: usize) -> Result<String, AllocE
     Ok(text)
 }
 
-/// The option with `=` that stands before the address in a word; empty where there is none.
+/// The option with `=` before the address in an argument; empty if there is none.
 fn option_of(word: &[u8]) -> &'static str {
     for option in ADDRESS_OPTIONS {
         if word.starts_with(option.as_bytes()) {
@@ -106,12 +106,12 @@ fn option_of(word: &[u8]) -> &'static str {
     ""
 }
 
-/// Whether a text is read in place of a word.
+/// Whether a text is read in place of an argument.
 fn stands_in(text: &str, word: &[u8]) -> bool {
     text.as_bytes() != word
 }
 
-/// The octets of a word, or of the address in it, where the value is what is read in their place.
+/// The octets of an argument, or of the address in it, if the value is what is read in their place.
 fn behind_value<'a>(word: &'a [u8], text: &str, value: &str) -> Option<&'a [u8]> {
     if !stands_in(text, word) {
         return None;

@@ -1,4 +1,4 @@
-//! What was given to a subcommand.
+//! The arguments that were given to a subcommand.
 ghost use Rattle.std.specs.Prelude.{◌≡◌, false, option_copied};
 ghost use Rattle.sievedwords.specs.Asks.{HasNoText, IsAddress, IsFlag, IsLocation, text_in, value_in};
 ghost use Rattle.sievedwords.specs.Ids.{id_of};
@@ -8,7 +8,7 @@ use crate::command_line::CommandLine;
 use crate::location::StoreLocation;
 use clap::ArgMatches;
 
-/// What `clap` found for a subcommand, in a command line.
+/// What `clap` found for a subcommand in a command line.
 #[derive(Clone, Copy)]
 pub struct Given<'a, 'm> {
     pub line: &'a CommandLine,
@@ -16,28 +16,28 @@ pub struct Given<'a, 'm> {
 }
 
 impl<'a> Given<'a, '_> {
-    /// The value of an argument, where it has one.
+    /// The value of an argument, if it has one.
     pub fn value(&self, argument: Argument) -> Option<&'a str>
         ensures { option_copied result ≡ value_in self.now.matches.now (id_of argument) }
     {
         self.matches.get_str(argument.name())
     }
 
-    /// The value of an argument, or the empty one where it was left out.
+    /// The value of an argument, or the empty text if it was left out.
     pub fn text(&self, argument: Argument) -> &'a str
         ensures { result.now ≡ text_in self.now.matches.now (id_of argument) }
     {
         self.value(argument).unwrap_or("")
     }
 
-    /// Whether a flag is there.
+    /// Whether a flag was given.
     pub fn flag(&self, argument: Argument) -> bool
         ensures { IsFlag self.now.matches.now (id_of argument) result }
     {
         self.matches.get_flag(argument.name())
     }
 
-    /// The octets of an address, or none where it was left out.
+    /// The octets of an address; empty if it was left out.
     pub fn address(&self, argument: Argument) -> &'a [u8]
         ensures { IsAddress self.now.line.now (text_in self.now.matches.now (id_of argument)) result.now }
     {
@@ -54,7 +54,7 @@ impl<'a> Given<'a, '_> {
         }
     }
 
-    /// Whether each word is UTF-8, but for the addresses of the envelope.
+    /// Whether each argument is UTF-8, apart from the addresses of the envelope.
     pub fn is_text_elsewhere(&self) -> bool
         ensures { result ≡ false → HasNoText self.now.line.now }
     {

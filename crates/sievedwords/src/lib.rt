@@ -1,4 +1,4 @@
-//! The words of sieved's command line: what they ask for, and what is told where they ask for nothing.
+//! The command line of sieved: subcommands, their arguments, and what is printed if the arguments ask for nothing.
 #![tactic(auto)]
 
 mod argument;

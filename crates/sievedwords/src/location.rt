@@ -5,6 +5,6 @@
 pub struct StoreLocation<'a> {
     /// The path of the database's file.
     pub path: &'a str,
-    /// Whether to wait for the lock where another process has it.
+    /// Whether to wait for the lock if another process has it.
     pub waits: bool,
 }

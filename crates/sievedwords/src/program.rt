@@ -1,17 +1,17 @@
-//! The command line, as `clap` reads it.
+//! The command line, for `clap`.
 use crate::subcommand::Word;
 use clap::Command;
 use std::alloc::{AllocError, Global};
 
-/// The program's version, as a package has it: what ends with `~dev` is before that version.
+/// The program's version, as a package has it: one that ends with `~dev` comes before the release.
 pub const VERSION: &str = "2.0.0~dev";
 
-/// The program with all words.
+/// The program with all subcommands.
 pub fn sieved<'a>(alloc: Global) -> Result<Command<'a>, AllocError> {
     with_words(alloc, program(alloc)?, &Word::ALL)
 }
 
-/// A command with these words too.
+/// A command with these subcommands added.
 fn with_words<'a>(
     alloc: Global,
     program: Command<'a>,
@@ -24,7 +24,7 @@ fn with_words<'a>(
     Ok(command)
 }
 
-/// The program without its words.
+/// The program without its subcommands.
 fn program<'a>(alloc: Global) -> Result<Command<'a>, AllocError> {
     Command::new(alloc, "sieved")
         .version(VERSION)

@@ -1,4 +1,4 @@
-//! What the words ask for.
+//! Reads what the arguments ask for.
 ghost use Rattle.std.specs.Prelude.{◌≡◌, false, map, IfOk};
 ghost use Rattle.sievedwords.specs.Asks.{HasNoText, NamesFiles, WasMatched, WasRead};
 
@@ -13,22 +13,22 @@ use clap::error::ErrorKind;
 use clap::{ArgMatches, Error};
 use std::alloc::Global;
 
-/// Why words ask for nothing.
+/// Why arguments ask for nothing.
 #[derive(Drop)]
 pub enum ReadError {
-    /// A usage error, or what `--help` and `--version` ask for, with the text that `clap` has for it; lack of memory.
+    /// A usage error, or `--help` or `--version`, with the text that `clap` has for it; or lack of memory.
     Said(Error),
-    /// A word isn't UTF-8, and isn't the value of `--from` or `--to` of a subcommand that takes them.
+    /// An argument isn't UTF-8, and isn't the value of `--from` or `--to` of a subcommand that takes them.
     NotText,
-    /// `clap` knows the subcommand, and we don't. It knows none but ours.
+    /// `clap` knows the subcommand, and this crate doesn't. It knows none but those of this crate.
     Unknown,
 }
 
-/// What the words ask for. They are those after the program's name; without a word it is `try` with an empty envelope.
+/// Reads the arguments after the program's name; without any it is `try` with an empty envelope.
 ///
 /// # Errors
 ///
-/// Those of `ReadError`. Where a word isn't UTF-8 `clap` says nothing, since the word isn't what it has read.
+/// Those of `ReadError`. If an argument isn't UTF-8, the text of `clap` isn't printed, since it has read a stand-in.
 pub fn read<'a>(alloc: Global, words: &'a CommandLine) -> Result<Subcommand<'a>, ReadError>
     ensures { WasRead words.now result }
 {
@@ -59,12 +59,12 @@ pub fn read<'a>(alloc: Global, words: &'a CommandLine) -> Result<Subcommand<'a>,
     }
 }
 
-/// The paths of the files that words name which ask for `check`, in their order; none of standard input. Time and memory are linear
-/// in the words.
+/// The paths of the files in arguments that ask for `check`, in their order; none for standard input. Time and memory are linear
+/// in the arguments.
 ///
 /// # Errors
 ///
-/// Those of `read`; [`ReadError::Unknown`] of words that ask for something else.
+/// Those of `read`; [`ReadError::Unknown`] if the arguments ask for something else.
 pub fn read_files<'a>(alloc: Global, words: &'a CommandLine) -> Result<Vec<&'a str>, ReadError>
     ensures { IfOk result (λ files. NamesFiles words.now (map (λ file. file.now) files.items)) }
 {
@@ -85,14 +85,14 @@ pub fn read_files<'a>(alloc: Global, words: &'a CommandLine) -> Result<Vec<&'a s
     }
 }
 
-/// What `clap` finds in the words.
+/// What `clap` finds in the arguments.
 fn match_words<'a>(alloc: Global, words: &'a CommandLine) -> Result<ArgMatches<'a>, Error>
     ensures { WasMatched words.now result }
 {
     sieved(alloc)?.try_get_matches_from(words.texts())
 }
 
-/// Whether `clap` has read the words themselves, or had no memory.
+/// Whether the error speaks of the arguments themselves, or of lack of memory.
 fn is_said(words: &CommandLine, error: &Error) -> bool
     ensures { result ≡ false → HasNoText words.now }
 {

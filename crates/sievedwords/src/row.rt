@@ -3,7 +3,7 @@ use crate::argument::Argument;
 use clap::Command;
 use std::alloc::{AllocError, Global};
 
-/// A subcommand's name, its help, and what may be given to it.
+/// A subcommand's name, its help, and its arguments.
 #[derive(Clone, Copy)]
 pub struct Row {
     pub name: &'static str,
@@ -14,7 +14,7 @@ pub struct Row {
 }
 
 impl Row {
-    /// The subcommand as `clap` reads it.
+    /// The subcommand for `clap`.
     pub fn command<'a>(&self, alloc: Global) -> Result<Command<'a>, AllocError> {
         let mut command = Command::new(alloc, self.name)
             .about(self.about)

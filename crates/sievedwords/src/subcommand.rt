@@ -1,4 +1,4 @@
-//! The subcommands that there are.
+//! The subcommands.
 ghost use Rattle.std.specs.Prelude.{◌≡◌, IfSome, None};
 ghost use Rattle.sievedwords.specs.Asks.{AsksFor};
 ghost use Rattle.sievedwords.specs.Ids.{IsNoWord, name_of};
@@ -55,7 +55,7 @@ use self::users::{USERS, Users};
 use crate::given::Given;
 use crate::row::Row;
 
-/// A subcommand with what was given to it, as it was written.
+/// A subcommand with its arguments, as they were written.
 #[derive(Clone, Copy)]
 pub enum Subcommand<'a> {
     Try(Try<'a>),
@@ -114,7 +114,7 @@ pub enum Word {
 }
 
 impl Word {
-    /// All, in the order of the help.
+    /// All subcommands, in the order of the help.
     pub const ALL: [Word; 24] = [
         Word::Try,
         Word::Init,
@@ -193,7 +193,7 @@ impl Word {
         }
     }
 
-    /// What it asks for with what was given to it.
+    /// The subcommand with what was given to it.
     pub fn read<'a>(self, given: &Given<'a, '_>) -> Subcommand<'a>
         ensures { AsksFor given.now.line.now given.now.matches.now self result }
     {

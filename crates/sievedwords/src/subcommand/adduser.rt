@@ -25,7 +25,7 @@ Status 0: added. 64: wrong words or salt. 65: such a user is not allowed, or the
 #[derive(Clone, Copy)]
 pub struct AddUser<'a> {
     pub location: StoreLocation<'a>,
-    /// The salt in hexadecimal digits; where it is left out the system's random octets are one.
+    /// The salt in hexadecimal digits; the system's random octets are the salt if it is left out.
     pub salt: Option<&'a str>,
     /// The account's name.
     pub name: &'a str,

@@ -13,10 +13,10 @@ Status 0: all are valid. 64: wrong words. 65: some isn't. 75: a file can't be re
     arguments: &[Argument::Files],
 };
 
-/// What is to be checked. `read_files` tells all files that are named.
+/// What is to be checked. `read_files` returns all files that are named.
 #[derive(Clone, Copy)]
 pub struct Check<'a> {
-    /// The first file's path; none where standard input is checked.
+    /// The first file's path; `None` for standard input.
     pub file: Option<&'a str>,
 }
 

@@ -1,4 +1,4 @@
-//! `daemon`: many clients at once, until it is ended.
+//! `daemon`: many clients at once, until the process is ended.
 ghost use Rattle.sievedwords.specs.Asks.{IsDaemon};
 
 use crate::argument::Argument;
@@ -36,25 +36,25 @@ pub struct Daemon<'a> {
     pub path: &'a str,
     /// The port for ManageSieve, in decimal.
     pub managesieve: Option<&'a str>,
-    /// The port for LMTP, in decimal, or the path of a socket; `-` for what was left on descriptor 0.
+    /// The port for LMTP, in decimal, or the path of a socket; `-` for the socket that was left on descriptor 0.
     pub lmtp: Option<&'a str>,
-    /// What of a recipient's address names its account: `local` or `whole`.
+    /// What part of a recipient's address names the account: `local` or `whole`.
     pub names: Option<&'a str>,
-    /// The directory of the users' Maildirs into which mail moves, where it does.
+    /// The directory of the users' Maildirs into which mail moves, if it does.
     pub mail: Option<&'a str>,
-    /// What separates the levels of a folder's name there: `.` or `/`.
+    /// The separator of the levels of a folder's name there: `.` or `/`.
     pub separator: Option<&'a str>,
-    /// The host's zone; UTC where it is left out.
+    /// The host's zone; UTC if it is left out.
     pub zone: Option<&'a str>,
     /// The path of the script for accounts without an active one.
     pub default: Option<&'a str>,
-    /// The name with which clients of LMTP are greeted.
+    /// The host name in the greeting to clients of LMTP.
     pub host: Option<&'a str>,
-    /// How much all connections may hold, in MiB, in decimal: of ManageSieve what isn't answered yet, of LMTP lines and texts.
+    /// How much all connections together may hold, in MiB, in decimal: for ManageSieve what isn't answered yet, for LMTP lines and texts.
     pub memory: Option<&'a str>,
-    /// Whether no delivery that was made is told of.
+    /// Whether deliveries that were made aren't logged.
     pub quiet: bool,
-    /// Whether it is only to be said what would go wrong.
+    /// Whether it is only checked what would go wrong.
     pub check: bool,
 }
 

@@ -23,7 +23,7 @@ Status 0: delivered, and on the disk. 64: wrong words or values. 65: refused for
     ],
 };
 
-/// What is told of a message that is to be delivered. An address of the envelope that was left out is empty.
+/// The envelope, moment and user of a message that is to be delivered. An address of the envelope that was left out is empty.
 #[derive(Clone, Copy)]
 pub struct Deliver<'a> {
     pub location: StoreLocation<'a>,
@@ -31,9 +31,9 @@ pub struct Deliver<'a> {
     pub from: &'a [u8],
     /// The envelope's recipient.
     pub to: &'a [u8],
-    /// The moment in seconds since 1970, in decimal; the clock's where it is left out.
+    /// The moment in seconds since 1970, in decimal; the clock's if it is left out.
     pub at: Option<&'a str>,
-    /// The host's zone; UTC where it is left out.
+    /// The host's zone; UTC if it is left out.
     pub zone: Option<&'a str>,
     /// The path of the script for accounts without an active one.
     pub default: Option<&'a str>,

@@ -14,7 +14,7 @@ Status 0: taken, and on the disk. 64: wrong words or number. 65: no such row or 
     arguments: &[Argument::Db, Argument::Wait, Argument::User, Argument::Id],
 };
 
-/// The message that went out.
+/// The message that was sent.
 #[derive(Clone, Copy)]
 pub struct Done<'a> {
     pub location: StoreLocation<'a>,

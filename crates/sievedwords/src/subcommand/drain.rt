@@ -25,7 +25,7 @@ Status 0: moved. 64: wrong words or number. 65: no such Maildir or store. 67: no
 #[derive(Clone, Copy)]
 pub struct Drain<'a> {
     pub location: StoreLocation<'a>,
-    /// How many messages move at most, in decimal; all of the folder's where it is left out.
+    /// How many messages move at most, in decimal; all of the folder's if it is left out.
     pub most: Option<&'a str>,
     /// The account's name.
     pub user: &'a str,

@@ -25,7 +25,7 @@ Status 0: printed. 64: wrong words. 65: no such store. 67: no such user. 75: try
 #[derive(Clone, Copy)]
 pub struct Export<'a> {
     pub location: StoreLocation<'a>,
-    /// Whether the account is closed once the text is written.
+    /// Whether the account is closed after the text is written.
     pub and_close: bool,
     /// The account's name.
     pub user: &'a str,

@@ -28,7 +28,7 @@ pub struct Folders<'a> {
     pub user: &'a str,
     /// Whether each folder's directory in a Maildir is asked for.
     pub directories: bool,
-    /// What parts a folder's levels, where it is said.
+    /// The separator of the levels of a folder's name, if it is given.
     pub separator: Option<&'a str>,
 }
 

@@ -1,4 +1,4 @@
-//! `import`: an account that a text tells.
+//! `import`: an account, from its text.
 ghost use Rattle.sievedwords.specs.Asks.{IsImport};
 
 use crate::argument::Argument;
@@ -14,7 +14,7 @@ Status 0: added. 64: wrong words. 65: not the whole text of an account, the user
     arguments: &[Argument::Db, Argument::Wait],
 };
 
-/// Into which store the account is to come.
+/// The store that the account is added to.
 #[derive(Clone, Copy)]
 pub struct Import<'a> {
     pub location: StoreLocation<'a>,

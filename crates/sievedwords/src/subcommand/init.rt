@@ -14,7 +14,7 @@ Status 0: made. 64: wrong words. 65: there is a store already. 75: try again lat
     arguments: &[Argument::Db, Argument::Wait],
 };
 
-/// Where a new store is to be.
+/// The place of a new store.
 #[derive(Clone, Copy)]
 pub struct Init<'a> {
     pub location: StoreLocation<'a>,

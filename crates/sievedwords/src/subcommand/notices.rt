@@ -24,7 +24,7 @@ Status 0: listed. 64: wrong words or number. 65: no such store. 67: no such user
 #[derive(Clone, Copy)]
 pub struct Notices<'a> {
     pub location: StoreLocation<'a>,
-    /// The moment of the last notice that is printed and taken, in seconds since 1970, in decimal; where it is left out all
+    /// The moment of the last notice that is printed and taken, in seconds since 1970, in decimal; if it is left out, all
     /// are printed, and none is taken.
     pub until: Option<&'a str>,
     /// The account's name.

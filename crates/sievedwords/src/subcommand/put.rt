@@ -25,7 +25,7 @@ Status 0: stored. 64: wrong words. 65: not valid, or such a name, size or number
 #[derive(Clone, Copy)]
 pub struct Put<'a> {
     pub location: StoreLocation<'a>,
-    /// Whether it becomes the active one.
+    /// Whether the script becomes the active one.
     pub activate: bool,
     /// The account's name.
     pub user: &'a str,

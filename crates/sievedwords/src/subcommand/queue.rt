@@ -26,7 +26,7 @@ pub struct Queue<'a> {
     pub location: StoreLocation<'a>,
     /// The account's name.
     pub user: &'a str,
-    /// The number of the one message that is asked for, in decimal; all are listed where it is left out.
+    /// The number of the message that is printed, in decimal; all messages are listed if it is left out.
     pub id: Option<&'a str>,
 }
 

@@ -1,4 +1,4 @@
-//! `remove`: an account goes.
+//! `remove`: an account is removed.
 ghost use Rattle.sievedwords.specs.Asks.{IsRemove};
 
 use crate::argument::Argument;
@@ -19,11 +19,11 @@ Status 0: removed. 64: wrong words. 65: the user has mail. 67: no such user. 75:
     ],
 };
 
-/// The account that is to go.
+/// The account that is to be removed.
 #[derive(Clone, Copy)]
 pub struct Remove<'a> {
     pub location: StoreLocation<'a>,
-    /// Whether its messages go too.
+    /// Whether its messages are removed too.
     pub mail: bool,
     /// The account's name.
     pub user: &'a str,

@@ -26,7 +26,7 @@ pub struct Scripts<'a> {
     pub location: StoreLocation<'a>,
     /// The account's name.
     pub user: &'a str,
-    /// The name of the script that is to be printed; where it is left out all are listed.
+    /// The name of the script that is printed; all are listed if it is left out.
     pub script: Option<&'a str>,
 }
 

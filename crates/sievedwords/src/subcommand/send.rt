@@ -1,4 +1,4 @@
-//! `send`: rows of all queues, handed to a mail server.
+//! `send`: hands the rows of all queues to a mail server.
 ghost use Rattle.sievedwords.specs.Asks.{IsSend};
 
 use crate::argument::Argument;
@@ -26,9 +26,9 @@ pub struct Send<'a> {
     pub path: &'a str,
     /// The mail server: an address and a port, or the path of a socket.
     pub smtp: &'a str,
-    /// The name that EHLO says.
+    /// The name in EHLO.
     pub host: Option<&'a str>,
-    /// How many rows are tried at most, in decimal.
+    /// The largest number of rows that are tried, in decimal.
     pub most: Option<&'a str>,
     /// Whether a message with octets over 127 goes to a server without 8BITMIME too.
     pub send_8bit: bool,

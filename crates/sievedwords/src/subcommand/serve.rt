@@ -25,7 +25,7 @@ pub struct Serve<'a> {
     pub location: StoreLocation<'a>,
     /// The port, in decimal.
     pub port: &'a str,
-    /// After how many sessions to end, in decimal; never where it is left out.
+    /// The number of sessions after which it ends, in decimal; it never ends if it is left out.
     pub sessions: Option<&'a str>,
 }
 

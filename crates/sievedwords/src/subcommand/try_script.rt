@@ -19,16 +19,16 @@ Status 0: said. 64: wrong words. 65: not valid, or no such input. 75: memory, in
     ],
 };
 
-/// The envelope of the message that a script is tried on, and when. An address that was left out is empty.
+/// The envelope of the message that a script is tried on, and the moment. An address that was left out is empty.
 #[derive(Clone, Copy)]
 pub struct Try<'a> {
     /// The envelope's sender.
     pub from: &'a [u8],
     /// The envelope's recipient.
     pub to: &'a [u8],
-    /// The moment in seconds since 1970, in decimal; the clock's where it is left out.
+    /// The moment in seconds since 1970, in decimal; the clock's if it is left out.
     pub at: Option<&'a str>,
-    /// The host's zone; UTC where it is left out.
+    /// The host's zone; UTC if it is left out.
     pub zone: Option<&'a str>,
 }
 

@@ -1,4 +1,4 @@
-//! `users`: the accounts that there are.
+//! `users`: the accounts of a store.
 ghost use Rattle.sievedwords.specs.Asks.{IsUsers};
 
 use crate::argument::Argument;
