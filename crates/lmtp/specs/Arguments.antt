@@ -52,7 +52,7 @@ ReadsRecipient argument (Ok address) = IsAddressed to_word TakesRecipient argume
 ReadsRecipient argument (Err Parameter) = (address rest : List ℕ) × IsAddressed to_word TakesRecipient argument address rest × (rest ≢ [])
 ReadsRecipient argument (Err fault) = RefusesAddress to_word TakesRecipient argument fault
 
--- the octets that a result has, without where they stand
+-- the octets that a result has, without where they are
 abbrev pub octets_of : {F : Type 0} → Result (Bor (List ℕ)) F → Result (List ℕ) F
 octets_of (Ok octets) = Ok octets.now
 octets_of (Err fault) = Err fault

@@ -1,4 +1,4 @@
--- What is answered (RFC 5321, sections 4.2 and 4.3.2; the codes behind the first: RFC 3463, RFC 2034).
+-- What is answered (RFC 5321, sections 4.2 and 4.3.2; the codes after the first: RFC 3463, RFC 2034).
 use Rattle.std.specs.Prelude.{◌≡◌, ℕ, ◌≤◌, Bool, true, false, if◌then◌else◌, List, [], ◌∷◌, ◌++◌, codes, length, map, take}
 use Rattle.std.specs.List.{list_all}
 use Rattle.octets.specs.Ascii.{is_printable}

@@ -29,7 +29,7 @@ IsAfter start place = queued_cmp start place ≡ Less
 abbrev pub HasRow : Accounts → Queued → Outgoing → Type 0
 HasRow accounts place row = OfOpen accounts place.user (λ a. row_with place.id a.queue ≡ Some row)
 
--- the row at a place; none where there is none
+-- the row at a place; none if there is none
 abbrev pub IsRowAt : Queued → Accounts → Option Outgoing → Type 0
 IsRowAt place accounts None = (row : Outgoing) → HasRow accounts place row → ⊥
 IsRowAt place accounts (Some row) = HasRow accounts place row

@@ -44,7 +44,7 @@ pub enum Act<N> {
     WriteBlocked(u32),
     /// A read or a write of `id` failed.
     Lost(u32),
-    /// The machine went on with what it had heard of `id`, and noted this.
+    /// The machine continued with what it had heard of `id`, and noted this.
     Noted(u32, N),
     /// Memory was lacking for `id`.
     Full(u32),
