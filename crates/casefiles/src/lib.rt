@@ -1,4 +1,4 @@
-//! Files of cases: how octets, tables and sections are written in them, and how each of their cases is held against what is wanted.
+//! Files of cases: how octets, tables and sections are written in them, and how each of their cases is compared with what is wanted.
 #![tactic(auto)]
 
 mod line;

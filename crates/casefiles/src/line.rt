@@ -1,11 +1,11 @@
-//! Sections where a line is a case.
+//! Sections in which a line is a case.
 use crate::section::Section;
 use crate::tally::Tally;
 use std::alloc::{AllocError, Global};
 
 /// What tries the lines of a section.
 pub trait Lines {
-    /// Tries the case of a line, which stands in the file at this number, counted from 1.
+    /// Tries the case of a line, which is in the file at this number, counted from 1.
     fn try_line(
         &self,
         alloc: Global,

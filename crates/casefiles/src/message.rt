@@ -21,7 +21,7 @@ impl<'a> Message<'a> {
         }
     }
 
-    /// The message in force after a section: a section `message` is one as it stands, `mail` one whose line ends are CRLF.
+    /// The message in force after a section: a section `message` is one as it is, `mail` one whose line ends are CRLF.
     pub fn after(self, section: &Section<'a>) -> Message<'a> {
         let text = section.text;
         match section.name {

@@ -1,4 +1,4 @@
-//! Tables: files where a line is a case, and its last column is what is wanted.
+//! Tables: files in which a line is a case, and its last column is what is wanted.
 use crate::tally::Tally;
 use crate::text::columns;
 use octets::Octets;

@@ -3,14 +3,14 @@ use crate::tally::Tally;
 use crate::text::split_at_first;
 use std::alloc::{AllocError, Global};
 
-/// A part of a file below a title `== NAME NOTE`. What stands above the first title is a section too; its name is `#`
-/// where the file begins with a comment.
+/// A part of a file below a title `== NAME NOTE`. What comes before the first title is a section too; its name is `#`
+/// if the file begins with a comment.
 #[derive(Clone, Copy)]
 pub struct Section<'a> {
     /// The number of the title's line, counted from 1.
     pub line: usize,
     pub name: &'a str,
-    /// What stands after the name, to the end of the line.
+    /// What comes after the name, to the end of the line.
     pub note: &'a str,
     /// The lines below the title, without the line end before the next title.
     pub text: &'a str,
@@ -61,7 +61,7 @@ fn sections_in<'a>(alloc: Global, file: &'a str) -> Result<Vec<Section<'a>>, All
     Ok(found)
 }
 
-/// The section whose title stands in this line.
+/// The section whose title is this line.
 fn section_at<'a>(line: usize, section: &'a str) -> Section<'a> {
     let (title, text) = split_at_first(section, "\n");
     let (name, note) = split_at_first(title, " ");

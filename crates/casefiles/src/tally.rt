@@ -23,7 +23,7 @@ impl Tally {
         }
     }
 
-    /// Holds what came against what is wanted. A case that fails is told in a line with the number of its line, counted
+    /// Compares what came with what is wanted. A case that fails is told in a line with the number of its line, counted
     /// from 1, and with both texts, whose control octets and those above 126 are written as `%0A`.
     pub fn note(&mut self, line: usize, wanted: &[u8], got: &[u8]) -> Result<(), AllocError>
         ensures held { wanted.now ≢ got.now → self.new.held ≡ self.old.held }
@@ -47,7 +47,7 @@ impl Tally {
         writeln!(self.failed, "{line}: wanted {wanted}, got {got}")
     }
 
-    /// Holds what came against the text of a section. Blanks and line ends at the end of both don't count.
+    /// Compares what came with the text of a section. Blanks and line ends at the end of both don't count.
     pub fn note_text(
         &mut self,
         alloc: Global,

@@ -4,17 +4,17 @@ use percent_encoding::percent_decode;
 use std::alloc::{AllocError, Global};
 use std::str;
 
-/// What stands before a text's first separator, and what after it: the whole text and nothing where it has none.
+/// What comes before a text's first separator, and what after it: the whole text and nothing if it has none.
 pub fn split_at_first<'a>(text: &'a str, separator: &str) -> (&'a str, &'a str) {
     text.split_once(separator).unwrap_or((text, ""))
 }
 
-/// The text that these octets are, or the empty one where they are no UTF-8.
+/// The text that these octets are, or the empty one if they are no UTF-8.
 pub fn text_in(octets: &[u8]) -> &str {
     str::from_utf8(octets).unwrap_or("")
 }
 
-/// The columns of a line. One tab or more stands between two; `-` alone is the empty text.
+/// The columns of a line. One tab or more is between two; `-` alone is the empty text.
 pub fn columns(alloc: Global, line: &str) -> Result<Texts, AllocError> {
     let mut found = Texts::new(alloc);
     for column in line.split('\t') {
@@ -44,7 +44,7 @@ pub fn decode(alloc: Global, text: &str) -> Result<Octets, AllocError> {
     Ok(out)
 }
 
-/// Appends what stands after the first `%{` of a text.
+/// Appends what comes after the first `%{` of a text.
 fn add_repeated(alloc: Global, out: &mut Octets, more: &str) -> Result<(), AllocError> {
     for piece in more.split("%{") {
         add_piece(alloc, out, piece)?;
@@ -52,7 +52,7 @@ fn add_repeated(alloc: Global, out: &mut Octets, more: &str) -> Result<(), Alloc
     Ok(())
 }
 
-/// Appends what stands between one `%{` and the next: a repetition and a text, or a text alone.
+/// Appends what is between one `%{` and the next: a repetition and a text, or a text alone.
 fn add_piece(alloc: Global, out: &mut Octets, piece: &str) -> Result<(), AllocError> {
     let (part, more) = split_at_first(piece, "*");
     let (count, rest) = split_at_first(more, "}");
@@ -119,7 +119,7 @@ pub fn trim_end(text: &[u8]) -> &[u8] {
     text.trim_ascii_end()
 }
 
-/// The octets that a text of a file stands for, with each LF as CRLF where that is wanted.
+/// The octets that a text of a file stands for, with each LF as CRLF if that is wanted.
 pub fn with_ends(alloc: Global, text: &str, crlf: bool) -> Result<Octets, AllocError> {
     let octets = decode(alloc, text)?;
     if crlf {

@@ -52,7 +52,7 @@ fn add_report(alloc: Global, out: &mut Octets, report: &Report) -> Result<(), Al
     }
 }
 
-/// Appends what a client is sent, without the CRLF at its end, and a line `need` or `close` where the session waits for
+/// Appends what a client is sent, without the CRLF at its end, and a line `need` or `close` if the session waits for
 /// octets or has ended.
 fn add_sent(out: &mut Octets, progress: Progress, octets: &[u8]) -> Result<(), AllocError> {
     add_octets(out, octets)?;

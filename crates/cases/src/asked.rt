@@ -197,7 +197,7 @@ fn add_drain(out: &mut Octets, asked: Drain<'_>) -> Result<(), AllocError> {
     )
 }
 
-/// Appends the word, where the store is, and the values.
+/// Appends the subcommand, where the store is, and the values.
 fn add_at(
     out: &mut Octets,
     word: &str,
@@ -231,7 +231,7 @@ fn add_texts(out: &mut Octets, texts: &[&str]) -> Result<(), AllocError> {
     Ok(())
 }
 
-/// Appends a value behind its name, where it was given.
+/// Appends a value after its name, if it was given.
 fn add_given(out: &mut Octets, name: &str, value: Option<&str>) -> Result<(), AllocError> {
     match value {
         Some(value) => add_texts(out, &[name, value]),

@@ -10,7 +10,7 @@ use std::alloc::{AllocError, Global};
 /// The session that the streams come over, one after the other.
 const NUMBER: u32 = 999;
 
-/// Appends what a stream is answered, where that is the same however it is cut into two pieces; else where it is not.
+/// Appends what a stream is answered, if that is the same however it is cut into two pieces; otherwise where it is not.
 pub fn add_answers(
     alloc: Global,
     world: &mut World<MemStore>,
@@ -146,7 +146,7 @@ fn give(out: &mut Octets, session: &mut Session, piece: &[u8]) -> Result<(), All
     out.push(if session.ready() { b'1' } else { b'0' })
 }
 
-/// Appends after each of so many steps how many octets were looked at, while steps need no store.
+/// Appends after each of this many steps how many octets were looked at, while steps need no store.
 fn add_steps(
     out: &mut Octets,
     session: &mut Session,

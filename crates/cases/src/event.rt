@@ -44,7 +44,7 @@ impl<'a> Post<'a> {
 }
 
 impl Post<'_> {
-    /// When a message comes, and where; UTC where the file says no zone.
+    /// When a message comes, and in which zone; UTC if the file says no zone.
     fn when(&self) -> When {
         let zone = read_zone(self.zone.as_bytes()).unwrap_or(0);
         When::in_zone(self.moment, zone).unwrap_or(When::in_utc(self.moment))
@@ -59,7 +59,7 @@ impl Post<'_> {
     }
 }
 
-/// The event that a section is, if it is one, where its note says this.
+/// The event that a section is, if it is one and its note says this.
 pub fn event(
     alloc: Global,
     post: Post<'_>,
@@ -142,7 +142,7 @@ fn script(
     }))
 }
 
-/// Octets that come from a client, with each line end as CRLF where that is wanted.
+/// Octets that come from a client, with each line end as CRLF if that is wanted.
 fn give(
     alloc: Global,
     section: &Section<'_>,
@@ -263,7 +263,7 @@ fn session(digits: &str) -> u32 {
     u32::try_from(number(digits)).unwrap_or(0)
 }
 
-/// What a note says before `xN`, and how often an event is meant: N times, else once.
+/// What a note says before `xN`, and how often an event is meant: N times, otherwise once.
 pub fn times_in(note: &str) -> (&str, u64) {
     let (front, digits) = split_at_first(note, " x");
     match parse_decimal(digits.as_bytes()) {

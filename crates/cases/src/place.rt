@@ -48,7 +48,7 @@ fn filed_in(alloc: Global, note: &str) -> Result<Filed, AllocError> {
     })
 }
 
-/// The number that digits write; 0 where there are none.
+/// The number that digits write; 0 if there are none.
 pub fn number_in(digits: &str) -> u64 {
     parse_decimal(digits.as_bytes()).unwrap_or(0)
 }

@@ -122,7 +122,7 @@ fn add_messages(out: &mut Octets, messages: &Texts) -> Result<(), AllocError> {
     add_lines(out, messages)
 }
 
-/// Appends the number of the folder's first message, the message and, where it has some, a line with its flags; or `none`.
+/// Appends the number of the folder's first message, the message and, if it has some, a line with its flags; or `none`.
 fn add_first(
     store: &mut Store<MemStore>,
     out: &mut Octets,
@@ -147,7 +147,7 @@ fn add_numbered(out: &mut Octets, first: Option<&NumberedMessage>) -> Result<(),
     }
 }
 
-/// Appends a line with a message's flags, where it has some.
+/// Appends a line with a message's flags, if it has some.
 fn add_flags(out: &mut Octets, flags: &[u8]) -> Result<(), AllocError> {
     if flags.is_empty() {
         return Ok(());

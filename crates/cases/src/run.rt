@@ -20,7 +20,7 @@ pub const CLOCK: Option<u64> = Some(1_700_000_000);
 /// What the system gives at random.
 const RANDOM: Option<[u8; 16]> = Some(*b"0123456789abcdef");
 
-/// What a run may tell, those too that no case can bring about.
+/// What a run may tell, including those that no case can bring about.
 const FAULTS: [Fault; 25] = [
     Fault::Refused(Refusal::Memory),
     Fault::Refused(Refusal::Store),
@@ -148,7 +148,7 @@ impl Answers for MemoryRuns {
     }
 }
 
-/// Appends how many messages there are, and each of them after a `|`, with its flags behind a `#` where it has some.
+/// Appends how many messages there are, and each of them after a `|`, with its flags after a `#` if it has some.
 fn add_messages(out: &mut Octets, messages: &[KeptMail]) -> Result<(), AllocError> {
     write_decimal(out, messages.len() as u64)?;
     for mail in messages {
@@ -158,7 +158,7 @@ fn add_messages(out: &mut Octets, messages: &[KeptMail]) -> Result<(), AllocErro
     Ok(())
 }
 
-/// Appends a message's flags, where it has some.
+/// Appends a message's flags, if it has some.
 fn add_flags(out: &mut Octets, flags: &[u8]) -> Result<(), AllocError> {
     if flags.is_empty() {
         return Ok(());
@@ -243,9 +243,9 @@ pub struct Run<'a> {
     pub input: &'a [u8],
     /// From which of its calls on the output takes nothing more.
     pub writes: u64,
-    /// The moment in seconds since 1970; none where the clock can't be read.
+    /// The moment in seconds since 1970; none if the clock can't be read.
     pub clock: Option<u64>,
-    /// What the system gives at random; none where it gives nothing.
+    /// What the system gives at random; none if it gives nothing.
     pub random: Option<[u8; 16]>,
     /// The text of the script for accounts without an active one.
     pub default: Option<&'a [u8]>,

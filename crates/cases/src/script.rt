@@ -66,7 +66,7 @@ fn try_script(
     tally.note_text(alloc, section, got.as_slice())
 }
 
-/// Tries a test a line, which holds where this is what a script that discards then comes to.
+/// Tries a test per line, which holds if this is what a script that discards then comes to.
 fn try_tests(
     alloc: Global,
     tally: &mut Tally,
@@ -77,7 +77,7 @@ fn try_tests(
     try_lines(alloc, tally, &Tests { trial, wanted }, section)
 }
 
-/// Tests of a mail, and what a script comes to that discards where one holds.
+/// Tests of a mail, and what a script comes to that discards if one holds.
 #[derive(Drop)]
 struct Tests<'a> {
     trial: Trial<'a>,
@@ -98,7 +98,7 @@ impl Lines for Tests<'_> {
     }
 }
 
-/// A script that discards where a test holds.
+/// A script that discards if a test holds.
 fn discard_after(alloc: Global, test: &str) -> Result<Octets, AllocError> {
     let test = decode(alloc, test)?;
     let mut script = Octets::new(alloc);

@@ -98,7 +98,7 @@ impl<'a> Talk<'a> {
         })
     }
 
-    /// Lets the events happen, and holds what was answered against what is wanted.
+    /// Lets the events happen, and compares what was answered with what is wanted.
     fn try_answer(
         &mut self,
         alloc: Global,
@@ -111,7 +111,7 @@ impl<'a> Talk<'a> {
         Ok(())
     }
 
-    /// Lets the events happen, and appends what is answered to those that are shown; then `not whole`, where no place was found for an
+    /// Lets the events happen, and appends what is answered to those that are shown; then `not whole`, if no place was found for an
     /// answer.
     fn apply(&mut self, alloc: Global) -> Result<(), AllocError> {
         let ran = run(&mut self.world, &self.events);
@@ -159,7 +159,7 @@ impl<'a> Talk<'a> {
         ask(alloc, tally, &mut self.world.store, &mut self.told, section)
     }
 
-    /// Takes an event that many times: `== step 1`, or `== deliver USER x300`. Answers false where the section is no event.
+    /// Takes an event that many times: `== step 1`, or `== deliver USER x300`. Returns false if the section is no event.
     fn add(&mut self, alloc: Global, section: &Section<'_>) -> Result<bool, AllocError> {
         let (note, times) = times_in(section.note);
         for _ in 0..times {

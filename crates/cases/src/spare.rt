@@ -6,7 +6,7 @@ use sqlite::{Connection, ErrorCode, MemStore};
 use std::alloc::{AllocError, Global};
 use std::mem;
 
-/// What stands beside the store of a world.
+/// What is beside the store of a world.
 #[derive(Drop)]
 pub enum Spare {
     /// Nothing.
@@ -18,7 +18,7 @@ pub enum Spare {
 }
 
 impl Spare {
-    /// Makes a store in the connection that stands here, or in one to an empty database, and appends `created` or the refusal.
+    /// Makes a store in the connection that is here, or in one to an empty database, and appends `created` or the refusal.
     pub fn create(&mut self, alloc: Global, out: &mut Octets) -> Result<(), AllocError> {
         let conn = match mem::replace(self, Spare::Nothing) {
             Spare::Connection(conn) => conn,
@@ -27,7 +27,7 @@ impl Spare {
         self.take(alloc, out, b"created", Store::create(alloc, conn))
     }
 
-    /// Opens the connection that stands here as a store, and appends `opened` or the refusal; `none` without a connection.
+    /// Opens the connection that is here as a store, and appends `opened` or the refusal; `none` without a connection.
     pub fn reopen(&mut self, alloc: Global, out: &mut Octets) -> Result<(), AllocError> {
         match mem::replace(self, Spare::Nothing) {
             Spare::Connection(conn) => {
@@ -40,7 +40,7 @@ impl Spare {
         }
     }
 
-    /// Releases the store that stands here, if there is one.
+    /// Releases the store that is here, if there is one.
     pub fn release(&mut self) {
         *self = match mem::replace(self, Spare::Nothing) {
             Spare::Store(store) => Spare::Connection(store.release()),
@@ -48,7 +48,7 @@ impl Spare {
         };
     }
 
-    /// Puts the store that stands here, if there is one, into the place of another, which stands here then.
+    /// Puts the store that is here, if there is one, into the place of another, which is here then.
     pub fn swap(&mut self, other: &mut Store<MemStore>) {
         if let Spare::Store(store) = self {
             mem::swap(store, other);

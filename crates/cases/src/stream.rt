@@ -65,7 +65,7 @@ fn empty_envelope(alloc: Global) -> Envelope {
     }
 }
 
-/// An input that gives so many octets at a time at most, and fails from one of its calls on.
+/// An input that gives at most this many octets at a time, and fails from one of its calls on.
 #[derive(Drop)]
 pub struct Pieces<'a> {
     pub left: &'a [u8],

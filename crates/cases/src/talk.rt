@@ -45,7 +45,7 @@ fn after_login(alloc: Global, command: &[u8]) -> Result<Octets, AllocError> {
     Ok(sent)
 }
 
-/// Appends how a session ended, and what the client was told: all of it, or what stands after the greeting; and then what was
+/// Appends how a session ended, and what the client was told: all of it, or what comes after the greeting; and then what was
 /// told of the store, if anything, after a `|`. The number is how many octets a read gives at most, or of the call from which
 /// on the input or the output fails.
 pub fn answer<K: Keeper>(
@@ -138,7 +138,7 @@ fn add_end(alloc: Global, out: &mut Octets, ended: Result<(), Fault>) -> Result<
     }
 }
 
-/// What stands after the greeting, or all where it isn't whole.
+/// What comes after the greeting, or all if it isn't whole.
 fn after_greeting(told: &[u8]) -> &[u8] {
     match told.windows(GREETED.len()).position(|four| four == GREETED) {
         Some(at) => told.get(at.saturating_add(GREETED.len())..).unwrap_or(told),

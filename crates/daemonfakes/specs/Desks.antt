@@ -1,4 +1,4 @@
--- What a desk in memory tells.
+-- What an outside in memory tells.
 use Rattle.std.specs.Prelude.{Bool, not, List}
 use Rattle.wires.specs.declared.act.Act.{Act}
 use Rattle.sieveddaemon.specs.declared.note.Note.{Note}

@@ -13,12 +13,12 @@ use Rattle.mailengine.specs.declared.event.Event.{Event}
 use Rattle.mailengine.specs.declared.event.Event.TheVariants.{Deliver, AddUser, Import, TakeOut, TakeMail, Keep}
 use Rattle.sieveddaemon.specs.Desk.{View, StillShows, IsWorld, ComesTo, AreOthers, IsFoundIn}
 
--- whatever accounts were had, the event with this answer leads from them to those that are had; where it was refused it was tried
+-- whatever accounts there were, the event with this answer leads from them to those that there are; if it was refused it was tried
 abbrev pub IsApplied : {S : Type 0} → View S → Event → Answer → S → Kept → S → Kept → Type 0
 IsApplied view event answer s before t after =
     (w : World) → IsWorld view s before w → (next : World) × Next w event answer next × ComesTo view s w (ShowsTried event answer w) t after next
 
--- an event of accounts happened, and nothing of it is left beside the accounts that are had then; or all is as it was
+-- an event of accounts happened, and nothing of it is left beside the accounts that there are then; or all is as it was
 abbrev pub IsLet : {S : Type 0} → View S → Event → Bool → S → S → Type 0
 IsLet view event true s t =
     (w : World) → view.shows s w.accounts
@@ -26,13 +26,13 @@ IsLet view event true s t =
     × view.shows t later × MayLeave (view.leaves s) w.accounts (view.leaves t) later none_tried
 IsLet view event false s t = StillShows view s t
 
--- that was found of an account of that name, and whatever accounts were had are had
+-- that was found of an account of that name, and whatever accounts there were are still there
 abbrev pub IsSought : {S : Type 0} → View S → List ℕ → Lookup → S → S → Type 0
 IsSought view user lookup s t =
     (accounts : Accounts) → view.shows s accounts
     → IsFoundIn accounts user lookup × view.shows t accounts × MayLeave (view.leaves s) accounts (view.leaves t) accounts none_tried
 
--- a message moved on so, whatever accounts were had
+-- a message moved on so, whatever accounts there were
 abbrev pub IsMovedOn : {S : Type 0} → View S → Moving → S → S → Type 0
 IsMovedOn view moving s t =
     (w : World) → view.shows s w.accounts
@@ -42,7 +42,7 @@ IsMovedOn view moving s t =
 abbrev pub StillHas : {S : Type 0} → (S → List KeptMail → Type 0) → S → S → Type 0
 StillHas has s t = (mails : List KeptMail) → has s mails → has t mails
 
--- events of others lead from whatever accounts were had to those that are had, and no session is another
+-- events of others lead from whatever accounts there were to those that there are, and no session is another
 pub record LetsAt (others : List Event) (w between : World) : Type 0 where
   pub strangers : AreOthers w.sessions others
   pub told : List Answer

@@ -10,7 +10,7 @@ use octets::Octets;
 use sieveexec::When;
 use std::alloc::{AllocError, Global};
 
-/// The same event, where it is one that the daemon brings; none else.
+/// The same event, if it is one that the daemon applies; none otherwise.
 pub fn copy_event(event: &Event) -> Option<Event>
     ensures { IfSome result (λ copy. copy ≡ event.now) }
 {
@@ -44,7 +44,7 @@ pub fn copy_delivery(
     })
 }
 
-/// The same answer, where it is one of a session or of a delivery; none else, or where memory is lacking.
+/// The same answer, if it is one of a session or of a delivery; none otherwise, or if memory is lacking.
 pub fn copy_answer(alloc: Global, answer: &Answer) -> Option<Answer>
     ensures { IfSome result (λ copy. copy ≡ answer.now) }
 {

@@ -25,11 +25,11 @@ use wires::outcome::{Accepted, Fault, Input, Output, Wake};
 use wires::outside::{Clock, Outside, Sockets};
 
 /// Sockets and a clock that follow a script, and a store that others use too: it is away when the script says so, and each
-/// time that it is had events of others may come before.
+/// time that it is available events of others may come before.
 #[derive(Drop)]
 pub struct DeskFake<S: Shelf + Drop> {
     pub stage: Stage<Note, S>,
-    /// For each event that is brought to the store, whether it is away; where the list is used up it never is.
+    /// For each event that is to be applied to the store, whether it is away; once the list is used up it never is.
     pub away: VecDeque<bool>,
     /// What others do before the next event that finds the store: events of accounts.
     pub others: VecDeque<Event>,
@@ -48,7 +48,7 @@ impl<S: Shelf + Drop> DeskFake<S> {
         }
     }
 
-    /// Notes what the daemon did with a connection; where there is no copy of it for the note nothing is told from now on.
+    /// Notes what the daemon did with a connection; if there is no copy of it for the note nothing is told from now on.
     fn note_done(&mut self, id: u32, others: List<Event>, event: &Event, answer: &Answer)
         ensures kept { IsTrue (is_told self.new) → IsTrue (is_told self.old) }
         ensures told { TellsIf is_told told_by self.old (Noted id (Note.Did others event.now answer.now)) self.new }
@@ -132,7 +132,7 @@ impl<S: Shelf + Drop> DeskFake<S> {
         self.away.pop_front() == Some(true)
     }
 
-    /// Brings an event to the store, as `carry` does, without a copy of it.
+    /// Applies an event to the store, as `carry` does, without a copy of it.
     fn bring(&mut self, id: u32, clients: &mut Clients, event: Event) -> Option<Answer>
         requires { ¬ IsGivenUp event }
         ensures kept { IsTrue (is_told self.new) → IsTrue (is_told self.old) }
@@ -148,7 +148,7 @@ impl<S: Shelf + Drop> DeskFake<S> {
         Some(answer)
     }
 
-    /// Lets all events of others happen that wait, each where there is room to tell it, and tells which did.
+    /// Lets all events of others happen that wait, each if there is room to tell it, and tells which did.
     fn let_others(&mut self) -> List<Event>
         ensures still { StillHas S.has self.old.stage.fake.rest self.new.stage.fake.rest }
         ensures others { LetsOthers S.view result self.old.stage.fake.rest self.new.stage.fake.rest }
@@ -162,7 +162,7 @@ impl<S: Shelf + Drop> DeskFake<S> {
         List::from_vec(others)
     }
 
-    /// Lets an event happen, where it is one of accounts and there is room to tell it, and tells it behind those before it.
+    /// Lets an event happen, if it is one of accounts and there is room to tell it, and tells it after those before it.
     fn let_one(&mut self, event: Event, others: &mut Vec<Event>)
         ensures lets { LetsMore S.view others.old.items (shelf_of self.old) others.new.items (shelf_of self.new) }
         ensures still { StillHas S.has self.old.stage.fake.rest self.new.stage.fake.rest }
@@ -177,7 +177,7 @@ impl<S: Shelf + Drop> DeskFake<S> {
     }
 }
 
-/// Lets an event of accounts happen, where there is room to tell it, and tells it behind those before it; one that is refused isn't
+/// Lets an event of accounts happen, if there is room to tell it, and tells it after those before it; one that is refused isn't
 /// told.
 fn change_other<S: Shelf + Drop>(
     alloc: Global,
@@ -315,7 +315,7 @@ impl<S: Shelf + Drop> Desk for DeskFake<S> {
         Some(lookup)
     }
 
-    // Where memory is lacking for the event the store is as good as away.
+    // If memory is lacking for the event the store is as good as away.
     fn deliver(&mut self, id: u32, clients: &mut Clients, parcel: &Parcel) -> Option<Answer> {
         let when = When::in_utc(self.stage.fake.moment / 1000);
         match copy_delivery(self.stage.fake.alloc, parcel, when, &None) {

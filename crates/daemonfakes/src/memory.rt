@@ -102,7 +102,7 @@ impl Shelf for MemShelf {
     }
 }
 
-/// Delivers a message that others bring, for which the envelope is copied. Whether it was.
+/// Delivers a message of others, for which the envelope is copied. Returns whether it was.
 fn let_delivery(
     alloc: Global,
     store: &mut Store<MemStore>,

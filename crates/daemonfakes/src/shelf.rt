@@ -26,8 +26,8 @@ pub trait Shelf {
         ensures applied { IsApplied view event.now result self.old clients.old.sessions self.new clients.new.sessions }
         ensures still { StillHas has self.old self.new };
 
-    /// One event of accounts that others bring, who have the store alone meanwhile: nothing is left of one that is refused. Whether it
-    /// happened; one that is refused, or for which memory is lacking, didn't, and all is as it was.
+    /// Lets one event of accounts of others happen, who have the store alone meanwhile: nothing is left of one that is refused. Returns
+    /// whether it happened; one that is refused, or for which memory is lacking, didn't, and all is as it was.
     fn let_other(&mut self, alloc: Global, event: &Event) -> bool
         requires { is_of_accounts event.now ≡ true }
         ensures lets { IsLet view event.now result self.old self.new }
@@ -38,7 +38,7 @@ pub trait Shelf {
         ensures found { IsFound result }
         ensures sought { IsSought view user.now result self.old self.new };
 
-    /// Has the first message of a folder move on, as [`mailmoves::move_next`] has it.
+    /// Has the first message of a folder move on, as [`mailmoves::move_next`] does.
     fn move_on(&mut self, now: u64, fresh: bool) -> Moving
         ensures moves { IsMovedOn view result self.old self.new }
         ensures keeps { HasKept has result self.old self.new };

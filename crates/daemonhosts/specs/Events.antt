@@ -37,7 +37,7 @@ abbrev pub is_full : Option ErrorCode → Bool
 is_full (Some DiskFull) = true
 is_full _ = false
 
--- behind a fault of the store, if there was one
+-- after a fault of the store, if there was one
 abbrev pub failed_by : Bool → Option ErrorCode → Bool → Bool
 failed_by true code failed = failed || not (is_full code)
 failed_by false code failed = failed

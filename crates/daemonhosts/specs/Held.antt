@@ -1,4 +1,4 @@
--- What a store shows that is had now and then.
+-- What a store shows that is held now and then.
 use Rattle.std.specs.Prelude.{◌≡◌, ℕ, Bool, true, false, List, [], Option, Some, None, IsTrue}
 use Rattle.sqlite_trees.specs.Tree.{Trees}
 use Rattle.sqlite_trees.specs.declared.store.Store.{Ghosts}
@@ -25,23 +25,23 @@ use Rattle.sieveddaemon.specs.Desk.{View, StillShows, IsDone, NothingDone, IsFou
 use Rattle.daemonhosts.specs.Events.{is_full}
 use Rattle.daemonhosts.specs.declared.held.HeldStore.{HeldStore}
 
--- while it is had the store shows the accounts; else they are those of its keeper's tables, and none can be claimed where it doesn't tell
--- these
+-- while it is held the store shows the accounts; otherwise they are those of its keeper's tables, and none can be claimed if it doesn't
+-- tell these
 abbrev pub ShowsBy : {S : Type 0} → Ghosts S → Bool → Database → Option (Held S) → Accounts → Type 0
 ShowsBy g tells db (Some store) accounts = HasAccounts (state g store) accounts
 ShowsBy g tells db None accounts = IsTrue tells × Offers db accounts
 
--- what an open after a crash may find, while it is had and no fault of the disk has shut its connection
+-- what an open after a crash may find, while it is held and no fault of the disk has shut its connection
 abbrev pub LeavesBy : {S : Type 0} → Ghosts S → Option (Held S) → Trees → Type 0
 LeavesBy g (Some store) trees = leaves_of (state g store) trees
 LeavesBy g None trees = ⊥
 
--- the disk returned what was written; while it isn't had that is known of a keeper that tells its tables alone
+-- the disk returned what was written; while it isn't held that is known of a keeper that tells its tables alone
 abbrev pub IsCleanBy : {S : Type 0} → Ghosts S → Bool → Option (Held S) → Type 0
 IsCleanBy g tells (Some store) = HasCleanDisk (state g store)
 IsCleanBy g tells None = IsTrue tells
 
--- of a keeper, and its store while it is had
+-- of a keeper, and its store while it is held
 abbrev pub view_of : {K S T : Type 0} → Ghosts S → Bool → (K → Database) → View (HeldStore K T S)
 view_of g tells holds = record { shows = λ held accounts. ShowsBy g tells (holds held.keeper) held.store accounts; leaves = λ held trees. LeavesBy g held.store trees }
 
@@ -65,7 +65,7 @@ abbrev pub lacking : Answer → Answer
 lacking (Refused Store) = Refused Memory
 lacking answer = answer
 
--- how an answer is told: where SQLite said that the disk is full as lack of memory, and every other as it is
+-- how an answer is told: as lack of memory if SQLite said that the disk is full, and every other as it is
 abbrev pub told_by : Bool → Answer → Answer
 told_by true answer = lacking answer
 told_by false answer = answer
@@ -101,6 +101,6 @@ MovesBy view clean None r q = StillShows view r q
 abbrev pub Goes : {K S T : Type 0} → Ghosts S → Bool → (K → Database) → Option Moving → HeldStore K T S → HeldStore K T S → Type 0
 Goes g tells holds moving held later = MovesBy (view_of g tells holds) (IsClean g tells) moving held later
 
--- the messages that the sink has, where it tells them
+-- the messages that the sink has, if it tells them
 abbrev pub HasMail : {K S T : Type 0} → Bool → (T → List KeptMail) → HeldStore K T S → List KeptMail → Type 0
 HasMail tells kept held mails = IsTrue tells → kept held.sink ≡ mails

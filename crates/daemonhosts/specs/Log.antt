@@ -14,7 +14,7 @@ use Rattle.mailsinks.specs.declared.sink.SinkError.TheVariants.{Memory as NoMemo
 use Rattle.mailstore.specs.declared.refusal.Refusal.{Refusal}
 use Rattle.mailstore.specs.declared.refusal.Refusal.TheVariants.{Memory, Store, NoUser, TooLarge, BadEnvelope}
 
--- ---- a message that was brought
+-- ---- a message that was to be delivered
 
 abbrev pub word_of : Answer → List ℕ
 word_of (Delivered report) = codes "delivered"
@@ -90,13 +90,13 @@ store_failed (Kept mail (Refused refusal)) = is_store_fault refusal
 store_failed (Stays stay) = is_fault_of_store stay.why
 store_failed _ = false
 
--- that is told once, where its folder hadn't failed before
+-- that is told once, if its folder hadn't failed before
 abbrev pub IsStayBy : Bool → Stay → List ℕ → Type 0
 IsStayBy true stay line = IsStayLine stay line
 IsStayBy false stay line = line ≡ []
 
 -- one that moved is told of unless it is quiet, one that was kept and not taken out always, one that stays at its folder's first failure,
--- each other not
+-- any other not
 abbrev pub IsMovingLine : Moving → Bool → List ℕ → Type 0
 IsMovingLine (Kept mail MailTaken) quiet line = line ≡ (if quiet then [] else moved_line mail)
 IsMovingLine (Kept mail _) quiet line = line ≡ stay_line mail.user mail.folder (codes "store")

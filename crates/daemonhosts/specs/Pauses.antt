@@ -2,12 +2,12 @@
 use Rattle.std.specs.Prelude.{◌≡◌, ◌+◌, ◌*◌, ℕ, min}
 use Rattle.daemonhosts.specs.declared.pause.Pause.{Pause}
 
--- it may be asked for, and behind the next failure it is left alone for a second
+-- it may be asked for, and after the next failure it is left alone for a second
 pub record IsOver (pause : Pause) : Type 0 where
   pub until : pause.until ≡ 0
   pub next : pause.next ≡ 1000
 
--- it failed at a moment: it is left alone, and behind a further failure twice as long, a minute at most
+-- it failed at a moment: it is left alone, and after a further failure twice as long, a minute at most
 pub record Begins (now : ℕ) (before after : Pause) : Type 0 where
   pub until : after.until ≡ min (now + before.next) 18446744073709551615
   pub next : after.next ≡ min (before.next * 2) 60000

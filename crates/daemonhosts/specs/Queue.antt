@@ -1,10 +1,10 @@
--- Whose turn it is to have the store.
+-- Whose turn it is to hold the store.
 use Rattle.std.specs.Prelude.{◌≡◌, ◌⊎◌, ℕ, ◌-◌, ◌==◌, nat_lt, Bool, true, false, if◌then◌else◌, List, [], ◌∷◌, ◌++◌, find, Option, Some, None}
 use Rattle.std.specs.List.{list_any}
 use Rattle.std.specs.Ordering.{nat_cmp}
 use Rattle.std.specs.BTreeMap as tree
 
--- one that didn't ask for so many milliseconds holds up nobody
+-- one that didn't ask for this many milliseconds holds up nobody
 abbrev pub patience : ℕ
 patience = 100
 
@@ -24,11 +24,11 @@ is_first id (Some first) = first == id
 abbrev pub comes_next : ℕ → ℕ → List ℕ → tree.BTreeMap ℕ ℕ → Bool
 comes_next id now ids asked = is_first id (find (asks id now asked) ids)
 
--- one that waits has its place, or the last one; none where memory was lacking
+-- one that waits has its place, or the last one; none if memory was lacking
 abbrev pub Joins : ℕ → List ℕ → List ℕ → Type 0
 Joins id ids later =
     (later ≡ (if list_any (λ n. n == id) ids then ids else ids ++ id ∷ [])) ⊎ (later ≡ ids)
 
--- when it asked is known, and all else stays; nothing changes where memory was lacking
+-- when it asked is known, and all else stays; nothing changes if memory was lacking
 abbrev pub Asks : ℕ → ℕ → tree.BTreeMap ℕ ℕ → tree.BTreeMap ℕ ℕ → Type 0
 Asks id now asked later = tree.Updates nat_cmp asked later id (Some now) ⊎ tree.IsUnchanged asked later

@@ -1,4 +1,4 @@
-//! A store, where it is had, and its keeper.
+//! A keeper, and its store while that is held.
 ghost use Rattle.std.specs.Prelude.{◌≡◌, None, IsTrue, IfErr, IfOk, IfSome, OnOk, is_some};
 ghost use Rattle.mailposts.specs.Posts.{IsFound};
 ghost use Rattle.mailengine.specs.Hosts.{IsGivenUp, Kept};
@@ -20,7 +20,7 @@ use sqlite::ErrorCode;
 use std::alloc::{AllocError, Global};
 use std::io::ErrorKind;
 
-/// The keeper of a store, and the store while it is had.
+/// The keeper of a store, and the store while it is held.
 #[derive(Drop)]
 pub struct HeldStore<K: Keeper + Drop, T: MailSink + Drop> {
     keeper: K,
@@ -30,7 +30,7 @@ pub struct HeldStore<K: Keeper + Drop, T: MailSink + Drop> {
 }
 
 impl<K: Keeper + Drop, T: MailSink + Drop> HeldStore<K, T> {
-    /// The store isn't had yet.
+    /// The store isn't held yet.
     pub fn new(keeper: K, sink: T) -> HeldStore<K, T> {
         HeldStore {
             keeper,
@@ -44,7 +44,7 @@ impl<K: Keeper + Drop, T: MailSink + Drop> HeldStore<K, T> {
         self.sink.cause()
     }
 
-    /// Whether the store is had.
+    /// Whether the store is held.
     pub fn is_had(&self) -> bool
         ensures { result ≡ is_some self.now.store }
     {
@@ -61,7 +61,7 @@ impl<K: Keeper + Drop, T: MailSink + Drop> HeldStore<K, T> {
         self.store.as_ref()?.cause()
     }
 
-    /// Whether the file at the path is still that of the store that is had: only then what it answers stands where others find it.
+    /// Whether the file at the path is still that of the store that is held: only then others find there what it answers.
     pub fn is_there(&self, path: &str) -> bool
         ensures { IsTrue K.tells → IsTrue result }
     {
@@ -76,7 +76,7 @@ impl<K: Keeper + Drop, T: MailSink + Drop> HeldStore<K, T> {
         self.keeper.is_awaited(path)
     }
 
-    /// Takes the store, where it isn't had. Nobody is waited for.
+    /// Takes the store, if it isn't held. Nobody is waited for.
     ///
     /// # Errors
     ///
@@ -96,7 +96,7 @@ impl<K: Keeper + Drop, T: MailSink + Drop> HeldStore<K, T> {
         Ok(())
     }
 
-    /// Gives the store back, where it is had. Why it couldn't be closed, if it couldn't: what was committed stays.
+    /// Gives the store back, if it is held. Returns why it couldn't be closed, if it couldn't: what was committed stays.
     pub fn give_back(&mut self) -> Option<Refusal>
         ensures shown { IsClean K.S.Store K.tells self.new → StillShown K.S.Store K.tells K.holds self.old self.new }
         ensures given { self.new.store ≡ None }
@@ -111,7 +111,7 @@ impl<K: Keeper + Drop, T: MailSink + Drop> HeldStore<K, T> {
         }
     }
 
-    /// Brings an event to the store and the sessions, and answers it; none where the store isn't had.
+    /// Applies an event to the store and the sessions, and answers it; none if the store isn't held.
     pub fn change(&mut self, clients: &mut Clients, event: &Event) -> Option<Answer>
         requires { ¬ IsGivenUp event.now }
         ensures { Brings K.S.Store K.tells K.holds event.now result self.old clients.old.sessions self.new clients.new.sessions }
@@ -125,7 +125,7 @@ impl<K: Keeper + Drop, T: MailSink + Drop> HeldStore<K, T> {
         }
     }
 
-    /// Whether there is an account of that name; none where the store isn't had.
+    /// Whether there is an account of that name; none if the store isn't held.
     pub fn find(&mut self, user: &[u8]) -> Option<Lookup>
         ensures found { IfSome result IsFound }
         ensures seeks { Seeks K.S.Store K.tells K.holds user.now result self.old self.new }
@@ -137,7 +137,7 @@ impl<K: Keeper + Drop, T: MailSink + Drop> HeldStore<K, T> {
     }
 
     /// Delivers a message for one recipient, by a host with this default script, and answers that as an event; no copy is made of
-    /// the message. None where the store isn't had, or memory is lacking for the envelope.
+    /// the message. None if the store isn't held, or memory is lacking for the envelope.
     pub fn deliver(
         &mut self,
         alloc: Global,
@@ -160,7 +160,7 @@ impl<K: Keeper + Drop, T: MailSink + Drop> HeldStore<K, T> {
         }
     }
 
-    /// Has the first message of a folder move on, as [`mailmoves::move_next`] has it. None where the store isn't had.
+    /// Has the first message of a folder move on, as [`mailmoves::move_next`] does. None if the store isn't held.
     pub fn move_on(&mut self, route: &mut Route, now: u64, fresh: bool) -> Option<Moving>
         ensures moves { Goes K.S.Store K.tells K.holds result self.old self.new }
         ensures keeps { IfSome result (λ moving. HasKept (HasMail T.tells T.kept) moving self.old self.new) }

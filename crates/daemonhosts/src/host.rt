@@ -42,17 +42,17 @@ use wires::act::Act;
 use wires::outcome::{self, Accepted, Input, Output, Wake};
 use wires::outside::{Clock, Outside, Sockets};
 
-/// Behind a step of more than so many microseconds another connection has its turn.
+/// After a step of more than this many microseconds another connection has its turn.
 const MAX_STEP: u64 = 5_000;
 
-/// What is answered to a command whose answer stands in no file any more (RFC 5804, 1.3).
+/// What is answered to a command whose answer is no longer in the file at the path (RFC 5804, 1.3).
 const TRY_LATER: &[u8] = b"NO (TRYLATER) \"Try later.\"\r\n";
 
 /// The system's sockets and clock, and the store at a path, which other processes use too. It tells no acts.
 ///
-/// The store is taken without waiting, and not while somebody waits for it; where it fails it is given back at the next look, and left
-/// alone for a while. Where the file at the path is another one behind an act, or none, the act is answered as one that failed, and the
-/// store is given back: the next act takes it anew, by its path. Connections that wait for it come to it in the order in which they came.
+/// The store is taken without waiting, and not while somebody waits for it; if it fails it is given back at the next look, and left
+/// alone for a while. If the file at the path is another one after an act, or none, the act is answered as one that failed, and the
+/// store is given back: the next act takes it anew, by its path. Connections that wait for it get it in the order in which they came.
 #[derive(Drop)]
 pub struct Host<'a, N: Net + time::Clock, E: Write + Drop, K: Keeper + Drop, T: MailSink + Drop> {
     alloc: Global,
@@ -61,7 +61,7 @@ pub struct Host<'a, N: Net + time::Clock, E: Write + Drop, K: Keeper + Drop, T: 
     /// A wait has failed.
     broken: bool,
     held: HeldStore<K, T>,
-    /// Where mail moves on to, where it does.
+    /// Where mail moves on to, if it does.
     route: Option<Route>,
     path: &'a str,
     /// The zone in which mail is delivered.
@@ -70,11 +70,11 @@ pub struct Host<'a, N: Net + time::Clock, E: Write + Drop, K: Keeper + Drop, T: 
     default: Option<Octets>,
     /// Which connections wait for the store.
     queue: Queue,
-    /// The moment at which nobody waited for it, where it was last looked.
+    /// The moment at which nobody waited for it, if that was so when it was last looked.
     looked: Option<u64>,
     /// Who had how much of the time, and who waits behind the others for it.
     turns: Turns,
-    /// When the act began that goes on, where the clock could be read.
+    /// When the current act began, if the clock could be read.
     begun: Option<Instant>,
     /// The last step took long.
     long: bool,
@@ -88,9 +88,9 @@ impl<'a, N: Net + time::Clock, E: Write + Drop, K: Keeper + Drop, T: MailSink + 
     K,
     T,
 > {
-    /// The store isn't had yet. Mail is delivered in the zone, and by the script `default` to an account without an active one. What
-    /// goes wrong with the store is told on the errors, and what becomes of messages; unless it is `quiet` of those that were
-    /// delivered too.
+    /// The store isn't held yet. Mail is delivered in the zone, and by the script `default` to an account without an active one. What
+    /// goes wrong with the store is told on the errors, and what becomes of messages; if `quiet`, nothing of those that were
+    /// delivered.
     pub fn new(
         alloc: Global,
         system: &'a N,
@@ -133,7 +133,7 @@ impl<'a, N: Net + time::Clock, E: Write + Drop, K: Keeper + Drop, T: MailSink + 
         self.news.refuse(trouble)
     }
 
-    /// An act begins.
+    /// Begins an act.
     fn begin_act(&mut self)
         ensures same { self.new.held ≡ self.old.held }
         ensures default { self.new.default ≡ self.old.default }
@@ -141,7 +141,7 @@ impl<'a, N: Net + time::Clock, E: Write + Drop, K: Keeper + Drop, T: MailSink + 
         self.begun = start(self.system);
     }
 
-    /// An act of a connection ends, of that kind and for that account; the next one begins.
+    /// Ends an act of a connection, of that kind and for that account; the next one begins.
     fn end_act(&mut self, id: u32, account: Account, what: &[u8])
         ensures same { self.new.held ≡ self.old.held }
         ensures default { self.new.default ≡ self.old.default }
@@ -211,7 +211,7 @@ impl<'a, N: Net + time::Clock, E: Write + Drop, K: Keeper + Drop, T: MailSink + 
         self.queue.join(id, now);
     }
 
-    /// Whether somebody waits for the store. A store that is had isn't looked after again within the millisecond in which nobody did.
+    /// Whether somebody waits for the store. A store that is held isn't looked after again within the millisecond in which nobody did.
     fn is_awaited(&mut self) -> bool
         ensures shown { StillShown K.S.Store K.tells K.holds self.old.held self.new.held }
         ensures sink { self.new.held.sink ≡ self.old.held.sink }
@@ -233,7 +233,7 @@ impl<'a, N: Net + time::Clock, E: Write + Drop, K: Keeper + Drop, T: MailSink + 
         self.news.has_failed() || self.is_lost() || self.is_awaited()
     }
 
-    /// Brings an event to the store, where that may be asked and is to be had.
+    /// Applies an event to the store, if that may be asked and is available.
     fn ask(&mut self, id: u32, clients: &mut Clients, event: &Event) -> Option<Answer>
         requires { ¬ IsGivenUp event.now }
         ensures { Brings K.S.Store K.tells K.holds event.now result self.old.held clients.old.sessions self.new.held clients.new.sessions }
@@ -254,7 +254,7 @@ impl<'a, N: Net + time::Clock, E: Write + Drop, K: Keeper + Drop, T: MailSink + 
         Some(answered(answer, kept, is_guest, later))
     }
 
-    /// Whether the store is had, and the file at the path is another one, or none. That is told.
+    /// Whether the store is held, and the file at the path is another one, or none. That is told.
     fn is_lost(&mut self) -> bool
         ensures same { self.new.held ≡ self.old.held }
         ensures lost { result ≡ true → ¬ IsTrue K.tells }
@@ -266,7 +266,7 @@ impl<'a, N: Net + time::Clock, E: Write + Drop, K: Keeper + Drop, T: MailSink + 
         true
     }
 
-    /// Whether the file at the path is still that of the store, behind an act. Where it isn't the store is given back.
+    /// Whether the file at the path is still that of the store, after an act. If it isn't, the store is given back.
     fn is_kept(&mut self) -> bool
         ensures kept { IsClean K.S.Store K.tells self.new.held → (result ≡ true) × (self.new.held ≡ self.old.held) }
         ensures sink { self.new.held.sink ≡ self.old.held.sink }
@@ -278,7 +278,7 @@ impl<'a, N: Net + time::Clock, E: Write + Drop, K: Keeper + Drop, T: MailSink + 
         true
     }
 
-    /// Looks for an account, where the store may be asked and is to be had.
+    /// Looks for an account, if the store may be asked and is available.
     fn seek(&mut self, id: u32, user: &[u8]) -> Option<Lookup>
         ensures found { IfSome result IsFound }
         ensures seeks { Seeks K.S.Store K.tells K.holds user.now result self.old.held self.new.held }
@@ -293,7 +293,7 @@ impl<'a, N: Net + time::Clock, E: Write + Drop, K: Keeper + Drop, T: MailSink + 
         Some(found(lookup, kept))
     }
 
-    /// Delivers a message at the moment that the clock shows, where the store may be asked and is to be had.
+    /// Delivers a message at the moment that the clock shows, if the store may be asked and is available.
     fn file(&mut self, id: u32, parcel: &Parcel) -> Option<Answer>
         ensures { (when : When) × ((kept : Kept) → Brings K.S.Store K.tells K.holds (delivery_of parcel.now (terms when self.old.default)) result
             self.old.held kept self.new.held kept) }
@@ -318,7 +318,7 @@ impl<'a, N: Net + time::Clock, E: Write + Drop, K: Keeper + Drop, T: MailSink + 
         }
     }
 
-    /// Tells of a delivery, which is refused where it stands in no file any more.
+    /// Tells of a delivery, which is refused if it is no longer in the file at the path.
     fn tell_delivery(
         &mut self,
         parcel: &Parcel,
@@ -336,7 +336,7 @@ impl<'a, N: Net + time::Clock, E: Write + Drop, K: Keeper + Drop, T: MailSink + 
         told_as(answer, code)
     }
 
-    /// Has a message move on, where the store may be asked and is to be had.
+    /// Has a message move on, if the store may be asked and is available.
     fn carry_on(&mut self, now: u64, fresh: bool) -> Option<Moving>
         ensures moves { Goes K.S.Store K.tells K.holds result self.old.held self.new.held }
         ensures keeps { IfSome result (λ moving. HasKept (HasMail T.tells T.kept) moving self.old.held self.new.held) }
@@ -361,7 +361,7 @@ impl<'a, N: Net + time::Clock, E: Write + Drop, K: Keeper + Drop, T: MailSink + 
         !self.news.has_failed() && !self.is_awaited()
     }
 
-    /// Has a message move on, where mail does, and the store is had.
+    /// Has a message move on, if mail does, and the store is held.
     fn go_on(&mut self, now: u64, fresh: bool) -> Option<Moving>
         ensures moves { Goes K.S.Store K.tells K.holds result self.old.held self.new.held }
         ensures keeps { IfSome result (λ moving. HasKept (HasMail T.tells T.kept) moving self.old.held self.new.held) }
@@ -372,7 +372,7 @@ impl<'a, N: Net + time::Clock, E: Write + Drop, K: Keeper + Drop, T: MailSink + 
         self.held.move_on(route, now, fresh)
     }
 
-    /// Takes the store, where it isn't had and isn't left alone.
+    /// Takes the store, if it isn't held and isn't left alone.
     fn reach(&mut self)
         ensures shown { StillShown K.S.Store K.tells K.holds self.old.held self.new.held }
         ensures sink { self.new.held.sink ≡ self.old.held.sink }
@@ -420,8 +420,8 @@ fn user_of(clients: &Clients, id: u32) -> Option<&[u8]> {
     }
 }
 
-/// The answer to a command, as it is told. Where it stands in no file any more a user is to try later; what a guest was told of a login
-/// stands in none.
+/// The answer to a command, as it is told. If it is no longer in the file at the path, a user is to try later; what a guest was told of
+/// a login isn't in any.
 fn answered(answer: Answer, kept: bool, is_guest: bool, later: Octets) -> Answer
     ensures { kept ≡ true → result ≡ answer }
 {
@@ -434,7 +434,7 @@ fn answered(answer: Answer, kept: bool, is_guest: bool, later: Octets) -> Answer
     }
 }
 
-/// What was found of an account, as it is told: a fault, where that stands in no file any more.
+/// What was found of an account, as it is told: a fault, if that is no longer in the file at the path.
 fn found(lookup: Lookup, kept: bool) -> Lookup
     ensures same { kept ≡ true → result ≡ lookup }
     ensures found { IsFound lookup → IsFound result }
@@ -473,7 +473,7 @@ fn lacking(answer: Answer) -> Answer
     }
 }
 
-/// Now, where the clock can be read.
+/// Now, if the clock can be read.
 fn start<C: time::Clock>(clock: &C) -> Option<Instant> {
     Instant::now(clock).ok()
 }
@@ -489,7 +489,7 @@ fn note_time<C: time::Clock, E: Write + Drop>(
     }
 }
 
-/// How many microseconds have passed since then, where the clock can be read; an hour at most.
+/// How many microseconds have passed since then, if the clock can be read; an hour at most.
 fn micros_since<C: time::Clock>(clock: &C, begun: Option<Instant>) -> Option<u64> {
     let passed = begun?.elapsed(clock).ok()?;
     Some(passed.as_secs().min(3600) * 1000000 + passed.subsec_micros() as u64)
@@ -514,7 +514,7 @@ fn slice_of(text: &Option<Octets>) -> Option<&[u8]>
     }
 }
 
-/// The seconds since 1970; where the clock can't be read, a moment at which nothing is delivered.
+/// The seconds since 1970; if the clock can't be read, a moment at which nothing is delivered.
 fn seconds<C: time::Clock>(clock: &C) -> u64 {
     let Ok(now) = SystemTime::now(clock) else {
         return u64::MAX;

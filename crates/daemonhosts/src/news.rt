@@ -22,10 +22,10 @@ use std::alloc::{AllocError, Global};
 use std::io::{ErrorKind, Write};
 use timeshares::Account;
 
-/// An act of so many microseconds has a line of its own.
+/// An act of this many microseconds has a line of its own.
 const SLOW: u64 = 200_000;
 
-/// So many milliseconds are behind each line `status`.
+/// How many milliseconds pass between two lines `status`.
 const STATUS_SPAN: u64 = 60000;
 
 /// The errors, what was told on them of the store, and whether it failed; what happened since the last line `status`. Moments are
@@ -61,12 +61,12 @@ impl<E: Write + Drop> News<E> {
         }
     }
 
-    /// The first line: the program's version, and the number of its process.
+    /// Writes the first line: the program's version, and the number of its process.
     pub fn begin(&mut self, version: &[u8], pid: u32) {
         self.tell_line(of_beginning(self.alloc, version, pid));
     }
 
-    /// Each minute in which something happened, the line `status`.
+    /// Writes the line `status`, for each minute in which something happened.
     pub fn tell_status(&mut self, now: u64) {
         if now.saturating_sub(self.told) < STATUS_SPAN {
             return;
@@ -86,12 +86,12 @@ impl<E: Write + Drop> News<E> {
         self.tally = Tally::none();
     }
 
-    /// An event that asked the store took so many microseconds.
+    /// An event that asked the store took this many microseconds.
     pub fn note_time(&mut self, micros: u64) {
         self.tally.times.note(micros);
     }
 
-    /// An act of that kind took so many microseconds of an account's time: where that is long, it is told.
+    /// An act of that kind took this many microseconds of an account's time: if that is long, it is told.
     pub fn note_slow(&mut self, what: &[u8], account: &Account, micros: u64)
         ensures failed { self.new.failed ≡ self.old.failed }
         ensures tally { self.new.tally ≡ self.old.tally }
@@ -146,7 +146,7 @@ impl<E: Write + Drop> News<E> {
         self.pause.begin(now);
     }
 
-    /// The store was given back, and couldn't be closed where there is a refusal. After a failure it is left alone for a while.
+    /// The store was given back, and couldn't be closed if there is a refusal. After a failure it is left alone for a while.
     pub fn note_given(&mut self, refusal: Option<Refusal>, cause: Option<&'static str>, now: u64) {
         if let Some(refusal) = refusal {
             tell(&mut self.errors, refusal, cause);
@@ -157,7 +157,7 @@ impl<E: Write + Drop> News<E> {
         }
     }
 
-    /// The file at the path isn't any more that of the store that is had.
+    /// The file at the path is no longer that of the store that is held.
     pub fn note_lost(&mut self) {
         tell(&mut self.errors, Refusal::Store, Some(FILE_IS_GONE));
     }
@@ -175,7 +175,7 @@ impl<E: Write + Drop> News<E> {
         }
     }
 
-    /// The same of a delivery, of which is told.
+    /// The same of a delivery, which is told of.
     pub fn note_delivery(&mut self, parcel: &Parcel, answer: &Answer, code: Option<ErrorCode>)
         ensures failed { self.new.failed ≡ events.failed_by (events.answers_fault answer.now) code self.old.failed }
         ensures counted { self.new.tally.counts ≡ events.counted (is_filed answer.now) self.old.tally.counts }
@@ -188,7 +188,7 @@ impl<E: Write + Drop> News<E> {
         self.tell_line(of_delivery(self.alloc, parcel, answer));
     }
 
-    /// A delivery is refused, since the file at the path isn't any more that of the store; that is told of it.
+    /// Refuses a delivery, since the file at the path is no longer that of the store, and tells so.
     pub fn refuse_delivery(&mut self, parcel: &Parcel) -> Answer {
         let answer = Answer::Refused(Refusal::Store);
         self.count_delivery(&answer);
@@ -218,7 +218,7 @@ impl<E: Write + Drop> News<E> {
         }
     }
 
-    /// The same of a message that was to move on, of which is told.
+    /// The same of a message that was to move on, which is told of.
     pub fn note_moving(
         &mut self,
         moving: &Moving,
@@ -237,7 +237,7 @@ impl<E: Write + Drop> News<E> {
         self.tell_line(of_moving(self.alloc, moving, cause, self.quiet));
     }
 
-    /// Tells a line, where there was memory for it.
+    /// Tells a line, if there was memory for it.
     fn tell_line(&mut self, line: Result<Octets, AllocError>)
         ensures failed { self.new.failed ≡ self.old.failed }
         ensures tally { self.new.tally ≡ self.old.tally }
@@ -273,7 +273,7 @@ impl<E: Write + Drop> News<E> {
     }
 }
 
-/// The user whose time it is, where it is one's.
+/// The user whose time it is, if it is one's.
 fn user_of(account: &Account) -> Option<&[u8]> {
     match account {
         Account::User(name) => Some(name.as_slice()),
@@ -281,14 +281,14 @@ fn user_of(account: &Account) -> Option<&[u8]> {
     }
 }
 
-/// It happened once more.
+/// Counts it once more.
 fn count(times: &mut u64)
     ensures { times.new ≡ events.more times.old }
 {
     *times = times.saturating_add(1);
 }
 
-/// Tells of trouble with the store, and of its cause, where that is known.
+/// Tells of trouble with the store, and of its cause, if that is known.
 fn tell<E: Write>(errors: &mut E, refusal: Refusal, cause: Option<&'static str>) {
     let fault = Fault::Refused(refusal);
     let cause = match refusal {

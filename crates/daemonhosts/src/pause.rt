@@ -2,10 +2,10 @@
 ghost use Rattle.std.specs.Prelude.{◌≡◌, nat_lt};
 ghost use Rattle.daemonhosts.specs.Pauses.{IsOver, Begins};
 
-/// So many milliseconds after the first failure.
+/// For how many milliseconds after the first failure.
 const FIRST: u64 = 1000;
 
-/// So many at most.
+/// For how many at most.
 const LONGEST: u64 = 60000;
 
 /// How long the store is left alone. Moments are in milliseconds.
@@ -35,7 +35,7 @@ impl Pause {
         now < self.until
     }
 
-    /// It failed: it is left alone for a second, and for twice as long behind each further failure, up to a minute.
+    /// It failed: it is left alone for a second, and for twice as long after each further failure, up to a minute.
     pub fn begin(&mut self, now: u64)
         ensures { Begins now self.old self.new }
     {

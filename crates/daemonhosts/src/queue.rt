@@ -7,11 +7,11 @@ ghost use Rattle.daemonhosts.specs.Queue as q;
 use std::alloc::Global;
 use std::collections::BTreeMap;
 
-/// Who waits asks for the store each 5 ms. One that didn't ask for so many milliseconds holds up nobody: its client reads nothing, say,
-/// and it has no turn until that takes some of its answers.
+/// Whoever waits asks for the store each 5 ms. One that didn't ask for this many milliseconds holds up nobody: its client reads nothing,
+/// say, and it has no turn until that takes some of its answers.
 const PATIENCE: u64 = 100;
 
-/// The numbers of connections, in the order in which they came, each once, and the moment at which each asked last. Where memory is
+/// The numbers of connections, in the order in which they came, each once, and the moment at which each asked last. If memory is
 /// lacking for one it isn't in it, and may be served out of its order.
 #[derive(Drop)]
 pub struct Queue {
@@ -47,7 +47,7 @@ impl Queue {
             .find(|other| asks(id, now, &self.asked, **other))
     }
 
-    /// One waits, and asks at that moment. It keeps its place where it has one.
+    /// One waits, and asks at that moment. It keeps its place if it has one.
     pub fn join(&mut self, id: u32, now: u64)
         ensures ids { q.Joins id self.old.ids.items self.new.ids.items }
         ensures asked { q.Asks id now self.old.asked self.new.asked }
@@ -58,7 +58,7 @@ impl Queue {
         }
     }
 
-    /// One waits no more.
+    /// One no longer waits.
     pub fn leave(&mut self, id: u32)
         ensures { self.new.ids.items ≡ filter (λ other. not (other == id)) self.old.ids.items }
     {
@@ -90,7 +90,7 @@ fn asks(id: u32, now: u64, asked: &BTreeMap<u32, u64>, other: u32) -> bool
     }
 }
 
-/// When it asked isn't known any more.
+/// Forgets when it asked.
 fn forget(asked: &mut BTreeMap<u32, u64>, id: u32) {
     let _ = asked.remove(&id);
 }

@@ -14,7 +14,7 @@ use Rattle.lmtp.specs.declared.argument.ArgumentFault.TheVariants.{Syntax, Addre
 abbrev pub max_address : ℕ
 max_address = 1024
 
--- a text that begins with a word, in upper or lower case, and what stands behind it
+-- a text that begins with a word, in upper or lower case, and what follows it
 pub record IsAfter (word text rest : List ℕ) : Type 0 where
   pub front : List ℕ
   pub is : IsWord word front
@@ -27,7 +27,7 @@ TakesSender address = length address ≤ max_address
 abbrev pub TakesRecipient : List ℕ → Type 0
 TakesRecipient address = (length address ≤ max_address) × (address ≢ [])
 
--- `FROM:` or `TO:`, a path with such an address, and what stands behind it
+-- `FROM:` or `TO:`, a path with such an address, and what follows it
 pub record IsAddressed (word : List ℕ) (Takes : List ℕ → Type 0) (argument address rest : List ℕ) : Type 0 where
   pub path : List ℕ
   pub after : IsAfter word argument path
@@ -46,13 +46,13 @@ RefusesAddress word Takes argument Parameter = ⊥
 abbrev pub to_word : List ℕ
 to_word = codes "TO:"
 
--- a recipient, and nothing behind its path; no parameter of RCPT is known
+-- a recipient, and nothing after its path; no parameter of RCPT is known
 abbrev pub ReadsRecipient : List ℕ → Result (List ℕ) ArgumentFault → Type 0
 ReadsRecipient argument (Ok address) = IsAddressed to_word TakesRecipient argument address []
 ReadsRecipient argument (Err Parameter) = (address rest : List ℕ) × IsAddressed to_word TakesRecipient argument address rest × (rest ≢ [])
 ReadsRecipient argument (Err fault) = RefusesAddress to_word TakesRecipient argument fault
 
--- the octets that a result has, without where they stand
+-- the octets that a result has, without where they are
 abbrev pub octets_of : {F : Type 0} → Result (Bor (List ℕ)) F → Result (List ℕ) F
 octets_of (Ok octets) = Ok octets.now
 octets_of (Err fault) = Err fault
@@ -79,7 +79,7 @@ abbrev pub IsParameter : List ℕ → Option ℕ → Type 0
 IsParameter text (Some size) = (digits : List ℕ) × IsAfter (codes "SIZE=") text digits × IsSize digits size
 IsParameter text None = IsWord (codes "BODY=7BIT") text ⊎ (IsWord (codes "BODY=8BITMIME") text ⊎ IsWord (codes "SMTPUTF8") text)
 
--- the later size, where there is one
+-- the later size, if there is one
 abbrev pub or_earlier : Option ℕ → Option ℕ → Option ℕ
 or_earlier earlier None = earlier
 or_earlier earlier (Some size) = Some size

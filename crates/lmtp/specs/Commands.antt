@@ -26,7 +26,7 @@ IsWord word text = map to_ascii_lowercase text ≡ map to_ascii_lowercase word
 abbrev pub is_unspaced : ℕ → Bool
 is_unspaced octet = not (octet == 32)
 
--- nothing behind a command's word, or SP and what it is about, without blanks at its ends
+-- nothing after a command's word, or SP and what it is about, without blanks at its ends
 abbrev pub Argues : List ℕ → List ℕ → Type 0
 Argues tail argument = ((tail ≡ []) × (argument ≡ [])) ⊎ ((rest : List ℕ) × (tail ≡ 32 ∷ rest) × (argument ≡ trimmed rest))
 
@@ -43,7 +43,7 @@ pub record IsCommandLine (line : List ℕ) (verb : Verb) (argument : List ℕ) :
   pub is : IsWord (word_of verb) word
   pub splits : Splits line word argument
 
--- what stands behind the word, where SP is in front or nothing stands there
+-- what follows the word, if SP comes first or nothing does
 abbrev pub argument_in : List ℕ → List ℕ
 argument_in [] = []
 argument_in (octet ∷ rest) = trimmed rest

@@ -1,4 +1,4 @@
--- What is delivered to a recipient: the text behind two fields that tell where it came from and to whom it goes.
+-- What is delivered to a recipient: the text after two fields that tell where it came from and to whom it goes.
 use Rattle.std.specs.Prelude.{◌≡◌, ℕ, Bool, true, false, ◌&&◌, nat_eq, List, [], ◌∷◌, ◌++◌, codes, Option, Some, None}
 use Rattle.std.specs.Cmp.Lexicographic.{pointwise}
 use Rattle.std.specs.List.{list_any}
@@ -16,7 +16,7 @@ names_path (Some field) = pointwise nat_eq (lowered field.name) (codes "return-p
 abbrev pub is_path_line : List ℕ → Bool
 is_path_line line = names_path (field_of line)
 
--- such fields at the front of a text, and what stands behind them
+-- such fields at the start of a text, and what follows them
 abbrev pub BeginsWith : List (List ℕ) → List ℕ → List ℕ → Type 0
 BeginsWith [] text rest = (rest ≡ text) × ((line after : List ℕ) → CutsLogicalLine text line after → is_path_line line ≡ true → ⊥)
 BeginsWith (path ∷ paths) text rest = (after : List ℕ) × CutsLogicalLine text path after × (is_path_line path ≡ true) × BeginsWith paths after rest

@@ -1,9 +1,9 @@
--- How a dialogue stands that a server has with a client, and what comes first in it (RFC 2033, section 4; RFC 5321, section 4.1.4).
+-- The state of a server's dialogue with a client, and what comes first in it (RFC 2033, section 4; RFC 5321, section 4.1.4).
 use Rattle.std.specs.Prelude.{◌≡◌, ℕ, ◌<◌, ◌≤◌, List, [], ◌++◌, length}
 use Rattle.lmtp.specs.Lines.{IsLine, max_line}
 use Rattle.lmtp.specs.Texts.{with_end, IsText}
 
--- ---- how it stands
+-- ---- its state
 
 -- what goes on in it
 pub data Phase : Type 0 where
@@ -22,7 +22,7 @@ pub data Phase : Type 0 where
 
 pub record Dialogue : Type 0 where
   pub phase : Phase
-  -- the octets that came behind the items that were answered
+  -- the octets that came after the items that were answered
   pub unread : List ℕ
 
 -- a client was greeted
@@ -54,7 +54,7 @@ abbrev pub IsTextItem : Item → List ℕ → Type 0
 IsTextItem (Message text) octets = IsText octets text
 IsTextItem item octets = ⊥
 
--- octets that are an item where this goes on: lines, or a text behind a DATA that was accepted; while a recipient is asked for, and behind
+-- octets that are an item in this phase: lines, or a text after a DATA that was accepted; while a recipient is asked for, and after
 -- QUIT, nothing is read
 abbrev pub Spells : Phase → Item → List ℕ → Type 0
 Spells Greeted item octets = IsLineItem item octets
@@ -64,7 +64,7 @@ Spells (Sending sender left) item octets = IsTextItem item octets
 Spells (Asking sender taken address) item octets = ⊥
 Spells Over item octets = ⊥
 
--- an item, and what stands behind it
+-- an item, and what follows it
 pub record IsFirst (d : Dialogue) (item : Item) (rest : List ℕ) : Type 0 where
   pub octets : List ℕ
   pub spelled : Spells d.phase item octets

@@ -7,32 +7,32 @@ use Rattle.lmtp.specs.declared.line.Found.TheVariants.{Need, Line, TooLong}
 abbrev pub line_end : List ℕ
 line_end = 13 ∷ 10 ∷ []
 
--- no CRLF stands in a text
+-- a text has no CRLF
 abbrev pub HasNoLineEnd : List ℕ → Type 0
 HasNoLineEnd text = (front back : List ℕ) → text ≡ front ++ (line_end ++ back) → ⊥
 
--- a line without its CRLF: with the CR behind it it has no CRLF. A CR or an LF alone is an octet of the line
+-- a line without its CRLF: followed by a CR it has no CRLF. A CR or an LF alone is an octet of the line
 abbrev pub IsLine : List ℕ → Type 0
 IsLine line = HasNoLineEnd (line ++ 13 ∷ [])
 
--- the octets before the first line end of a stream, and what stands behind it
+-- the octets before the first line end of a stream, and what follows it
 pub record IsFirstLine (stream line rest : List ℕ) : Type 0 where
   pub whole : IsLine line
   pub written : stream ≡ line ++ (line_end ++ rest)
 
 -- ---- command lines
 
--- a command line has at most so many octets, with its CRLF
+-- a command line has at most this many octets, with its CRLF
 abbrev pub max_line : ℕ
 max_line = 2048
 
--- what stands first in a stream of command lines: no whole line yet, the octets of one, or more than a line may have
+-- what comes first in a stream of command lines: no whole line yet, the octets of one, or more than a line may have
 abbrev pub Finds : Found → List ℕ → Type 0
 Finds Need stream = HasNoLineEnd stream × (length stream < max_line)
 Finds (Line count) stream = IsFirstLine stream (take count stream) (drop (count + 2) stream) × (count + 2 ≤ max_line) × (count + 2 ≤ length stream)
 Finds TooLong stream = HasNoLineEnd (take max_line stream) × (max_line ≤ length stream)
 
--- so many octets of a line that is too long are dropped: those before its CRLF, or all but the last one, which may be a CR
+-- this many octets of a line that is too long are dropped: those before its CRLF, or all but the last one, which may be a CR
 abbrev pub Skips : ℕ → List ℕ → Type 0
 Skips count stream = (IsFirstLine stream (take count stream) (drop (count + 2) stream) × (count + 2 ≤ length stream)) ⊎ (HasNoLineEnd stream × (count ≡ length stream - 1))
 

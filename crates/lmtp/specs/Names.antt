@@ -11,11 +11,11 @@ use Rattle.lmtp.specs.declared.path.Quoting.TheVariants.{Outside, Inside, Escape
 
 -- ---- the parts of an address (RFC 5321, section 4.1.2)
 
--- an `@` outside quotation marks, with what stands before it and behind it
+-- an `@` outside quotation marks, with what comes before it and after it
 abbrev pub HasAt : List ℕ → List ℕ → List ℕ → Type 0
 HasAt address front back = IsAddress front × (address ≡ front ++ 64 ∷ back)
 
--- there is none, and the address is the local part; or the last one stands behind it
+-- there is none, and the address is the local part; or the last one comes after it
 abbrev pub Parts : List ℕ → List ℕ → List ℕ → Type 0
 Parts address local tail =
     ((local ≡ address) × (tail ≡ []) × ((front back : List ℕ) → HasAt address front back → ⊥))
@@ -31,7 +31,7 @@ unquoted Escaped (octet ∷ rest) = octet ∷ unquoted Inside rest
 
 -- ---- the forms of a name
 
--- what stands before the first `+`, where something does (subaddressing: RFC 5233)
+-- what comes before the first `+`, if anything does (subaddressing: RFC 5233)
 abbrev pub bare_length : List ℕ → ℕ
 bare_length text = prefix_len (λ octet. not (octet == 43)) text
 
@@ -42,7 +42,7 @@ without_detail text = if bare_length text == 0 then text else take (bare_length 
 abbrev pub with_form : List (List ℕ) → List ℕ → List (List ℕ)
 with_form forms form = cond (list_any (λ there. pointwise nat_eq there form) forms) forms (forms ++ form ∷ [])
 
--- as it stands, in lower case, without the detail, and both
+-- as it is, in lower case, without the detail, and both
 abbrev pub forms_of : List ℕ → List ℕ → List (List ℕ)
 forms_of name bare = with_form (with_form (with_form (name ∷ []) (lowered name)) bare) (lowered bare)
 
@@ -62,11 +62,11 @@ AreForms names address forms = (local tail : List ℕ) × Parts address local ta
 
 -- ---- laws
 
--- the name as it stands, in lower case, without the detail, or both
+-- the name as it is, in lower case, without the detail, or both
 abbrev pub IsForm : List ℕ → List ℕ → List ℕ → Type 0
 IsForm name bare form = (form ≡ name) ⊎ ((form ≡ lowered name) ⊎ ((form ≡ bare) ⊎ (form ≡ lowered bare)))
 
--- no form stands behind itself
+-- no form comes again after itself
 abbrev pub AreApart : List (List ℕ) → Type 0
 AreApart [] = Unit {0}
 AreApart (form ∷ others) = (All (λ other. other ≢ form) others) × AreApart others
@@ -79,7 +79,7 @@ pub record FormsStand : Type 0 where
 
 -- ---- how the parts are found
 
--- an octet more was looked at: where it is an `@` outside quotation marks, the local part ends there
+-- one more octet was looked at: if it is an `@` outside quotation marks, the local part ends there
 abbrev pub EndsLocal : ℕ → ℕ → Quoting → ℕ → ℕ → Type 0
 EndsLocal count at quoting octet found =
     ((quoting ≡ Outside) × (octet ≡ 64) × (found ≡ at)) ⊎ (((quoting ≡ Outside) × (octet ≡ 64) → ⊥) × (found ≡ count))

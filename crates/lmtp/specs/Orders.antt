@@ -23,7 +23,7 @@ Nothing argument = argument ≡ []
 abbrev pub Something : List ℕ → Type 0
 Something argument = argument ≢ []
 
--- something else stands behind the word than may: no name, something where nothing may stand, or neither `FROM:` nor `TO:`
+-- something follows the word that may not: no name, something where nothing may follow, or neither `FROM:` nor `TO:`
 abbrev pub MisArgues : List ℕ → Type 0
 MisArgues line =
     Says line verb.Lhlo Nothing
@@ -51,7 +51,7 @@ ReadsOrder line order.Help = Says line verb.Help Anything
 ReadsOrder line order.Quit = Says line verb.Quit Nothing
 ReadsOrder line (order.Refused reply) = IsRefused line reply
 
--- ---- what stands behind a command's word
+-- ---- what follows a command's word
 
 abbrev pub ReadsName : List ℕ → Order → Type 0
 ReadsName argument (order.Lhlo name) = (name.now ≡ argument) × Something argument

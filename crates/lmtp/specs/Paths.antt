@@ -9,15 +9,15 @@ use Rattle.lmtp.specs.declared.path.Quoting.TheVariants.{Outside, Inside, Escape
 abbrev pub is_shown : ℕ → Bool
 is_shown octet = nat_le 32 octet && not (octet == 127)
 
--- one that stands outside quotation marks: none of SP, `"`, `<`, `>`, `\`
+-- one that may be outside quotation marks: none of SP, `"`, `<`, `>`, `\`
 abbrev pub is_plain : ℕ → Bool
 is_plain octet = is_shown octet && not (octet == 32 || octet == 34 || octet == 60 || octet == 62 || octet == 92)
 
--- one that stands between them without a backslash
+-- one that may be between them without a backslash
 abbrev pub is_quotable : ℕ → Bool
 is_quotable octet = is_shown octet && not (octet == 34 || octet == 92)
 
--- an address, from its front or from between quotation marks on
+-- an address, from its start or from between quotation marks on
 abbrev pub Stands : Quoting → List ℕ → Type 0
 Stands Outside [] = Unit {0}
 Stands Inside [] = ⊥
@@ -30,7 +30,7 @@ Stands Escaped (octet ∷ rest) = (is_shown octet ≡ true) × Stands Inside res
 abbrev pub IsAddress : List ℕ → Type 0
 IsAddress address = Stands Outside address
 
--- a source route: `@`, octets that stand outside quotation marks but `:`, and `:`. It is read and left out (RFC 5321, appendix C)
+-- a source route: `@`, octets that may be outside quotation marks but `:`, and `:`. It is read and left out (RFC 5321, appendix C)
 abbrev pub is_hop : ℕ → Bool
 is_hop octet = is_plain octet && not (octet == 58)
 
@@ -43,19 +43,19 @@ pub record IsRoute (route : List ℕ) : Type 0 where
 abbrev pub BeginsBare : List ℕ → Type 0
 BeginsBare address = (rest : List ℕ) → address ≡ 64 ∷ rest → ⊥
 
--- what stands behind a route, or all of a text without one; it doesn't begin with `@`
+-- what follows a route, or all of a text without one; it doesn't begin with `@`
 pub record FollowsRoute (text bare : List ℕ) : Type 0 where
   pub route : List ℕ
   pub routed : (route ≡ []) ⊎ IsRoute route
   pub written : text ≡ route ++ bare
   pub is : BeginsBare bare
 
--- what a text has behind an address: the first `>` outside quotation marks ends it
+-- what follows an address in a text: the first `>` outside quotation marks ends it
 pub record EndsAddress (text address rest : List ℕ) : Type 0 where
   pub is : IsAddress address
   pub written : text ≡ address ++ 62 ∷ rest
 
--- a text that begins with a path: `<`, perhaps a route, the address, `>`, and what stands behind it
+-- a text that begins with a path: `<`, perhaps a route, the address, `>`, and what follows it
 pub record IsPath (text address rest : List ℕ) : Type 0 where
   pub inner : List ℕ
   pub bare : List ℕ
@@ -63,7 +63,7 @@ pub record IsPath (text address rest : List ℕ) : Type 0 where
   pub follows : FollowsRoute inner bare
   pub ends : EndsAddress bare address rest
 
--- one octet of an address, and what may stand behind it: exactly what stands from there on
+-- one octet of an address, and what may follow it: exactly what holds from there on
 abbrev pub StepsTo : Quoting → ℕ → Option Quoting → Type 0
 StepsTo from octet (Some to) =
     ((rest : List ℕ) → Stands to rest → Stands from (octet ∷ rest)) × ((rest : List ℕ) → Stands from (octet ∷ rest) → Stands to rest)

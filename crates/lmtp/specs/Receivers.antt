@@ -25,7 +25,7 @@ use Rattle.lmtp.specs.declared.text.Trouble.TheVariants.{TooLarge, Memory}
 
 -- ---- what a receiver has heard
 
--- a stream that begins so: with these octets and more, or with a front of them
+-- a stream that begins so: with these octets and more, or with a prefix of them
 abbrev pub Agrees : List ℕ → List ℕ → Type 0
 Agrees octets stream = ((more : List ℕ) × (stream ≡ octets ++ more)) ⊎ ((more : List ℕ) × (octets ≡ stream ++ more))
 
@@ -33,7 +33,7 @@ Agrees octets stream = ((more : List ℕ) × (stream ≡ octets ++ more)) ⊎ ((
 abbrev pub JoinsNone : List ℕ → List ℕ → Type 0
 JoinsNone gone unread = (stream : List ℕ) → Agrees unread stream → HasNoLineEnd stream → HasNoLineEnd (gone ++ stream)
 
--- octets of a line which aren't held: none, or all but the last ones where there are too many
+-- octets of a line which aren't held: none, or all but the last ones if there are too many
 abbrev pub IsLineGone : Bool → List ℕ → List ℕ → Type 0
 IsLineGone false unread gone = gone ≡ []
 IsLineGone true unread gone = JoinsNone gone unread × (unread ≢ []) × (max_line < length gone + 2)
@@ -44,7 +44,7 @@ IsGone stage.Sending long text unread gone = (long ≡ false) × StandsFor text 
 IsGone stage.Over long text unread gone = Unit {0}
 IsGone other long text unread gone = IsLineGone long unread gone
 
--- these octets came behind the items that were answered
+-- these octets came after the items that were answered
 pub record HasHeard (r : Receiver) (octets : List ℕ) : Type 0 where
   pub gone : List ℕ
   pub is : IsGone r.talk.stage r.long r.talk.text r.unread gone
@@ -57,12 +57,12 @@ pub record Holds (r : Receiver) (d : Dialogue) : Type 0 where
   pub sound : IsSound r.talk
   pub limit : r.talk.text.limit ≡ max_text
 
--- of a line that has too many octets the last one is held, or its CRLF and what stands behind it
+-- of a line that has too many octets the last one is held, or its CRLF and what follows it
 abbrev pub IsLineTaken : Bool → List ℕ → Type 0
 IsLineTaken false unread = Finds TooLong unread → ⊥
 IsLineTaken true unread = ((octet : ℕ) × (unread ≡ octet ∷ [])) ⊎ ((rest : List ℕ) × (unread ≡ line_end ++ rest))
 
--- nothing of a text that goes on, and nothing behind QUIT
+-- nothing of a text that goes on, and nothing after QUIT
 abbrev pub IsTaken : Stage → Bool → Text → List ℕ → Type 0
 IsTaken stage.Sending long text unread = text.place ≢ Ended → unread ≡ []
 IsTaken stage.Over long text unread = unread ≡ []
@@ -106,15 +106,15 @@ pub record DoesFrom (Is : Dialogue → List ℕ → Dialogue → Type 0) (d : Di
   pub written : after ≡ before ++ said
   pub stands : StandsIn s next
 
--- it was found whether there is an account for the recipient that comes next, and the caller says it; where none does, nothing changes
+-- it was found whether there is an account for the recipient that comes next, and the caller says it; if none does, nothing changes
 abbrev pub Admits : Lookup → Receiver → Receiver → Type 0
 Admits lookup r s = (said : List ℕ) × Goes (λ d. Resolves d lookup) r s [] said
 
--- a reply is made to the next recipient to whom the message is to be delivered, whatever it says; where there is none, nothing changes
+-- a reply is made to the next recipient to whom the message is to be delivered, whatever it says; if there is none, nothing changes
 abbrev pub Passes : Receiver → Receiver → Type 0
 Passes r s = (outcome : Outcome) → (said : List ℕ) × Goes (λ d. Replies d outcome) r s [] said
 
--- where a text is sent, nothing of it is kept, and its recipients are told why
+-- if a text is sent, nothing of it is kept, and its recipients are told why
 abbrev pub IsDropped : Talk → Type 0
 IsDropped t = t.stage ≡ stage.Sending → (t.text.kept ≡ []) × IsSome t.text.trouble
 
@@ -181,7 +181,7 @@ Refuses room r s before after true = (d : Dialogue) → StandsIn r d → DoesFro
 Refuses room r s before after false =
     (s ≡ r) × (after ≡ before) × ((d : Dialogue) → StandsIn r d → (said : List ℕ) (next : Dialogue) → Declines room d said next → ⊥)
 
--- whether the line of so many octets that comes next is such a MAIL
+-- whether the line of this many octets that comes next is such a MAIL
 abbrev pub IsOver : ℕ → Receiver → ℕ → Bool → Type 0
 IsOver room r count over =
     ((r.long ≡ true) × (over ≡ false)) ⊎ ((r.long ≡ false) × ((asked : Order) × ReadsOrder (take count r.unread) asked × (over ≡ lacks_room room (size_of asked))))

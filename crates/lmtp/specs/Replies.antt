@@ -1,4 +1,4 @@
--- What is answered (RFC 5321, sections 4.2 and 4.3.2; the codes behind the first: RFC 3463, RFC 2034).
+-- What is answered (RFC 5321, sections 4.2 and 4.3.2; the codes after the first: RFC 3463, RFC 2034).
 use Rattle.std.specs.Prelude.{◌≡◌, ℕ, ◌≤◌, Bool, true, false, if◌then◌else◌, List, [], ◌∷◌, ◌++◌, codes, length, map, take}
 use Rattle.std.specs.List.{list_all}
 use Rattle.octets.specs.Ascii.{is_printable}
@@ -80,13 +80,13 @@ HostsFaultsPass = (reply : Reply) → is_of_host reply ≡ true → first_octet 
 abbrev pub shown_octet : ℕ → ℕ
 shown_octet octet = if is_printable octet then octet else 63
 
--- so many octets of a text at most
+-- at most this many octets of a text
 abbrev pub shown : ℕ → List ℕ → List ℕ
 shown most text = map shown_octet (take most text)
 
 -- ---- what became of a message for one recipient
 
--- a line of an answer has at most so many octets, with its CRLF (RFC 5321, section 4.5.3.1.5), and so many of them are the report's
+-- a line of an answer has at most this many octets, with its CRLF (RFC 5321, section 4.5.3.1.5), and this many of them are the report's
 abbrev pub max_reply : ℕ
 max_reply = 512
 
@@ -114,14 +114,14 @@ RepliesAreLines = (outcome : Outcome) → IsOneLine (said_of outcome)
 
 -- ---- who greets, and what is announced to LHLO
 
--- a host's name has at most so many octets (RFC 1035, section 2.3.4)
+-- a host's name has at most this many octets (RFC 1035, section 2.3.4)
 abbrev pub max_host : ℕ
 max_host = 255
 
 abbrev pub greeting : List ℕ → List ℕ
 greeting host = codes "220 " ++ (shown max_host host ++ (codes " LMTP" ++ line_end))
 
--- an answer of several lines: each has the code, the last with a space behind it and the others with a hyphen (RFC 5321, section 4.2.1)
+-- an answer of several lines: each has the code, the last followed by a space and the others by a hyphen (RFC 5321, section 4.2.1)
 abbrev pub lines_of : List ℕ → List ℕ → List (List ℕ) → List ℕ
 lines_of code line [] = code ++ 32 ∷ (line ++ line_end)
 lines_of code line (next ∷ others) = code ++ 45 ∷ (line ++ (line_end ++ lines_of code next others))

@@ -9,7 +9,7 @@ use Rattle.lmtp.specs.declared.receiver.Stage.TheVariants as stage
 use Rattle.lmtp.specs.declared.talk.Talk.{Talk}
 use Rattle.lmtp.specs.declared.text.Text.{Text}
 
--- what goes on, by what is held: a recipient that is asked for stands behind those that were taken
+-- what goes on, by what is held: a recipient that is asked for comes after those that were taken
 abbrev pub phase_by : Stage → List ℕ → List (List ℕ) → ℕ → Phase
 phase_by stage.Greeted sender recipients told = Greeted
 phase_by stage.Ready sender recipients told = Ready
@@ -22,7 +22,7 @@ phase_by stage.Over sender recipients told = Over
 abbrev pub phase_of : Talk → Phase
 phase_of t = phase_by t.stage t.sender t.recipients t.told
 
--- no text was begun, but where one is sent
+-- no text was begun, unless one is sent
 abbrev pub IsSoundAt : Stage → Text → Type 0
 IsSoundAt stage.Sending text = Unit {0}
 IsSoundAt other text = StandsFor text []
@@ -37,7 +37,7 @@ pub record Obeys (turn : Turn) (t u : Talk) (before after : List ℕ) : Type 0 w
   pub hello : u.hello ≡ t.hello
   pub text : u.text ≡ t.text
 
--- the same, where another says it
+-- the same, if another says it
 abbrev pub Does : Turn → Talk → Talk → Type 0
 Does turn t u = Obeys turn t u [] turn.said
 
@@ -62,7 +62,7 @@ abbrev pub resolved_turn : Phase → Lookup → Turn
 resolved_turn (Asking sender taken address) lookup = says (reply_to lookup) (Opened sender (taken_by lookup taken address))
 resolved_turn phase lookup = record { said = []; phase = phase }
 
--- one reply was made behind a text
+-- one reply was made after a text
 abbrev pub phase_replied : Phase → Phase
 phase_replied (Sending sender (recipient ∷ next ∷ left)) = Sending sender (next ∷ left)
 phase_replied (Sending sender left) = Ready

@@ -1,4 +1,4 @@
--- The text of a message behind DATA, as it is sent (RFC 5321, section 4.5.2): its lines, a dot before each that begins with one, and a line
+-- The text of a message after DATA, as it is sent (RFC 5321, section 4.5.2): its lines, a dot before each that begins with one, and a line
 -- that is a dot alone.
 use Rattle.std.specs.Prelude.{◌≡◌, ◌≢◌, ℕ, ◌+◌, ◌<◌, ◌≤◌, ◌==◌, if◌then◌else◌, List, [], ◌∷◌, ◌++◌, length, Option, Some, None, Result, Ok, Err}
 use Rattle.std.specs.Borrow.{Bor}
@@ -16,7 +16,7 @@ use Rattle.lmtp.specs.declared.text.Trouble.TheVariants.{TooLarge, Memory}
 abbrev pub with_end : List ℕ → List ℕ
 with_end line = line ++ line_end
 
--- a line as it was before it was sent: a dot in front is taken off
+-- a line as it was before it was sent: a dot at its start is taken off
 abbrev pub undotted : List ℕ → List ℕ
 undotted [] = []
 undotted (octet ∷ rest) = if octet == 46 then rest else octet ∷ rest
@@ -26,7 +26,7 @@ pub record IsSentLine (line : List ℕ) : Type 0 where
   pub whole : IsLine line
   pub other : line ≢ 46 ∷ []
 
--- what is sent is these lines, and a dot alone; the text is the lines, each without a dot in front
+-- what is sent is these lines, and a dot alone; the text is the lines, each without a dot at its start
 pub record IsText (sent text : List ℕ) : Type 0 where
   pub lines : List (List ℕ)
   pub each : All IsSentLine lines
@@ -35,7 +35,7 @@ pub record IsText (sent text : List ℕ) : Type 0 where
 
 -- ---- the same octet by octet
 
--- where the next octet stands, after one that stood there
+-- where the next octet is, after one that was there
 abbrev pub after : Place → ℕ → Place
 after Start octet = if octet == 46 then Dot else (if octet == 13 then Return else Inside)
 after Dot octet = if octet == 13 then DotReturn else Inside
@@ -53,7 +53,7 @@ gained Inside octet = octet ∷ []
 gained Return octet = octet ∷ []
 gained Ended octet = []
 
--- where the next octet stands after these
+-- where the next octet is after these
 abbrev pub place_after : Place → List ℕ → Place
 place_after place [] = place
 place_after place (octet ∷ rest) = place_after (after place octet) rest
@@ -68,7 +68,7 @@ abbrev pub EndsAt : Place → List ℕ → Type 0
 EndsAt place [] = place ≡ Ended
 EndsAt place (octet ∷ rest) = (place ≢ Ended) × EndsAt (after place octet) rest
 
--- so many octets of it aren't kept yet though they may be of the text: a CR behind a dot, which may begin the end
+-- this many octets of it aren't kept yet though they may be of the text: a CR after a dot, which may begin the end
 abbrev pub put_by : Place → ℕ
 put_by DotReturn = 1
 put_by other = 0
@@ -81,12 +81,12 @@ pub record TextsAgree : Type 0 where
 
 -- ---- a text that comes in pieces
 
--- none of these octets stands behind the end
+-- none of these octets comes after the end
 abbrev pub RunsFrom : Place → List ℕ → Type 0
 RunsFrom place [] = Unit {0}
 RunsFrom place (octet ∷ rest) = (place ≢ Ended) × RunsFrom (after place octet) rest
 
--- what is kept of it; nothing where it is too large, or there was no memory for it
+-- what is kept of it; nothing if it is too large, or there was no memory for it
 abbrev pub Keeps : Text → List ℕ → Option Trouble → Type 0
 Keeps t text None = (t.kept ≡ text) × (length text ≤ t.limit)
 Keeps t text (Some TooLarge) = (t.kept ≡ []) × (t.limit < length text)

@@ -47,7 +47,7 @@ abbrev pub mail_turn : Phase → List ℕ → Option ℕ → Turn
 mail_turn Ready sender size = if is_too_large size then says reply.MessageTooLarge Ready else opened_turn sender
 mail_turn phase sender size = says reply.OutOfOrder phase
 
--- it is asked whether there is an account for one recipient more
+-- it is asked whether there is an account for one more recipient
 abbrev pub asked_for : Phase → List ℕ → Phase
 asked_for (Opened sender taken) address = Asking sender taken address
 asked_for phase address = phase
@@ -75,7 +75,7 @@ reset_turn phase = says reply.Done (phase_reset phase)
 abbrev pub quit_turn : Turn
 quit_turn = says reply.Goodbye Over
 
--- the turn of a command, where `hello` is said to LHLO
+-- the turn of a command, if `hello` is said to LHLO
 abbrev pub turn_of : List ℕ → Phase → Order → Turn
 turn_of hello phase (order.Lhlo name) = hello_turn hello
 turn_of hello phase (order.Mail mail) = mail_turn phase mail.from.now mail.size
@@ -116,7 +116,8 @@ abbrev pub lacks_room : ℕ → Option ℕ → Bool
 lacks_room room None = false
 lacks_room room (Some size) = nat_lt room size && nat_le size max_text
 
--- where a message of so many octets has room, the MAIL that comes first and may come now announces more: it is taken off and refused
+-- there is room for a message of this many octets, and the MAIL that comes first and may come now announces more: it is taken off and
+-- refused
 pub record Declines (room : ℕ) (d : Dialogue) (said : List ℕ) (e : Dialogue) : Type 0 where
   pub line : List ℕ
   pub rest : List ℕ
@@ -150,7 +151,7 @@ pub record Resolves (d : Dialogue) (lookup : Lookup) (said : List ℕ) (e : Dial
   pub told : said ≡ line_of (reply_to lookup)
   pub leaves : e ≡ record d { phase = Opened sender (taken_by lookup taken address) }
 
--- one recipient's reply is owed no more; with the last one the text is taken off
+-- one recipient's reply is no longer owed; with the last one the text is taken off
 abbrev pub replied : List ℕ → List (List ℕ) → Dialogue → List ℕ → Dialogue
 replied sender [] d rest = record { phase = Ready; unread = rest }
 replied sender (next ∷ left) d rest = record d { phase = Sending sender (next ∷ left) }

@@ -16,9 +16,9 @@ pub const MAX_ADDRESS: usize = 1024;
 pub enum ArgumentFault {
     /// It doesn't begin with `FROM:` or `TO:`.
     Syntax,
-    /// There is no path, or its address is too long, or that of a recipient is empty.
+    /// There is no path, or its address is too long, or it is a recipient's and empty.
     Address,
-    /// A parameter that isn't known, or has another value than it may have.
+    /// A parameter that isn't known, or has a value that it may not have.
     Parameter,
 }
 
@@ -47,7 +47,7 @@ pub fn read_recipient(argument: &[u8]) -> Result<&[u8], ArgumentFault>
 pub struct Mail<'a> {
     /// The sender's address; empty for that of a bounce.
     pub from: &'a [u8],
-    /// How many octets the message will have, where that is announced (RFC 1870).
+    /// How many octets the message will have, if that is announced (RFC 1870).
     pub size: Option<u64>,
 }
 
@@ -73,7 +73,7 @@ pub fn read_mail(argument: &[u8]) -> Result<Mail<'_>, ArgumentFault>
     }
 }
 
-// The last size among parameters, a SP before each.
+// The last size among parameters, each with a SP before it.
 fn read_parameters(rest: &[u8]) -> Result<Option<u64>, ArgumentFault>
     ensures { s.ReadsParameters rest.now None result }
 {
@@ -93,7 +93,7 @@ fn read_parameters(rest: &[u8]) -> Result<Option<u64>, ArgumentFault>
     Ok(size)
 }
 
-// The later size, where there is one.
+// The later size, if there is one.
 fn later(earlier: Option<u64>, here: Option<u64>) -> Option<u64>
     ensures { result ≡ s.or_earlier earlier here }
 {
@@ -123,7 +123,7 @@ fn read_parameter(text: &[u8]) -> Result<Option<u64>, ArgumentFault>
     Err(ArgumentFault::Parameter)
 }
 
-// The size that digits write; one of 2^64 and more counts as the greatest.
+// The size that digits write; one of 2^64 or more counts as the greatest.
 fn parse_size(digits: &[u8]) -> Option<u64>
     ensures found { IfSome result (λ size. s.IsSize digits.now size) }
     ensures none { IfNone result ((size : ℕ) → s.IsSize digits.now size → ⊥) }
@@ -158,7 +158,7 @@ fn takes_recipient(address: &[u8]) -> bool
     !address.is_empty() && address.len() <= MAX_ADDRESS
 }
 
-// What stands behind a word in front, whose letters may be in upper or lower case.
+// What follows a word at the start, whose letters may be in upper or lower case.
 fn after_word<'a>(text: &'a [u8], word: &[u8]) -> Option<&'a [u8]>
     ensures found { IfSome result (λ rest. s.IsAfter word.now text.now rest.now) }
     ensures none { IfNone result ((rest : List ℕ) → s.IsAfter word.now text.now rest → ⊥) }

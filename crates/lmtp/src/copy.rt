@@ -7,8 +7,8 @@ use mailhead::{Field, Head, logical_line, read_field, unfolded};
 use octets::{Octets, trim_blanks};
 use std::alloc::{AllocError, Global};
 
-/// One recipient's copy of a text: `Return-Path` and `Delivered-To` are added in front (RFC 5321, section 4.4), and fields
-/// `Return-Path` at its front are left out. An address of 1,024 octets at most keeps the two lines below 2,200.
+/// One recipient's copy of a text: `Return-Path` and `Delivered-To` are added at its start (RFC 5321, section 4.4), and fields
+/// `Return-Path` at its start are left out. An address of 1,024 octets at most keeps the two lines below 2,200.
 ///
 /// Lack of memory is the only error. Time is linear in the octets of the text.
 pub fn copy_for(
@@ -38,7 +38,7 @@ fn add_fields(copy: &mut Octets, sender: &[u8], recipient: &[u8]) -> Result<(), 
     Ok(())
 }
 
-// What stands behind the fields `Return-Path` at its front.
+// What follows the fields `Return-Path` at its start.
 fn without_paths(text: &[u8]) -> &[u8]
     ensures { s.LeavesPaths text.now result.now }
 {
@@ -63,7 +63,7 @@ fn is_path(line: &[u8]) -> bool
 }
 
 /// Whether a message was delivered to that recipient before: it has a field `Delivered-To` with this address, but for upper and lower
-/// case. A message that goes round in a circle is known by that.
+/// case. A mail loop is recognized by that.
 ///
 /// Lack of memory is the only error. Time is linear in the octets of the header.
 pub fn was_delivered(alloc: Global, head: &Head<'_>, recipient: &[u8]) -> Result<bool, AllocError>

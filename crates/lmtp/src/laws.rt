@@ -11,7 +11,7 @@ pub fn texts_agree()
     ensures { TextsAgree }
 {}
 
-/// What stands first in a stream of command lines is one, and stays the same whatever octets follow.
+/// What comes first in a stream of command lines is one, and stays the same whatever octets follow.
 pub fn lines_stand()
     ensures { LinesStand }
 {}
@@ -36,7 +36,7 @@ pub fn replies_are_lines()
     ensures { RepliesAreLines }
 {}
 
-/// An address has one local part. Each form of a name is the name as it stands, in lower case, without the detail, or both, and none
+/// An address has one local part. Each form of a name is the name as it is, in lower case, without the detail, or both, and none
 /// is there twice.
 pub fn forms_stand()
     ensures { FormsStand }

@@ -7,18 +7,18 @@ use memchr::memmem;
 /// The most octets of a command line, with its CRLF.
 pub const MAX_LINE: usize = 2048;
 
-/// What stands first in a stream of command lines.
+/// What comes first in a stream of command lines.
 #[derive(Clone, Copy, Debug, PartialEq, Eq)]
 pub enum Found {
     /// No whole line yet.
     Need,
-    /// A line of so many octets, and its CRLF.
+    /// A line of this many octets, and its CRLF.
     Line(usize),
     /// More octets than a line may have.
     TooLong,
 }
 
-/// What stands first in the octets of a client. Looks at 2,048 of them at most; takes no memory.
+/// What comes first in the octets of a client. Looks at 2,048 of them at most; takes no memory.
 pub fn first_line(octets: &[u8]) -> Found
     ensures { Finds result octets.now }
 {

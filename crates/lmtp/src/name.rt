@@ -16,7 +16,7 @@ pub enum Names {
     Whole,
 }
 
-/// The names under which the account of a recipient is looked for, in this order and none twice: as it stands, in lower case, without
+/// The names under which the account of a recipient is looked for, in this order and none twice: as it is, in lower case, without
 /// `+detail`, and both.
 ///
 /// Lack of memory is the only error. Time is linear in the octets of the address.
@@ -64,7 +64,7 @@ fn forms_of(alloc: Global, name: &[u8], bare: &[u8]) -> Result<Texts, AllocError
     Ok(forms)
 }
 
-// One form more, unless it is there.
+// Adds a form, unless it is there.
 fn add_form(forms: &mut Texts, form: Octets) -> Result<(), AllocError>
     ensures { OnOk result (forms.new ≡ s.with_form forms.old form) }
 {
@@ -74,7 +74,7 @@ fn add_form(forms: &mut Texts, form: Octets) -> Result<(), AllocError>
     forms.push(form)
 }
 
-// What stands before the first `+`, where something does.
+// What comes before the first `+`, if anything does.
 fn without_detail(text: &[u8]) -> &[u8]
     ensures { result.now ≡ s.without_detail text.now }
 {
@@ -136,7 +136,7 @@ fn local_length(address: &[u8]) -> usize
     count
 }
 
-// Where the local part ends, by an octet more.
+// Where the local part ends, after one more octet.
 fn local_end(count: usize, at: usize, quoting: Quoting, octet: u8) -> usize
     ensures { s.EndsLocal count at quoting octet result }
 {

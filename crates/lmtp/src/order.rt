@@ -83,7 +83,7 @@ fn order_of_recipient(argument: &[u8]) -> Order<'_>
     }
 }
 
-// A command behind whose word nothing may stand.
+// A command after whose word nothing may follow.
 fn alone<'a>(argument: &[u8], order: Order<'a>) -> Order<'a>
     ensures { s.ReadsAlone argument.now order.entry result }
 {

@@ -4,14 +4,14 @@ ghost use Rattle.std.specs.List.{prefix_len};
 ghost use Rattle.lmtp.specs.declared.path.Quoting.TheVariants.{Outside as outside};
 ghost use Rattle.lmtp.specs.Paths as s;
 
-/// Whether the next octet of an address stands between quotation marks.
+/// Whether the next octet of an address is between quotation marks.
 #[derive(Clone, Copy, Debug, PartialEq, Eq)]
 pub enum Quoting {
-    /// It doesn't.
+    /// It isn't.
     Outside,
-    /// It does.
+    /// It is.
     Inside,
-    /// It does, behind a backslash.
+    /// It is, after a backslash.
     Escaped,
 }
 
@@ -26,7 +26,7 @@ impl Quoting {
         }
     }
 
-    // Where the octet behind this one stands; none where this one may not stand here.
+    // The state after this octet; none if this octet may not come here.
     pub(crate) fn after(self, octet: u8) -> Option<Quoting>
         ensures { s.StepsTo self octet result }
     {
@@ -48,14 +48,14 @@ fn is_shown(octet: u8) -> bool
     octet >= 32 && octet != 127
 }
 
-// One that stands outside quotation marks.
+// An octet that may be outside quotation marks.
 fn is_plain(octet: u8) -> bool
     ensures { result ≡ s.is_plain octet }
 {
     is_shown(octet) && !matches!(octet, b' ' | b'"' | b'<' | b'>' | b'\\')
 }
 
-// How many octets the address has that a text begins with, up to the first `>` outside quotation marks; none where it begins with
+// How many octets the address has that a text begins with, up to the first `>` outside quotation marks; none if it begins with
 // none.
 fn address_length(text: &[u8]) -> Option<usize>
     ensures found { IfSome result (λ count. (count + 1 ≤ length text.now) × s.EndsAddress text.now (take count text.now) (drop (count + 1) text.now)) }
@@ -74,16 +74,16 @@ fn address_length(text: &[u8]) -> Option<usize>
     None
 }
 
-/// A path and what stands behind it.
+/// A path and what follows it.
 #[derive(Clone, Copy)]
 pub struct Path<'a> {
     /// The address between `<` and `>`, as it is written; empty for `<>`. A source route is left out.
     pub address: &'a [u8],
-    /// The octets behind `>`.
+    /// The octets after `>`.
     pub rest: &'a [u8],
 }
 
-/// The path that a text begins with (RFC 5321, section 4.1.2); none where it begins with none. One pass; takes no memory.
+/// The path that a text begins with (RFC 5321, section 4.1.2); none if it begins with none. One pass; takes no memory.
 pub fn read_path(text: &[u8]) -> Option<Path<'_>>
     ensures found { IfSome result (λ path. s.IsPath text.now path.address.now path.rest.now) }
     ensures none { IfNone result ((address rest : List ℕ) → s.IsPath text.now address rest → ⊥) }
@@ -103,7 +103,7 @@ pub fn read_path(text: &[u8]) -> Option<Path<'_>>
     })
 }
 
-// What stands behind a route, or all where there is none; none where an `@` in front begins no route, or stands behind one.
+// What follows a route, or all if there is none; none if an `@` at the start begins no route, or follows one.
 fn after_route(text: &[u8]) -> Option<&[u8]>
     ensures found { IfSome result (λ bare. s.FollowsRoute text.now bare.now) }
     ensures none { IfNone result ((bare : List ℕ) → s.FollowsRoute text.now bare → ⊥) }
@@ -121,7 +121,7 @@ fn after_route(text: &[u8]) -> Option<&[u8]>
     }
 }
 
-// What stands behind that octet in front.
+// What follows that octet at the start.
 pub(crate) fn strip(text: &[u8], wanted: u8) -> Option<&[u8]>
     ensures found { IfSome result (λ rest. text.now ≡ wanted ∷ rest.now) }
     ensures none { IfNone result ((rest : List ℕ) → text.now ≡ wanted ∷ rest → ⊥) }
@@ -132,7 +132,7 @@ pub(crate) fn strip(text: &[u8], wanted: u8) -> Option<&[u8]>
     }
 }
 
-// How many octets in front may stand in a route's hops.
+// How many octets at the start may be in a route's hops.
 fn hop_length(text: &[u8]) -> usize
     ensures value { result ≡ prefix_len s.is_hop text.now }
     ensures within { result ≤ length text.now }
@@ -140,7 +140,7 @@ fn hop_length(text: &[u8]) -> usize
     text.iter().take_while(|octet| is_hop(**octet)).count()
 }
 
-// One that stands in a route's hops.
+// One that may be in a route's hops.
 fn is_hop(octet: u8) -> bool
     ensures { result ≡ s.is_hop octet }
 {

@@ -32,7 +32,7 @@ pub enum Stage {
     Over,
 }
 
-/// What was found of the account of a recipient.
+/// What was found about the account of a recipient.
 #[derive(Clone, Copy, Debug, PartialEq, Eq)]
 pub enum Lookup {
     /// There is one.
@@ -41,7 +41,7 @@ pub enum Lookup {
     Unknown,
     /// It can't be looked for now, since another process has the store.
     Away,
-    /// Nor for another fault of this host.
+    /// Nor because of another fault of this host.
     Fault,
     /// Nor for lack of memory.
     NoRoom,
@@ -78,7 +78,7 @@ pub enum Next<'a> {
 /// 1,000 recipients of 1,024 octets. Octets of a line that is too long, and of a text that is too large, are dropped as they come.
 #[derive(Drop)]
 pub struct Receiver {
-    // Octets that came, but for those that are taken in already.
+    // Octets that came, except for those that are taken in already.
     pub(crate) unread: Pending,
     // The line that comes first has too many octets, and those before `unread` were dropped.
     pub(crate) long: bool,
@@ -101,10 +101,10 @@ impl Lookup {
 }
 
 impl Receiver {
-    /// A new dialogue, whose greeting joins the output. Of the host's name 255 octets are shown, with `?` for each that isn't printable
-    /// ASCII.
+    /// A new dialogue, whose greeting is appended to the output. Of the host's name 255 octets are shown, with `?` for each that isn't
+    /// printable ASCII.
     ///
-    /// Lack of memory is the only error, and the output then stays.
+    /// Lack of memory is the only error; the output then stays as it was.
     pub fn new(alloc: Global, host: &[u8], out: &mut Octets) -> Result<Receiver, AllocError>
         ensures begins { IfOk result (λ receiver. s.StandsIn receiver new_dialogue) }
         ensures empty { IfOk result (λ receiver. s.held_by receiver ≡ 0) }
@@ -130,7 +130,7 @@ impl Receiver {
         })
     }
 
-    /// Octets of the client come. Where memory is lacking for a text that is sent, the text is dropped and the call succeeds.
+    /// Takes octets of the client. If memory is lacking for a text that is sent, the text is dropped and the call succeeds.
     ///
     /// Lack of memory is the only error; nothing changes then. Time is linear in the octets of the piece, and in those that are unread.
     pub fn give(&mut self, piece: &[u8]) -> Result<(), AllocError>
@@ -144,7 +144,7 @@ impl Receiver {
         Ok(())
     }
 
-    /// What comes next. Takes no memory, and constant time: of a line 2,048 octets at most are looked at.
+    /// What comes next. Takes no memory, and constant time: of a line at most 2,048 octets are looked at.
     pub fn next(&self) -> Next<'_>
         ensures { (d : Dialogue) → s.StandsIn self.now d → s.ComesNext d result }
     {
@@ -176,7 +176,7 @@ impl Receiver {
         Next::Delivery(self.talk.delivery())
     }
 
-    /// The line that comes next is taken off and answered; where none does, nothing changes.
+    /// Takes off and answers the line that comes next; if none does, nothing changes.
     ///
     /// Lack of memory is the only error; nothing changes then.
     pub fn answer(&mut self, out: &mut Octets) -> Result<(), AllocError>
@@ -211,8 +211,8 @@ impl Receiver {
         Ok(())
     }
 
-    /// Where the line that comes next is a MAIL which may come now, and which announces more than `room` octets (RFC 1870), it is taken off and
-    /// refused for lack of room (452 4.3.1), and the answer is true; else nothing changes. One that announces more than a message may have
+    /// If the line that comes next is a MAIL which may come now, and which announces more than `room` octets (RFC 1870), takes it off and
+    /// refuses it for lack of room (452 4.3.1), and returns true; otherwise nothing changes. One that announces more than a message may have
     /// is left to `answer`, and so is one that announces nothing.
     ///
     /// Lack of memory is the only error; nothing changes then.
@@ -247,7 +247,7 @@ impl Receiver {
         Ok(true)
     }
 
-    // Whether the line of so many octets that comes next is a MAIL for whose size there is no room.
+    // Whether the line of this many octets that comes next is a MAIL for whose size there is no room.
     fn is_over(&self, count: usize, room: u64) -> bool
         requires { count ≤ length self.now.unread }
         ensures { s.IsOver room self.now count result }
@@ -259,7 +259,7 @@ impl Receiver {
         is_over_room(size_of(order), room)
     }
 
-    /// It is told whether there is an account for the recipient that comes next; where none does, nothing changes.
+    /// Is told whether there is an account for the recipient that comes next; if none does, nothing changes.
     ///
     /// Lack of memory is the only error; nothing changes then.
     pub fn resolve(&mut self, lookup: Lookup, out: &mut Octets) -> Result<(), AllocError>
@@ -277,7 +277,7 @@ impl Receiver {
         }
     }
 
-    /// The same, where the caller says the line, which `Lookup::reply` gives. Takes no memory, so that room can be had before it is asked.
+    /// The same, but the caller says the line, which `Lookup::reply` gives. Takes no memory, so that it can be reserved before asking.
     pub fn admit(&mut self, lookup: Lookup)
         ensures goes { s.Admits lookup self.old self.new }
         ensures hello { self.new.talk.hello ≡ self.old.talk.hello }
@@ -289,8 +289,8 @@ impl Receiver {
         }
     }
 
-    /// It is told what became of the message for the recipient to whom it is to be delivered next; where there is none, nothing changes.
-    /// Behind the last one the message is dropped.
+    /// Is told what became of the message for the recipient to whom it is to be delivered next; if there is none, nothing changes.
+    /// After the last one the message is dropped.
     ///
     /// Lack of memory is the only error; nothing changes then.
     pub fn report(&mut self, outcome: Outcome<'_>, out: &mut Octets) -> Result<(), AllocError>
@@ -321,7 +321,7 @@ impl Receiver {
     }
 
     /// A reply was made for the recipient to whom the message is to be delivered next: the caller says it, as `Outcome::line` gives it.
-    /// Where there is none, nothing changes. Takes no memory, so that room can be had before the message is delivered.
+    /// If there is none, nothing changes. Takes no memory, so that it can be reserved before the message is delivered.
     pub fn pass(&mut self)
         ensures goes { s.Passes self.old self.new }
         ensures hello { self.new.talk.hello ≡ self.old.talk.hello }
@@ -346,8 +346,8 @@ impl Receiver {
         self.take_in();
     }
 
-    /// A text that is sent, or was, isn't kept any more: memory is lacking for it. It is heard to its end, and the deliveries have no
-    /// text then. Where none is sent, nothing changes. Takes no memory.
+    /// Drops a text that is sent, or was, because memory is lacking for it. It is read to its end, and the deliveries have no
+    /// text then. If none is sent, nothing changes. Takes no memory.
     pub fn drop_text(&mut self)
         ensures stands { (d : Dialogue) → s.StandsIn self.old d → s.StandsIn self.new d }
         ensures dropped { s.IsDropped self.new.talk }
@@ -375,7 +375,7 @@ impl Receiver {
         self.talk.stage
     }
 
-    // What can't wait is taken in: octets of a text, those of a line that is too long, and what comes behind QUIT.
+    // Takes in what can't wait: octets of a text, those of a line that is too long, and what comes after QUIT.
     fn take_in(&mut self)
         ensures takes { s.TakesIn self.old self.new }
         ensures talk { self.new.talk.hello ≡ self.old.talk.hello }
@@ -411,7 +411,7 @@ impl Receiver {
         }
     }
 
-    // Octets of a line that is too long are dropped.
+    // Drops octets of a line that is too long.
     fn drop_line(&mut self)
         requires lines { s.takes_lines self.old.talk.stage ≡ true }
         requires long { (self.old.long ≡ true) ⊎ Finds Found.TooLong self.old.unread }

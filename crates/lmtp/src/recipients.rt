@@ -35,7 +35,7 @@ impl Recipients {
         self.addresses.len()
     }
 
-    /// The address at that place, counted from 0.
+    /// The address at that index, counted from 0.
     pub fn address(&self, at: usize) -> &[u8]
         requires { at < length self.now }
         ensures { result.now ≡ slice_index_or self.now at [] }
@@ -43,7 +43,7 @@ impl Recipients {
         self.addresses[at].as_slice()
     }
 
-    /// One more, behind the others; without memory they stay as they were.
+    /// Adds one at the end; without memory they stay as they were.
     pub fn push(&mut self, address: Octets) -> Result<(), AllocError>
         ensures ok { OnOk result (self.new ≡ self.old ++ address ∷ []) }
         ensures err { OnErr result (self.new ≡ self.old) }
@@ -54,7 +54,7 @@ impl Recipients {
         }
     }
 
-    /// Those behind the first so many are dropped. Takes no memory.
+    /// Keeps the first `count` of them. Takes no memory.
     pub fn truncate(&mut self, count: usize)
         ensures { self.new ≡ take count self.old }
     {

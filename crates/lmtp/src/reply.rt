@@ -11,7 +11,7 @@ const MAX_HOST: usize = 255;
 /// The most octets of a report: its line has 512 with code and CRLF (RFC 5321, section 4.5.3.1.5).
 const MAX_REPORT: usize = 500;
 
-/// What LHLO is answered behind the host's name.
+/// What LHLO is answered after the host's name.
 const ANNOUNCED: &[u8] =
     b"\r\n250-PIPELINING\r\n250-SIZE 33552232\r\n250-8BITMIME\r\n250-SMTPUTF8\r\n250 ENHANCEDSTATUSCODES\r\n";
 
@@ -32,13 +32,13 @@ pub enum Reply {
     Helped,
     /// To QUIT.
     Goodbye,
-    /// No command's word stands first.
+    /// No command's word comes first.
     UnknownCommand,
     /// To HELO and EHLO.
     NotSmtp,
     /// A line of more than 2,048 octets.
     LineTooLong,
-    /// Something else stands behind a command's word than may.
+    /// Something follows a command's word that may not.
     BadArgument,
     /// The path of MAIL.
     BadSender,
@@ -56,7 +56,7 @@ pub enum Reply {
     AccountClosed,
     /// The message has more octets than are taken.
     MessageTooLarge,
-    /// Its header has.
+    /// Its header has more octets than are taken.
     HeaderTooLarge,
     /// The message was delivered to this recipient before.
     MailLoop,
@@ -162,7 +162,7 @@ pub fn capabilities(alloc: Global, host: &[u8]) -> Result<Octets, AllocError>
     Ok(lines)
 }
 
-// So many octets of a text, with `?` for each that isn't printable.
+// At most this many octets of a text, with `?` for each that isn't printable.
 fn shown(alloc: Global, most: usize, text: &[u8]) -> Result<Octets, AllocError>
     ensures { IfOk result (λ shown. shown ≡ s.shown most text.now) }
 {

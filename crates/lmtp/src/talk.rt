@@ -1,4 +1,4 @@
-//! What goes on in a dialogue, but for what its client has sent: what a command does.
+//! What goes on in a dialogue, apart from what its client has sent: what a command does.
 ghost use Rattle.std.specs.Prelude.{◌≡◌, ◌<◌, length};
 ghost use Rattle.lmtp.specs.declared.receiver.Stage.TheVariants.{Asking as asking, Sending as sending};
 ghost use Rattle.lmtp.specs.Turns.{is_too_large as too_large};
@@ -27,9 +27,9 @@ pub struct Talk {
     pub(crate) stage: Stage,
     /// The sender of the transaction that is open, or of the message that is sent.
     pub(crate) sender: Octets,
-    /// Its recipients that were taken, and the one that is asked for behind them.
+    /// Its recipients that were taken, and after them the one that is asked for.
     pub(crate) recipients: Recipients,
-    /// For so many of them a reply was made behind the text.
+    /// For how many of them a reply was made after the text.
     pub(crate) told: usize,
     pub(crate) text: Text,
     // One is asked for.
@@ -45,7 +45,7 @@ impl Talk {
     ghost use Rattle.lmtp.specs.Texts.{IsTextOf};
     ghost use Rattle.lmtp.specs.Turns.{says, turn_of, hello_turn, opened_turn, mail_turn, asked_for, rcpt_turn, data_turn, reset_turn, quit_turn, phase_reset};
 
-    /// A command is obeyed, and answered where nothing has to be asked first.
+    /// Obeys a command, and answers it if nothing has to be asked first.
     ///
     /// Lack of memory is the only error; nothing changes then.
     pub fn obey(&mut self, order: Order<'_>, out: &mut Octets) -> Result<(), AllocError>
@@ -66,7 +66,7 @@ impl Talk {
         }
     }
 
-    // A line is said, and nothing else happens.
+    // Says a line; nothing else happens.
     pub fn say(&mut self, reply: Reply, out: &mut Octets) -> Result<(), AllocError>
         ensures ok { OnOk result (s.Obeys (says reply (s.phase_of self.old)) self.old self.new out.old out.new) }
         ensures err { OnErr result (s.IsSame self.old self.new out.old out.new) }
@@ -74,7 +74,7 @@ impl Talk {
         out.extend_from_slice(reply.line())
     }
 
-    // No transaction is open.
+    // Closes the transaction.
     fn drop_mail(&mut self)
         ensures phase { s.phase_of self.new ≡ phase_reset (s.phase_of self.old) }
         ensures same { (self.new.hello ≡ self.old.hello) × (self.new.text ≡ self.old.text) }
@@ -125,7 +125,7 @@ impl Talk {
         }
     }
 
-    // A transaction begins.
+    // Begins a transaction.
     fn begin(&mut self, sender: &[u8], out: &mut Octets) -> Result<(), AllocError>
         ensures ok { OnOk result (s.Obeys (opened_turn sender.now) self.old self.new out.old out.new) }
         ensures err { OnErr result (s.IsSame self.old self.new out.old out.new) }
@@ -152,7 +152,7 @@ impl Talk {
         }
     }
 
-    // It is asked whether there is an account for one recipient more.
+    // Asks whether there is an account for one more recipient.
     fn wait_for(&mut self, address: &[u8]) -> Result<(), AllocError>
         requires opened { self.old.stage ≡ Stage.Opened }
         ensures ok { OnOk result (s.phase_of self.new ≡ asked_for (s.phase_of self.old) address.now) }
@@ -189,7 +189,7 @@ impl Talk {
         Ok(())
     }
 
-    /// A line is obeyed; `long`, where it has too many octets.
+    /// Obeys a line; `long`, if it has too many octets.
     pub fn obey_line(&mut self, long: bool, line: &[u8], out: &mut Octets) -> Result<(), AllocError>
         ensures ok { OnOk result (s.TakesTurn (s.item_by long line.now) self.old self.new out.old out.new) }
         ensures err { OnErr result (s.IsSame self.old self.new out.old out.new) }
@@ -215,7 +215,7 @@ impl Talk {
         Ok(())
     }
 
-    /// The same, where the caller says the line.
+    /// The same, but the caller says the line.
     pub fn admit(&mut self, lookup: Lookup)
         requires asked { self.old.stage ≡ Stage.Asking }
         requires some { 0 < length self.old.recipients }
@@ -228,7 +228,7 @@ impl Talk {
         self.stage = Stage::Opened;
     }
 
-    /// A reply is made behind the text, for the next recipient to whom one is owed.
+    /// Makes a reply after the text, for the next recipient to whom one is owed.
     ///
     /// Lack of memory is the only error; nothing changes then.
     pub fn report(&mut self, outcome: Outcome<'_>, out: &mut Octets) -> Result<(), AllocError>
@@ -243,7 +243,7 @@ impl Talk {
         Ok(())
     }
 
-    /// A reply was made behind the text, for the next recipient to whom one is owed.
+    /// A reply was made after the text, for the next recipient to whom one is owed.
     pub fn pass(&mut self)
         requires sends { self.old.stage ≡ Stage.Sending }
         requires owed { self.old.told < length self.old.recipients }

@@ -7,18 +7,18 @@ use memchr::memchr;
 use octets::Octets;
 use std::alloc::Global;
 
-/// Where the next octet of a text stands.
+/// Where the next octet of a text is.
 #[derive(Clone, Copy, Debug, PartialEq, Eq)]
 pub enum Place {
-    /// At a line's front.
+    /// At the start of a line.
     Start,
-    /// Behind a dot at a line's front.
+    /// After a dot at the start of a line.
     Dot,
-    /// Behind such a dot and a CR.
+    /// After such a dot and a CR.
     DotReturn,
     /// In a line.
     Inside,
-    /// Behind a CR in a line.
+    /// After a CR in a line.
     Return,
     /// The text has ended.
     Ended,
@@ -33,7 +33,7 @@ pub enum Trouble {
     Memory,
 }
 
-/// The text of a message, from the octets behind DATA up to the line that is a dot alone (RFC 5321, section 4.5.2). A line ends at
+/// The text of a message, from the octets after DATA up to the line that is a dot alone (RFC 5321, section 4.5.2). A line ends at
 /// CRLF: a CR or an LF alone is an octet of the text, and so is a NUL.
 #[derive(Drop)]
 pub struct Text {
@@ -45,7 +45,7 @@ pub struct Text {
 }
 
 impl Text {
-    /// A text of at most so many octets, before the first one. Takes no memory.
+    /// A text of at most this many octets, before the first one. Takes no memory.
     pub fn new(alloc: Global, limit: usize) -> Text
         ensures stands { s.StandsFor result [] }
         ensures empty { s.held_text result ≡ 0 }
@@ -70,7 +70,7 @@ impl Text {
         }
     }
 
-    /// How many octets it holds: those that are kept, and a CR behind a dot, which may begin the end. Constant time.
+    /// How many octets it holds: those that are kept, and a CR after a dot, which may begin the end. Constant time.
     pub fn held(&self) -> usize
         ensures value { result ≡ s.held_text self.now }
         ensures fits { result ≤ 2 ^ 63 }
@@ -89,9 +89,9 @@ impl Text {
         }
     }
 
-    /// Takes the octets of a piece in turn until the text has ended, and gives how many it took: all of them where it hasn't.
+    /// Takes the octets of a piece one by one until the text has ended, and returns how many it took: all of them if it hasn't ended.
     ///
-    /// Time is linear in the octets taken. Where there is no memory, or more octets than the limit, the text is dropped and the
+    /// Time is linear in the octets taken. If there is no memory, or there are more octets than the limit, the text is dropped and the
     /// others are taken as before.
     pub fn feed(&mut self, piece: &[u8]) -> usize
         ensures within { result ≤ length piece.now }
@@ -136,7 +136,7 @@ impl Text {
         }
     }
 
-    // Takes a run of octets in one step, or else one octet; none where there is none.
+    // Takes a run of octets in one step, or else one octet; none if there is none.
     fn feed_some(&mut self, octets: &[u8]) -> usize
         requires { self.old.place ≢ ended }
         ensures within { result ≤ length octets.now }
@@ -156,7 +156,7 @@ impl Text {
         1
     }
 
-    // Takes the octets before the next CR, where these are inside a line. Gives how many.
+    // Takes the octets before the next CR, if these are inside a line. Returns how many.
     fn feed_run(&mut self, octets: &[u8]) -> usize
         ensures within { result ≤ length octets.now }
         ensures feeds { s.Feeds self.old (take result octets.now) self.new }
@@ -183,7 +183,7 @@ impl Text {
         self.place = self.place.after(octet);
     }
 
-    // What the text has more after one octet joins it.
+    // Appends to the text what it has more after this octet.
     fn gain(&mut self, octet: u8)
         ensures keeps { (text : List ℕ) → s.Keeps self.old text self.old.trouble → s.Keeps self.new (text ++ s.gained self.old.place octet) self.new.trouble }
         ensures held { length self.new.kept + s.put_by (s.after self.old.place octet) ≤ s.held_text self.old + 1 }
@@ -201,7 +201,7 @@ impl Text {
         }
     }
 
-    // An octet joins the text, but that one.
+    // Appends an octet to the text, unless it is that one.
     fn append_unless(&mut self, octet: u8, but: u8)
         ensures keeps { (text : List ℕ) → s.Keeps self.old text self.old.trouble → s.Keeps self.new (text ++ (if octet == but then [] else octet ∷ [])) self.new.trouble }
         ensures held { length self.new.kept ≤ length self.old.kept + (if octet == but then 0 else 1) }
@@ -213,7 +213,7 @@ impl Text {
         }
     }
 
-    // Octets join the text, or it isn't kept.
+    // Appends octets to the text, or drops it.
     fn append(&mut self, octets: &[u8])
         ensures keeps { (text : List ℕ) → s.Keeps self.old text self.old.trouble → s.Keeps self.new (text ++ octets.now) self.new.trouble }
         ensures held { length self.new.kept ≤ length self.old.kept + length octets.now }
@@ -230,7 +230,7 @@ impl Text {
         }
     }
 
-    // It isn't kept any more: there is no memory for it, if there was no other trouble before.
+    // Drops the text: there is no memory for it, if there was no other trouble before.
     pub(crate) fn give_up(&mut self)
         ensures keeps { (text : List ℕ) → s.Keeps self.old text self.old.trouble → s.Keeps self.new text self.new.trouble }
         ensures dropped { (self.new.kept ≡ []) × IsSome self.new.trouble }
@@ -243,7 +243,7 @@ impl Text {
         }
     }
 
-    // The text isn't kept.
+    // Drops the text.
     fn drop_text(&mut self, trouble: Trouble)
         ensures kept { self.new.kept ≡ [] }
         ensures trouble { self.new.trouble ≡ Some trouble }
@@ -255,7 +255,7 @@ impl Text {
     }
 }
 
-// How many octets stand before the first CR.
+// How many octets come before the first CR.
 fn run_length(octets: &[u8]) -> usize
     ensures within { result ≤ length octets.now }
     ensures other { (j : ℕ) → j < result → (slice_index octets.now j == 13) ≡ true → ⊥ }
@@ -267,7 +267,7 @@ fn run_length(octets: &[u8]) -> usize
 }
 
 impl Place {
-    // Where the next octet stands, after one that stood here.
+    // Where the next octet is, after this one.
     fn after(self, octet: u8) -> Place
         ensures { result ≡ s.after self octet }
     {

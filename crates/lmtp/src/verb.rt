@@ -6,7 +6,7 @@ ghost use Rattle.lmtp.specs.Commands as s;
 
 use octets::trim_blanks;
 
-/// The word of a command (RFC 5321, section 4.1.1; RFC 2033, section 4.1). `HELO` and `EHLO` are those of SMTP, which LMTP hasn't.
+/// The word of a command (RFC 5321, section 4.1.1; RFC 2033, section 4.1). `HELO` and `EHLO` are SMTP's; LMTP doesn't have them.
 #[derive(Clone, Copy, Debug, PartialEq, Eq)]
 pub enum Verb {
     Lhlo,
@@ -22,15 +22,15 @@ pub enum Verb {
     Ehlo,
 }
 
-/// A command's word, and what stands behind it.
+/// A command's word, and what follows it.
 #[derive(Clone, Copy)]
 pub struct CommandLine<'a> {
     pub verb: Verb,
-    /// What stands behind the word, without blanks at its ends.
+    /// What follows the word, without blanks at its ends.
     pub argument: &'a [u8],
 }
 
-/// The command that a line is, without its CRLF; none where its first word is none. One pass; takes no memory.
+/// The command that a line is, without its CRLF; none if its first word is none. One pass; takes no memory.
 pub fn read_line(line: &[u8]) -> Option<CommandLine<'_>>
     ensures found { IfSome result (λ command. s.IsCommandLine line.now command.verb command.argument.now) }
     ensures none { IfNone result ((verb : VerbValue) (argument : List ℕ) → s.IsCommandLine line.now verb argument → ⊥) }
@@ -53,7 +53,7 @@ pub(crate) fn word_length(line: &[u8]) -> usize
     line.iter().take_while(|octet| **octet != b' ').count()
 }
 
-// What stands behind the word: nothing, or what follows the SP in front.
+// What follows the word: nothing, or what comes after the SP.
 fn argument_of(tail: &[u8]) -> &[u8]
     ensures { result.now ≡ s.argument_in tail.now }
 {

@@ -14,7 +14,7 @@ use Rattle.maildirs.specs.Spelling.{octet_of, written}
 abbrev pub is_inbox : List ℕ → Bool
 is_inbox name = str_eq_ignore_ascii_case name (codes "INBOX")
 
--- whether the octet stands at the front
+-- whether the octet comes first
 abbrev pub begins_with : ℕ → List ℕ → Bool
 begins_with octet [] = false
 begins_with octet (first ∷ rest) = first == octet
@@ -23,7 +23,7 @@ begins_with octet (first ∷ rest) = first == octet
 abbrev pub is_below_inbox : Separator → List ℕ → Bool
 is_below_inbox separator name = is_inbox (take 5 name) && begins_with (octet_of separator) (drop 5 name)
 
--- the name as IMAP has it, where INBOX is one folder: such a first level is `INBOX`
+-- the name as IMAP has it, which has one folder INBOX: such a first level is `INBOX`
 abbrev pub folded : Separator → List ℕ → List ℕ
 folded separator name = cond (is_below_inbox separator name) (codes "INBOX" ++ drop 5 name) name
 
@@ -59,7 +59,7 @@ named separator name = cond (has_form separator name) (written separator name) (
 abbrev pub directory : Separator → List ℕ → List ℕ
 directory separator name = cond (is_inbox name) (codes ".") (named separator (folded separator name))
 
--- two names that may lie in one directory: the same but for the case of a first level INBOX, INBOX both, or two that are
+-- two names that may be in one directory: the same but for the case of a first level INBOX, INBOX both, or two that are
 -- spelled by a digest, which is the same
 abbrev pub MayShare : Separator → List ℕ → List ℕ → Type 0
 MayShare separator one two =

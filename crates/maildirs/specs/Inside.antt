@@ -1,4 +1,4 @@
--- Where a directory may lie.
+-- Where a directory may be.
 use Rattle.std.specs.Prelude.{◌≡◌, ◌≢◌, ◌≤◌, ℕ, Bool, true, ◌==◌, ◌&&◌, not, List, ◌∷◌, length, codes}
 use Rattle.std.specs.List.{list_all}
 use Rattle.octets.specs.Ascii.{is_printable}

@@ -1,12 +1,12 @@
 -- The levels of a folder's name.
 use Rattle.std.specs.Prelude.{ℕ, Bool, true, false, ◌==◌, ◌&&◌, ◌||◌, not, List, [], ◌∷◌}
 
--- whether a level of one or more octets stands at the front
+-- whether a level of one or more octets comes first
 abbrev pub begins_level : ℕ → List ℕ → Bool
 begins_level separator [] = false
 begins_level separator (octet ∷ rest) = not (octet == separator)
 
--- whether each separator stands before a level of one or more octets
+-- whether each separator comes before a level of one or more octets
 abbrev pub goes_on : ℕ → List ℕ → Bool
 goes_on separator [] = true
 goes_on separator (octet ∷ rest) = (not (octet == separator) || begins_level separator rest) && goes_on separator rest

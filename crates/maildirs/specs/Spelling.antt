@@ -69,7 +69,7 @@ spelling separator begins character =
 abbrev pub shifted : List ℕ → List ℕ
 shifted octets = codes "&" ++ (modified_base64 octets ++ codes "-")
 
--- a run as it is written, where there is one
+-- a run as it is written, if there is one
 abbrev pub run_spelled : List ℕ → List ℕ
 run_spelled [] = []
 run_spelled (octet ∷ more) = shifted (octet ∷ more)

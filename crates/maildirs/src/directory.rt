@@ -18,13 +18,13 @@ const MAX_DIRECTORY_LEN: usize = 250;
 /// How many hexadecimal digits a SHA-256 has.
 const DIGEST_DIGITS: usize = 64;
 
-/// The directory, within a user's Maildir, of the folder with this name, as Maildir++ has it: `.` for INBOX, and else
+/// The directory, within a user's Maildir, of the folder with this name, as Maildir++ has it: `.` for INBOX, and otherwise
 /// one that begins with `.`, of 32 to 126 without `/`, and of at most 250 octets. A first level that is INBOX but for case
 /// is `INBOX`, since IMAP has one INBOX.
 ///
-/// A name that is empty or has an empty level, isn't UTF-8 or has a longer directory gets one by its digest; so does one that Dovecot 2.3 doesn't
-/// list as it is, with NUL or a `\` before two hexadecimal digits of an octet over 127, and one whose directory a digest may have. Time and
-/// memory are linear in the name.
+/// A name that is empty or has an empty level, isn't UTF-8 or has a longer directory gets one by its digest; so does one that Dovecot 2.3
+/// doesn't list as it is, with NUL or a `\` before two hexadecimal digits of an octet over 127, and one whose directory a digest may have.
+/// Time and memory are linear in the name.
 pub fn directory_of(alloc: Global, name: &[u8], separator: Separator) -> Result<Octets, AllocError>
     ensures { IfOk result (λ place. place ≡ directory separator name.now) }
 {
@@ -53,7 +53,7 @@ fn folded(alloc: Global, name: &[u8], separator: Separator) -> Result<Octets, Al
     Ok(text)
 }
 
-/// Whether the octet stands at the front.
+/// Whether the octet comes first.
 fn begins_with(text: &[u8], octet: u8) -> bool
     ensures { result ≡ begins_with octet text.now }
 {

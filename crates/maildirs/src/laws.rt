@@ -16,7 +16,7 @@ pub fn directories_differ()
     ensures { (separator : Separator) (one two : List ℕ) → directory separator one ≡ directory separator two → MayShare separator one two }
 {}
 
-/// Levels stand with `.` between them: what comes before a separator and what comes after it are each written as by itself.
+/// Levels have a `.` between them: what comes before a separator and what comes after it are each written as if alone.
 pub fn levels_between_dots()
     ensures { (separator : Separator) (front rest : List ℕ) → IsUtf8 front → IsUtf8 rest
         → spelled separator (front ++ octet_of separator ∷ rest) ≡ spelled separator front ++ 46 ∷ spelled separator rest }

@@ -1,4 +1,4 @@
-//! Where a user's mail lies: the directories of a Maildir.
+//! Where a user's mail is: the directories of a Maildir.
 #![tactic(auto)]
 
 mod directory;

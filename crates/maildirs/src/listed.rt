@@ -16,7 +16,7 @@ pub(crate) fn is_listed(name: &[u8]) -> bool
     true
 }
 
-/// Whether the two hexadecimal digits of an octet over 127 stand at the front.
+/// Whether the two hexadecimal digits of an octet over 127 come first.
 fn begins_high(text: &[u8]) -> bool
     ensures { result ≡ begins_high text.now }
 {

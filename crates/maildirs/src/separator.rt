@@ -2,7 +2,7 @@
 ghost use Rattle.std.specs.Prelude.{◌≡◌};
 ghost use Rattle.maildirs.specs.Spelling.{octet_of};
 
-/// The separator of an IMAP server's namespace: what stands between the levels of a folder's name.
+/// The separator of an IMAP server's namespace: what is between the levels of a folder's name.
 #[derive(Clone, Copy)]
 pub enum Separator {
     /// `.`

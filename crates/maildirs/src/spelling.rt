@@ -60,7 +60,7 @@ fn modified_base64() -> GeneralPurpose
     GeneralPurpose::new(&IMAP_MUTF7, NO_PAD)
 }
 
-/// Appends a run that has ended, as it is written, and empties it; nothing where there is none.
+/// Appends a run that has ended, as it is written, and empties it; nothing if there is none.
 fn push_run(
     engine: &GeneralPurpose,
     directory: &mut String,

@@ -1,4 +1,4 @@
--- What a store shows behind a call, and what a crash leaves of it then.
+-- What a store shows after a call, and what a crash leaves of it then.
 use Rattle.std.specs.Prelude.{◌≡◌, ◌⊎◌, IsTrue}
 use Rattle.sqlite_trees.specs.Tree.{Trees}
 use Rattle.sqlite.specs.State.{State}
@@ -26,7 +26,7 @@ ShowsTried event answer met trees = ⊥
 abbrev pub none_tried : Trees → Type 0
 none_tried trees = ⊥
 
--- what may be left behind a call, by which accounts became others: these; what might be left before it, where no account changed; or what
+-- what may be left after a call, by which accounts became others: these; what might be left before it, if no account changed; or what
 -- was tried in it
 abbrev pub MayLeave : (Trees → Type 0) → Accounts → (Trees → Type 0) → Accounts → (Trees → Type 0) → Type 0
 MayLeave before accounts after later Tried = (trees : Trees) → after trees → ShowsIn trees later ⊎ ((later ≡ accounts) × before trees) ⊎ Tried trees
@@ -35,7 +35,7 @@ MayLeave before accounts after later Tried = (trees : Trees) → after trees →
 abbrev pub leaves_of : State → Trees → Type 0
 leaves_of s trees = IsTrue s.is_open × s.may_leave trees
 
--- behind a call the store shows the later accounts (`HasAccounts`), and a crash leaves what it may (`MayLeave`)
+-- after a call the store shows the later accounts (`HasAccounts`), and a crash leaves what it may (`MayLeave`)
 pub record Endures (old : State) (accounts : Accounts) (new : State) (later : Accounts) (Tried : Trees → Type 0) : Type 0 where
   pub shown : HasAccounts new later
   pub left : MayLeave (leaves_of old) accounts (leaves_of new) later Tried

@@ -32,7 +32,7 @@ abbrev pub FirstMoves : List ℕ → List ℕ → Result Kept Why → Accounts �
 FirstMoves user folder (Ok kept) accounts later = IsFirst accounts user folder kept.message kept.flags × TakesFirst accounts user folder kept.answer later
 FirstMoves user folder (Err why) accounts later = later ≡ accounts
 
--- the event that takes it out, where that was refused
+-- the event that takes it out, if that was refused
 abbrev pub TriedTaking : List ℕ → List ℕ → Result Kept Why → World → Trees → Type 0
 TriedTaking user folder (Ok kept) w trees = ShowsTried (TakeMail user folder) kept.answer w trees
 TriedTaking user folder (Err why) w trees = ⊥
@@ -67,12 +67,12 @@ IsStill other = Unit {0}
 abbrev pub WasClean : State → State → Type 0
 WasClean old new = HasCleanDisk new → HasCleanDisk old
 
--- what a sink that tells its messages has then: the one that moved, behind those that it had
+-- what a sink that tells its messages has then: the one that moved, after those that it had
 abbrev pub KeepsIt : Bool → List KeptMail → List KeptMail → Moving → Type 0
 KeepsIt tells had has (moving.Kept mail answer) = IsTrue tells → has ≡ had ++ mail ∷ []
 KeepsIt tells had has other = Unit {0}
 
--- for so many milliseconds no other message is to move
+-- for how many milliseconds no other message is to move
 abbrev pub span_behind : Moving → ℕ
 span_behind moving.Nothing = 60000
 span_behind moving.Passed = 0

@@ -19,17 +19,17 @@ comes_before a b = is_lt (bytes_cmp a b)
 
 -- ---- users
 
--- a user comes behind the one who had the last turn of the round; at its beginning all do
+-- a user comes after the one who had the last turn of the round; at its beginning all do
 abbrev pub is_behind : Option (List ℕ) → List ℕ → Bool
 is_behind None user = true
 is_behind (Some last) user = comes_before last user
 
--- the first of those behind the last one who have mail
+-- the first of those after the last one who have mail
 pub record IsNextUser (tables : Tables) (last : Option (List ℕ)) (user : List ℕ) : Type 0 where
   pub behind : IsTrue (is_behind last user)
   pub first : (f : Filed) → IsMail tables f → IsTrue (is_behind last f.user) → comes_before f.user user ≡ false
 
--- nobody behind the last one has mail
+-- nobody after the last one has mail
 abbrev pub IsRoundOver : Tables → Option (List ℕ) → Type 0
 IsRoundOver tables last = (f : Filed) → IsMail tables f → is_behind last f.user ≡ false
 
@@ -39,16 +39,16 @@ IsRoundOver tables last = (f : Filed) → IsMail tables f → is_behind last f.u
 abbrev pub IsFirstFolder : Tables → List ℕ → List ℕ → Type 0
 IsFirstFolder tables user folder = (f : Filed) → IsMail tables f → f.user ≡ user → comes_before f.folder folder ≡ false
 
--- the first of those behind another
+-- the first of those after another
 pub record IsFolderBehind (tables : Tables) (user mark folder : List ℕ) : Type 0 where
   pub behind : IsTrue (comes_before mark folder)
   pub first : (f : Filed) → IsMail tables f → f.user ≡ user → IsTrue (comes_before mark f.folder) → comes_before f.folder folder ≡ false
 
--- none behind another has mail
+-- none after another has mail
 abbrev pub IsLastFolder : Tables → List ℕ → List ℕ → Type 0
 IsLastFolder tables user mark = (f : Filed) → IsMail tables f → f.user ≡ user → comes_before mark f.folder ≡ false
 
--- behind the folder of the user's last turn, and the first again where none is
+-- after the folder of the user's last turn, and the first again if there is none
 abbrev pub FollowsFolder : Tables → List ℕ → Option (List ℕ) → List ℕ → Type 0
 FollowsFolder tables user None folder = IsFirstFolder tables user folder
 FollowsFolder tables user (Some mark) folder = IsFolderBehind tables user mark folder ⊎ (IsLastFolder tables user mark × IsFirstFolder tables user folder)
@@ -74,25 +74,25 @@ mark_of user marks = option_map (λ m. m.folder) (find (λ m. is_user user m.use
 abbrev pub is_between : Option (List ℕ) → List ℕ → List ℕ → Bool
 is_between last user other = is_behind last other && comes_before other user
 
--- behind a turn at a folder: that is the user's mark, and users without mail are forgotten
+-- after a turn at a folder: that is the user's mark, and users without mail are forgotten
 abbrev pub marked : Option (List ℕ) → List ℕ → List ℕ → List Mark → List Mark
 marked last user folder marks = filter (λ m. not (is_between last user m.user)) (filter (λ m. not (is_user user m.user)) marks) ++ record { user = user; folder = folder } ∷ []
 
 -- ---- places that a store is asked for
 
--- behind all of this text, and before all that comes later
+-- after all of this text, and before all that comes later
 abbrev pub beyond : List ℕ → List ℕ
 beyond text = text ++ 0 ∷ []
 
--- before the first message of a user behind the last one
+-- before the first message of a user after the last one
 abbrev pub start_of : Option (List ℕ) → Filed
 start_of None = record { user = []; folder = []; number = 0 }
 start_of (Some last) = record { user = beyond last; folder = []; number = 0 }
 
--- before the first message of a user's folders behind this one
+-- before the first message of a user's folders after this one
 abbrev pub start_in : List ℕ → List ℕ → Filed
 start_in user mark = record { user = user; folder = beyond mark; number = 0 }
 
--- the same behind the folder of the last turn
+-- the same after the folder of the last turn
 abbrev pub start_behind : List ℕ → List Mark → Option Filed
 start_behind user marks = option_map (start_in user) (mark_of user marks)

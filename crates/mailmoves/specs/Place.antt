@@ -8,7 +8,7 @@ use Rattle.maildirs.specs.declared.separator.Separator.{Separator}
 abbrev pub has_no_mark : List ℕ → Bool
 has_no_mark name = list_all (λ octet. not (octet == 47) && not (octet == 0)) name
 
--- a user's name that may be a directory's: not empty, no `.` in front, and no mark
+-- a user's name that may be a directory's: not empty, no `.` at its start, and no mark
 abbrev pub is_name : List ℕ → Bool
 is_name [] = false
 is_name (first ∷ rest) = not (first == 46) && has_no_mark (first ∷ rest)

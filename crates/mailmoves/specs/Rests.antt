@@ -19,15 +19,15 @@ lasts_by now user folder rest = nat_lt now rest.until && is_of user folder rest
 abbrev pub rests_at : ℕ → List ℕ → List ℕ → List Rest → Bool
 rests_at now user folder rests = list_any (lasts_by now user folder) rests
 
--- so many rests of a user are known
+-- how many rests of a user are known
 abbrev pub rests_of : List ℕ → List Rest → ℕ
 rests_of user rests = length (filter (λ rest. pointwise nat_eq rest.user user) rests)
 
--- of so many folders of a user it is known that they rest
+-- of how many folders of a user it is known that they rest
 abbrev pub max_folders : ℕ
 max_folders = 16
 
--- what rests of a user of whom so many folders rest already: one more folder, or all of them
+-- what rests of a user of whom this many folders rest already: one more folder, or all of them
 abbrev pub what_rests : ℕ → List ℕ → Option (List ℕ)
 what_rests many folder = if nat_lt many max_folders then Some folder else None
 

@@ -15,7 +15,7 @@ use Rattle.mailmoves.specs.declared.route.Route.{Route}
 
 -- ---- one turn
 
--- the user had his turn, at this folder
+-- the user had their turn, at this folder
 pub record TurnEnds (before : Order) (user folder : List ℕ) (after : Order) : Type 0 where
   pub last : after.last ≡ Some user
   pub passed : after.passed ≡ 0
@@ -26,7 +26,7 @@ pub record Stays (before after : Order) : Type 0 where
   pub last : after.last ≡ before.last
   pub passed : after.passed ≡ before.passed
 
--- it goes on, behind this folder
+-- it goes on, after this folder
 pub record TurnGoesOn (before : Order) (user folder : List ℕ) (after : Order) : Type 0 where
   pub last : after.last ≡ before.last
   pub passed : after.passed ≡ before.passed + 1
@@ -60,7 +60,7 @@ IsTurnAt now rests before user folder (moving.Failed refusal) after = Stays befo
 
 -- ---- a call
 
--- a user's turn: nobody with mail is between him and the one before, and of his folders this one's is next
+-- a user's turn: nobody with mail is between the user and the one before, and of the user's folders this one's is next
 pub record IsTurn (now : ℕ) (tables : Tables) (rests : List Rest) (before : Order) (result : Moving) (after : Order) : Type 0 where
   pub user : List ℕ
   pub folder : List ℕ
@@ -68,19 +68,19 @@ pub record IsTurn (now : ℕ) (tables : Tables) (rests : List Rest) (before : Or
   pub next_folder : IsNextFolder tables user (mark_of user before.marks.items) folder
   pub turn : IsTurnAt now rests before user folder result after
 
--- the next round begins, and of users behind the last one, who have no mail, nothing is remembered
+-- the next round begins, and of users after the last one, who have no mail, nothing is remembered
 pub record BeginsRound (before after : Order) : Type 0 where
   pub last : after.last ≡ None
   pub passed : after.passed ≡ 0
   pub marks : after.marks.items ≡ filter (λ m. not (is_behind before.last m.user)) before.marks.items
 
--- a round ends where nobody is behind the last one
+-- a round ends if nobody comes after the last one
 abbrev pub EndsRound : Tables → Order → Moving → Order → Type 0
 EndsRound tables before moving.Nothing after = IsRoundOver tables before.last × BeginsRound before after
 EndsRound tables before moving.Passed after = IsRoundOver tables before.last × BeginsRound before after
 EndsRound tables before other after = ⊥
 
--- it was a turn, or the end of a round; where a call failed nobody had one, or the user whose it was
+-- it was a turn, or the end of a round; if a call failed nobody had one, or the user whose it was
 abbrev pub TurnsTo : ℕ → Tables → List Rest → Order → Moving → Order → Type 0
 TurnsTo now tables rests before (moving.Failed refusal) after = Stays before after ⊎ IsTurn now tables rests before (moving.Failed refusal) after
 TurnsTo now tables rests before result after = IsTurn now tables rests before result after ⊎ EndsRound tables before result after
@@ -113,7 +113,7 @@ IsEnd before moving.Nothing after = BeginsRound before after
 IsEnd before moving.Passed after = BeginsRound before after
 IsEnd before other after = ⊥
 
--- the message that comes next, where it is of the same user as the first one, and else that
+-- the message that comes next, if it is of the same user as the first one, and otherwise that
 abbrev pub chosen : Option Filed → Filed → Filed
 chosen None first = first
 chosen (Some next) first = if is_user first.user next.user then next else first

@@ -17,7 +17,7 @@ pub enum Moving {
     Nothing,
     /// A folder that rests is passed over, or the round over all folders begins anew.
     Passed,
-    /// It couldn't be told which folder is next.
+    /// It couldn't be found out which folder is next.
     Failed(Refusal),
     /// A message stays in its folder, which rests now.
     Stays(Stay),
@@ -31,7 +31,7 @@ pub struct Stay {
     pub user: Octets,
     pub folder: Octets,
     pub why: Why,
-    /// Its folder hadn't failed since it went well.
+    /// Its folder hadn't failed since its last success.
     pub is_first: bool,
 }
 
@@ -65,7 +65,7 @@ pub struct Kept {
 ///
 /// # Errors
 ///
-/// Where it isn't kept for sure; it is in the folder still.
+/// If it isn't kept for sure; it is still in the folder.
 pub fn move_first<S: Alter, T: MailSink>(
     store: &mut Store<S>,
     user: &[u8],

@@ -24,7 +24,7 @@ pub struct Order {
     alloc: Global,
     /// The user who had the last turn of this round; none at its beginning.
     pub last: Option<Octets>,
-    /// How many folders that rest were passed over in the turn that goes on.
+    /// How many folders that rest were passed over in the current turn.
     pub passed: u64,
     pub marks: Vec<Mark>,
 }
@@ -43,7 +43,7 @@ impl Order {
         }
     }
 
-    /// The place behind which the first message of the next user is.
+    /// The place after which the first message of the next user is.
     pub fn start(&self) -> Result<Filed, AllocError>
         ensures { IfOk result (λ place. place ≡ order.start_of self.now.last) }
     {
@@ -54,7 +54,7 @@ impl Order {
         Ok(before(self.alloc, user))
     }
 
-    /// The place behind which a user's first message behind the folder of the last turn is; none where nothing is known of a turn.
+    /// The place after which a user's first message after the folder of the last turn is; none if nothing is known of a turn.
     pub fn start_in(&self, user: &[u8]) -> Result<Option<Filed>, AllocError>
         ensures { IfOk result (λ place. place ≡ order.start_behind user.now self.now.marks.items) }
     {
@@ -86,7 +86,7 @@ impl Order {
         Ok(())
     }
 
-    /// A folder is passed over, and the user's turn goes on. Lack of memory is the only error.
+    /// Passes a folder over; the user's turn goes on. Lack of memory is the only error.
     pub fn pass(&mut self, user: &[u8], folder: &[u8]) -> Result<(), AllocError>
         requires { self.old.passed + 1 < 2 ^ 64 }
         ensures passes { OnOk result (TurnGoesOn self.old user.now folder.now self.new) }
@@ -97,7 +97,7 @@ impl Order {
         Ok(())
     }
 
-    /// The round is over, and the next one begins. Who has no mail behind the last one is forgotten.
+    /// Ends the round; the next one begins. Whoever has no mail after the last one is forgotten.
     pub fn end_round(&mut self)
         ensures { BeginsRound self.old self.new }
     {
@@ -107,7 +107,7 @@ impl Order {
         self.passed = 0;
     }
 
-    /// That is the user's folder; who is between the last one and this user has no mail, and is forgotten.
+    /// Notes this as the user's folder; who is between the last one and this user has no mail, and is forgotten.
     fn mark(&mut self, user: &[u8], folder: &[u8]) -> Result<(), AllocError>
         ensures marks { OnOk result (self.new.marks.items ≡ order.marked self.old.last user.now folder.now self.old.marks.items) }
         ensures last { self.new.last ≡ self.old.last }
@@ -142,7 +142,7 @@ impl Order {
     }
 }
 
-/// Whether a user comes behind the one who had the last turn of a round.
+/// Whether a user comes after the one who had the last turn of a round.
 pub fn is_behind(last: &Option<Octets>, user: &[u8]) -> bool
     ensures { result ≡ order.is_behind last.now user.now }
 {
@@ -165,7 +165,7 @@ fn comes_before(a: &[u8], b: &[u8]) -> bool
     a.cmp(b).is_lt()
 }
 
-/// The first text behind all those that begin as this one and are no longer.
+/// The first text after all those that begin as this one and are no longer.
 fn beyond(alloc: Global, text: &[u8]) -> Result<Octets, AllocError>
     ensures { IfOk result (λ later. later ≡ order.beyond text.now) }
 {

@@ -6,7 +6,7 @@ use maildirs::{Separator, directory_of};
 use octets::Octets;
 use std::alloc::{AllocError, Global};
 
-/// The Maildir of a user in a directory of such: `DIR/USER`. None where the name can't be a directory's: an empty one, one that
+/// The Maildir of a user in a directory of such: `DIR/USER`. None if the name can't be a directory's: an empty one, one that
 /// begins with `.`, and one that has `/` or NUL.
 pub fn home_of(alloc: Global, dir: &[u8], user: &[u8]) -> Result<Option<Octets>, AllocError>
     ensures { IfOk result (λ home. home ≡ place.home dir.now user.now) }
@@ -17,7 +17,7 @@ pub fn home_of(alloc: Global, dir: &[u8], user: &[u8]) -> Result<Option<Octets>,
     Ok(Some(joined(alloc, dir, user)?))
 }
 
-/// The directory of a folder within a user's Maildir, as `directory_of` of maildirs has it.
+/// The directory of a folder within a user's Maildir, as `directory_of` of maildirs names it.
 pub fn place_in(
     alloc: Global,
     home: &[u8],

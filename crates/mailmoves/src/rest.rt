@@ -7,13 +7,13 @@ use crate::order::{is_behind, is_between};
 use octets::Octets;
 use std::alloc::{AllocError, Global};
 
-/// So many milliseconds a folder rests after the first failure.
+/// For how many milliseconds a folder rests after the first failure.
 const FIRST: u64 = 60000;
 
-/// So many at most.
+/// For how many at most.
 const LONGEST: u64 = 3600000;
 
-/// Of so many folders of a user it is known that they rest. Where one more fails, all of the user's rest: it is the user's Maildir that
+/// Of how many folders of a user it is known that they rest. If one more fails, all of the user's rest: it is the user's Maildir that
 /// fails then, and so a user takes little memory, and little of a round.
 const MAX_FOLDERS: u64 = 16;
 
@@ -21,7 +21,7 @@ const MAX_FOLDERS: u64 = 16;
 #[derive(Drop)]
 pub struct Rest {
     pub user: Octets,
-    /// None where all folders of the user rest.
+    /// None if all folders of the user rest.
     pub folder: Option<Octets>,
     /// The moment until which it rests.
     pub until: u64,
@@ -50,7 +50,7 @@ impl Rest {
 }
 
 /// Folders that failed, each with how long it rests: after the first failure a minute, after each further one twice as long, an
-/// hour at most. One that went well is in it no more, nor are those of a user without mail.
+/// hour at most. One that succeeded is no longer in it, nor are those of a user without mail.
 #[derive(Drop)]
 pub struct Rests {
     pub entries: Vec<Rest>,
@@ -75,7 +75,7 @@ impl Rests {
             .any(|rest| rest.lasts(user, folder, now))
     }
 
-    /// A folder went well.
+    /// A folder succeeded.
     pub fn end(&mut self, user: &[u8], folder: &[u8])
         ensures { self.new.entries.items ≡ filter (λ rest. not (rests.is_of user.now folder.now rest)) self.old.entries.items }
     {
@@ -96,14 +96,14 @@ impl Rests {
             .retain(|rest| !is_between(last, user, rest.user.as_slice()));
     }
 
-    /// Forgets those users behind the one who had the last turn, who have no mail.
+    /// Forgets those users after the one who had the last turn, who have no mail.
     pub fn forget_behind(&mut self, last: &Option<Octets>) {
         self.entries
             .retain(|rest| !is_behind(last, rest.user.as_slice()));
     }
 
-    /// A folder failed: it rests from now on, and all of the user's where too many rest already. Whether it hadn't failed before,
-    /// since it went well.
+    /// A folder failed: it rests from now on, and all of the user's if too many rest already. Returns whether it hadn't failed before,
+    /// since its last success.
     ///
     /// Lack of memory is the only error; then it doesn't rest.
     pub fn begin(
@@ -142,7 +142,7 @@ impl Rests {
         }
     }
 
-    /// For how long a folder rested at last.
+    /// For how long a folder rested last.
     fn span_of(&self, user: &[u8], folder: &[u8]) -> Option<u64> {
         match self.entries.iter().find(|rest| rest.is_of(user, folder)) {
             Some(rest) => Some(rest.span),
@@ -161,7 +161,7 @@ fn is_folder(what: &Option<Octets>, folder: &[u8]) -> bool
     }
 }
 
-/// For how long a folder rests that rested so long before.
+/// For how long a folder rests that rested this long before.
 fn span_after(before: Option<u64>) -> u64
     ensures { result ≡ rests.span_after before }
 {

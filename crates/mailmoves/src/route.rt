@@ -46,7 +46,7 @@ impl Route {
         }
     }
 
-    /// Where `fresh`, mail may have come since: another round follows.
+    /// If `fresh`, mail may have come since: another round follows.
     fn hear(&mut self, fresh: bool)
         ensures order { self.new.order ≡ self.old.order }
         ensures rests { self.new.rests ≡ self.old.rests }
@@ -121,7 +121,7 @@ impl Route {
         })
     }
 
-    /// A folder rests from now on. Whether it hadn't failed since it went well.
+    /// Lets a folder rest from now on. Returns whether it hadn't failed since its last success.
     fn rest(&mut self, filed: &Filed, now: u64) -> bool
         ensures { self.new.order ≡ self.old.order }
     {
@@ -132,7 +132,7 @@ impl Route {
         }
     }
 
-    /// A folder's message is kept. Where it couldn't be taken out the folder rests.
+    /// A folder's message is kept. If it couldn't be taken out the folder rests.
     fn note(&mut self, filed: &Filed, answer: &Answer, now: u64)
         ensures { self.new.order ≡ self.old.order }
     {
@@ -182,7 +182,7 @@ impl Route {
     }
 }
 
-/// Opens a place, which is made where it isn't there, with the user's before it.
+/// Opens a place, which is made if it isn't there, with the user's before it.
 fn open_place<T: MailSink>(sink: &mut T, home: &[u8], place: &[u8]) -> Result<(), Why>
     ensures { IsTrue T.tells → T.kept sink.new ≡ T.kept sink.old }
 {
@@ -208,7 +208,7 @@ fn open_or_make<T: MailSink>(sink: &mut T, home: &str, place: &str) -> Result<()
     }
 }
 
-/// Moves the first message of the folder whose turn it is: users have one message each a round, and a user's folders take turns too. Where
+/// Moves the first message of the folder whose turn it is: users have one message each a round, and a user's folders take turns too. If
 /// `fresh`, mail may have come since the last call.
 ///
 /// Six rows are found by their keys, and one message is read, at most.
@@ -255,7 +255,7 @@ fn move_of<S: Alter, T: MailSink>(
     }
 }
 
-/// Moves the user's first message behind that place, which is behind the folder of the last turn; the first one again, where none is.
+/// Moves the user's first message after that place, which is after the folder of the last turn; the first one again, if there is none.
 fn move_behind<S: Alter, T: MailSink>(
     store: &mut Store<S>,
     sink: &mut T,
@@ -276,7 +276,7 @@ fn move_behind<S: Alter, T: MailSink>(
     }
 }
 
-/// The message that comes next, where it is of the same user as the first one, and else that.
+/// The message that comes next, if it is of the same user as the first one, and otherwise that.
 fn chosen(next: Option<Filed>, first: Filed) -> Filed
     ensures { result ≡ turns.chosen next first }
 {
@@ -336,7 +336,7 @@ fn move_into<S: Alter, T: MailSink>(
     }
 }
 
-/// For so many milliseconds no other message is to move.
+/// For how many milliseconds no other message is to move.
 pub fn span_behind(moving: &Moving) -> u64
     ensures { result ≡ span_behind moving.now }
 {

@@ -18,7 +18,7 @@ use Rattle.mailposts.specs.declared.demand.Parcel.{Parcel}
 use Rattle.mailposts.specs.declared.tally.Tally.{Tally}
 use Rattle.mailposts.specs.Tallies.{fresh, MayAsk, HasWaited, away, done, settled, heard}
 
--- ---- how it stands
+-- ---- its state
 
 -- what names an account; what is said to LHLO; the dialogue (its client's octets, and what was answered); the recipients that were taken,
 -- each with its account, while a transaction is open; how far that has come
@@ -34,7 +34,7 @@ abbrev pub new_post : Names → List ℕ → ℕ → Post
 new_post names host now =
     record { names = names; hello = capabilities host; dialogue = new_dialogue; addressees = []; tally = fresh now }
 
--- a transaction is open, until the last reply behind its text
+-- a transaction is open, until the last reply after its text
 abbrev pub is_open : Phase → Bool
 is_open Greeted = false
 is_open Ready = false
@@ -55,7 +55,7 @@ abbrev pub has_some : List Addressee → Bool
 has_some [] = false
 has_some (it ∷ others) = true
 
--- the dialogue goes on so, with these recipients; where no transaction is open any more nothing of it is left
+-- the dialogue goes on so, with these recipients; if no transaction is open any more nothing of it is left
 abbrev pub behind : ℕ → Dialogue → List Addressee → Tally → Post → Post
 behind now later addressees tally p = record p {
   dialogue = later;
@@ -68,13 +68,13 @@ behind now later addressees tally p = record p {
 pub data Deed : Type 0 where
   -- what comes first was answered without the store
   Answered : Deed
-  -- a MAIL came first that announces more octets than that, of which there was room, and it was refused (RFC 1870, section 6.1)
+  -- a MAIL came first that announces more octets than that, for which there was room, and it was refused (RFC 1870, section 6.1)
   Declined : ℕ → Deed
   -- the store was asked whether there is an account of that name, and this was found
   Asked : List ℕ → Lookup → Deed
-  -- the store was asked for, and wasn't to be had
+  -- the store was asked for, and wasn't available
   Away : Deed
-  -- a message was brought to the store, and this became of it
+  -- a message was to be delivered by the store, and this became of it
   Brought : Parcel → Became → Deed
 
 -- ---- a line
@@ -84,7 +84,7 @@ pub record AnswersLine (now : ℕ) (p : Post) (said : List ℕ) (q : Post) : Typ
   pub answers : Answers p.hello p.dialogue said later
   pub leaves : q ≡ behind now later p.addressees p.tally p
 
--- there was room for so many octets, and the MAIL that comes first announces more
+-- there was room for this many octets, and the MAIL that comes first announces more
 pub record DeclinesLine (now room : ℕ) (p : Post) (said : List ℕ) (q : Post) : Type 0 where
   pub later : Dialogue
   pub declines : Declines room p.dialogue said later
@@ -92,7 +92,7 @@ pub record DeclinesLine (now room : ℕ) (p : Post) (said : List ℕ) (q : Post)
 
 -- ---- a recipient
 
--- the form of its name that is looked for next, and the forms behind that
+-- the form of its name that is looked for next, and the forms after that
 pub record IsAsked (p : Post) (address user : List ℕ) (others : List (List ℕ)) : Type 0 where
   pub sender : List ℕ
   pub taken : List (List ℕ)
@@ -107,7 +107,7 @@ next_form t = record t { tried = t.tried + 1 }
 abbrev pub first_form : Tally → Tally
 first_form t = record t { tried = 0 }
 
--- where there is an account the recipient is taken, with the name under which it was found
+-- if there is an account the recipient is taken, with the name under which it was found
 abbrev pub taken_with : Lookup → List ℕ → List ℕ → List Addressee → List Addressee
 taken_with Known user address addressees = addressees ++ record { user = user; address = address; became = None } ∷ []
 taken_with lookup user address addressees = addressees
@@ -118,7 +118,7 @@ pub record Resolved (now : ℕ) (p : Post) (lookup : Lookup) (addressees : List 
   pub resolves : Resolves p.dialogue lookup said later
   pub leaves : q ≡ behind now later addressees (first_form p.tally) p
 
--- the store has said what is found; only where there is none under the last form there is none
+-- the store has said what is found; only if there is none under the last form there is none
 abbrev pub Finds : ℕ → Post → List ℕ → List ℕ → List (List ℕ) → Lookup → List ℕ → Post → Type 0
 Finds now p address user (next ∷ others) Unknown said q = (said ≡ []) × (q ≡ record p { tally = next_form (done now p.tally) })
 Finds now p address user others lookup said q = Resolved now p lookup (taken_with lookup user address p.addressees) said q
@@ -135,7 +135,7 @@ abbrev pub said_for : Became → List ℕ
 said_for (Delivered report) = delivered report
 said_for (Refused reply) = line_of reply
 
--- the recipient to whom a reply is owed next, with those before it and behind it; the text is whole
+-- the recipient to whom a reply is owed next, with those before it and after it; the text is whole
 pub record IsOwed (p : Post) (before : List Addressee) (it : Addressee) (after : List Addressee) (sender text : List ℕ) : Type 0 where
   pub left : List (List ℕ)
   pub rest : List ℕ
@@ -157,24 +157,24 @@ abbrev pub earlier : List Addressee → Addressee → Option Became
 earlier before it = became_of (find (is_same it) before)
 
 -- the most octets of a text's header, with the empty line that ends it: a message's own, 1,048,576, less 2,200 for the two fields that a
--- delivery has in front
+-- delivery has at its start
 abbrev pub max_header : ℕ
 max_header = 1046376
 
--- whether a text's header has more: where no line is empty all of the text is its header
+-- whether a text's header has more: if no line is empty all of the text is its header
 abbrev pub has_long_header : List ℕ → Bool
 has_long_header text = nat_lt max_header (body_start text)
 
--- a message that the store may be brought: it is kept, was brought for no such recipient before, its header is no longer than one may be, and
--- it didn't come to it before
+-- a message that the store may be given: it is kept, was delivered for no such recipient before, its header is no longer than one may be,
+-- and it didn't come to that recipient before
 pub record IsNew (before : List Addressee) (it : Addressee) (text : List ℕ) : Type 0 where
   pub small : length text ≤ max_text
   pub once : earlier before it ≡ None
   pub headed : has_long_header text ≡ false
   pub straight : was_delivered it.address text ≡ false
 
--- what became of it without the store: it is too large; memory was lacking for it; it has become of it already, for the same recipient; its
--- header is too large; it went in a circle; or the store was away for too long
+-- what became of it without the store: it is too large; memory was lacking for it; it was delivered or refused already, for the same
+-- recipient; its header is too large; it went in a circle; or the store was away for too long
 pub data Becomes (now : ℕ) (p : Post) (before : List Addressee) (it : Addressee) (text : List ℕ) (became : Became) : Type 0 where
   TooLarge : max_text < length text → became ≡ Refused MessageTooLarge → Becomes now p before it text became
   Lacked : became ≡ Refused NoRoom → Becomes now p before it text became
@@ -186,7 +186,7 @@ pub data Becomes (now : ℕ) (p : Post) (before : List Addressee) (it : Addresse
 abbrev pub next_recipient : Tally → Tally
 next_recipient t = record t { told = t.told + 1 }
 
--- behind the reply: what became of the message is noted
+-- after the reply: what became of the message is noted
 abbrev pub told_post : ℕ → Became → (p : Post) (before : List Addressee) (it : Addressee) (after : List Addressee) (sender text : List ℕ) → IsOwed p before it after sender text → Post
 told_post now became p before it after sender text is =
     behind now (replied sender is.left p.dialogue is.rest) (before ++ record it { became = Some became } ∷ after) (next_recipient p.tally) p
@@ -202,7 +202,7 @@ pub record Replied (now : ℕ) (p : Post) (became : Became) (said : List ℕ) (q
   pub says : said ≡ said_for became
   pub leaves : q ≡ told_post now became p before it after sender text is
 
--- the message that is brought: to the account of the recipient to whom a reply is owed next, from the sender, and its copy
+-- the message that is delivered: to the account of the recipient to whom a reply is owed next, from the sender, and its copy
 pub record IsParcel (p : Post) (before : List Addressee) (it : Addressee) (after : List Addressee) (text : List ℕ) (parcel : Parcel) : Type 0 where
   pub is : IsOwed p before it after parcel.sender text
   pub user : parcel.user ≡ it.user
@@ -210,14 +210,14 @@ pub record IsParcel (p : Post) (before : List Addressee) (it : Addressee) (after
   pub copy : IsCopy parcel.sender parcel.recipient text parcel.message
   pub new : IsNew before it text
 
--- ---- one deed
+-- ---- one step
 
 -- the store is asked for: for an account, or for a delivery
 abbrev pub AsksStore : Post → Type 0
 AsksStore p = ((address user : List ℕ) × (others : List (List ℕ)) × IsAsked p address user others)
     ⊎ ((before : List Addressee) × (it : Addressee) × (after : List Addressee) × (text : List ℕ) × (parcel : Parcel) × IsParcel p before it after text parcel)
 
--- a line is answered; a recipient is put off where the store was away for too long; or a reply is made behind the text
+-- a line is answered; a recipient is put off if the store was away for too long; or a reply is made after the text
 abbrev pub IsAnswered : ℕ → Post → List ℕ → Post → Type 0
 IsAnswered now p said q =
     AnswersLine now p said q

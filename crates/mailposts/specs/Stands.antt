@@ -47,7 +47,7 @@ pub record Stands (c : Code) (p : Post) : Type 0 where
   pub holds : Holds c p
   pub comes : Wants p.dialogue c.comes
 
--- since when no recipient is taken, where its client owes octets; none where one is, or where something is owed to the client
+-- since when no recipient is taken, if its client owes octets; none if one is, or if something is owed to the client
 abbrev pub owed_by : List Addressee → Wanted → ℕ → Option ℕ
 owed_by [] More since = Some since
 owed_by [] Step since = None
@@ -130,7 +130,7 @@ HoldsNoMore c e = ReceiverHolds c.receiver e.receiver
 abbrev pub Does : ℕ → Deed → List ℕ → Code → Code → Type 0
 Does now deed said c e = (p : Post) → Stands c p → (q : Post) × Goes now p deed said q × Stands e q
 
--- where so many octets have room, a MAIL that announces more came next and was refused; or none did, and nothing changed
+-- there is room for this many octets: a MAIL that announces more came next and was refused; or none did, and nothing changed
 abbrev pub Refuses : ℕ → ℕ → List ℕ → Bool → Code → Code → Type 0
 Refuses now room said true c e = Does now (Declined room) said c e
 Refuses now room said false c e =
@@ -142,7 +142,7 @@ abbrev pub IsNext : ℕ → Option ℕ → List (List ℕ) → Type 0
 IsNext tried None others = others ≡ []
 IsNext tried (Some count) others = (count ≡ tried + 1) × ((form : List ℕ) × (more : List (List ℕ)) × (others ≡ form ∷ more))
 
--- one form was asked for more than before, where another one follows
+-- one form was asked for more than before, if another one follows
 abbrev pub Follows : ℕ → ℕ → Option ℕ → Type 0
 Follows tried count None = count ≡ tried + 1
 Follows tried count (Some next) = (next ≡ tried + 1) × (next < count)
@@ -162,7 +162,7 @@ IsDemand now p (demand.Delivery parcel) =
 abbrev pub Demands : ℕ → Code → Demand → Type 0
 Demands now c demand = (p : Post) → Stands c p → IsDemand now p demand
 
--- those to whom a reply was made behind the text
+-- those to whom a reply was made after the text
 abbrev pub told_before : Code → List Addressee
 told_before c = take c.tally.told c.addressees.items
 
@@ -171,12 +171,12 @@ abbrev pub Owes : Code → Addressee → List ℕ → List ℕ → Type 0
 Owes c it sender text =
     (p : Post) → Stands c p → (after : List Addressee) × IsOwed p (told_before c) it after sender text × (length text ≤ max_text)
 
--- what is said where the text isn't kept
+-- what is said if the text isn't kept
 abbrev pub reply_for : Trouble → Reply
 reply_for TooLarge = MessageTooLarge
 reply_for Memory = NoRoom
 
--- there is a place for one recipient more
+-- there is memory for one more recipient
 abbrev pub HasSlot : Code → Type 0
 HasSlot c = vec_len c.addressees < vec_capacity c.addressees
 

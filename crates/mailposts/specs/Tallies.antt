@@ -6,8 +6,8 @@ use Rattle.mailposts.specs.declared.tally.Waits.TheVariants.{Nothing, Store}
 use Rattle.mailposts.specs.declared.tally.Wanted.{Wanted}
 use Rattle.mailposts.specs.declared.tally.Wanted.TheVariants.{Until}
 
--- so many milliseconds the store is asked for in vain, for all recipients of a message together; so many later it is asked for again; and
--- so many a client may say nothing (RFC 5321, section 4.5.3.2.7)
+-- for how many milliseconds the store is asked for without success, for all recipients of a message together; how many later it is asked
+-- for again; and for how many a client may say nothing (RFC 5321, section 4.5.3.2.7)
 abbrev pub max_away : ℕ
 max_away = 60000
 
@@ -17,7 +17,7 @@ retry_span = 5
 abbrev pub max_silence : ℕ
 max_silence = 300000
 
--- the moment so many milliseconds later
+-- the moment this many milliseconds later
 abbrev pub after_span : ℕ → ℕ → ℕ
 after_span now span = (now + span) % 2 ^ 64
 
@@ -35,7 +35,7 @@ away_for now (Store since again) = now - since
 abbrev pub waited : ℕ → Tally → ℕ
 waited now t = min (t.spent + away_for now t.waits) max_away
 
--- it may be asked for; or it was asked for in vain for so long
+-- it may be asked for; or it was asked for without success for that long
 abbrev pub MayAsk : ℕ → Tally → Type 0
 MayAsk now t = waited now t < max_away
 
@@ -46,15 +46,15 @@ abbrev pub asked_since : ℕ → Waits → ℕ
 asked_since now Nothing = now
 asked_since now (Store since again) = since
 
--- behind its absence; behind what was done, whether it was had or isn't asked for any more
+-- after its absence; after what was done, whether it was available or isn't asked for any more
 abbrev pub away : ℕ → Tally → Tally
 away now t = record t { waits = Store (asked_since now t.waits) (after_span now retry_span) }
 
 abbrev pub done : ℕ → Tally → Tally
 done now t = record t { waits = Nothing; spent = waited now t; since = now }
 
--- behind something that was done, while a transaction is open or none is, with a recipient that was taken or without; and it is without one
--- from now on at the earliest where it had one
+-- after something that was done, while a transaction is open or none is, with a recipient that was taken or without; and it is without one
+-- from now on at the earliest if it had one
 abbrev pub settled : ℕ → Bool → Bool → Tally → Tally
 settled now opened taken t = record (if opened then done now t else fresh now) { guest = if taken then now else t.guest }
 
@@ -76,7 +76,7 @@ due_by (Store first again) since = 2 ^ 64 - 1
 abbrev pub due : Tally → ℕ
 due t = due_by t.waits t.since
 
--- what is wanted, where the dialogue wants this
+-- what is wanted, if the dialogue wants this
 abbrev pub wanted_by : Wanted → Waits → Wanted
 wanted_by comes Nothing = comes
 wanted_by comes (Store since again) = Until again

@@ -45,6 +45,6 @@ pub struct Addressee {
     pub user: Octets,
     /// The recipient's address, as it was written.
     pub address: Octets,
-    /// What became of the message, once a reply was made behind the text.
+    /// What became of the message, once a reply was made after the text.
     pub became: Option<Became>,
 }

@@ -9,7 +9,7 @@ pub struct Question {
     pub user: Octets,
     /// The recipient's address.
     pub address: Octets,
-    /// How many forms of its name were asked for with this one, where another form follows.
+    /// How many forms of its name were asked for with this one, if another form follows.
     pub next: Option<usize>,
 }
 
@@ -37,8 +37,8 @@ pub enum Demand {
     PutOff,
     /// The store is to be asked whether there is an account of that name.
     Account(Question),
-    /// A reply is to be made behind the text, without the store.
+    /// A reply is to be made after the text, without the store.
     Reply(Became),
-    /// A message is to be brought to the store.
+    /// A message is to be delivered by the store.
     Delivery(Parcel),
 }

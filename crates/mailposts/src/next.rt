@@ -17,7 +17,7 @@ use octets::Octets;
 use std::alloc::{AllocError, Global};
 
 /// The most octets of a text's header, with the empty line that ends it: that of a message, 1,048,576 (1 MiB, as Exim has it), less
-/// 2,200 for the two fields that a delivery has in front. A program reads all fields of a header at once.
+/// 2,200 for the two fields that a delivery has at its start. A program reads all fields of a header at once.
 const MAX_HEADER: usize = 1_046_376;
 
 impl Post {
@@ -103,7 +103,7 @@ impl Post {
         }
     }
 
-    // It wasn't brought for the same recipient before.
+    // It wasn't delivered for the same recipient before.
     fn demand_new(
         &self,
         now: u64,
@@ -128,7 +128,7 @@ impl Post {
         Ok(Demand::Delivery(parcel))
     }
 
-    // Those to whom a reply was made behind the text.
+    // Those to whom a reply was made after the text.
     fn told_before(&self) -> &[Addressee]
         requires { self.now.tally.told ≤ length self.now.addressees.items }
         ensures { result.now ≡ s.told_before self.now }
@@ -137,7 +137,7 @@ impl Post {
     }
 }
 
-// What is said where the text isn't kept.
+// What is said if the text isn't kept.
 fn reply_for(trouble: Trouble) -> Reply
     ensures { result ≡ s.reply_for trouble }
 {
@@ -159,7 +159,7 @@ fn addressee_at(addressees: &[Addressee], at: usize) -> Option<&Addressee>
     addressees.get(at)
 }
 
-// How many forms were asked for, where another one follows.
+// How many forms were asked for, if another one follows.
 fn following(tried: usize, count: usize) -> Option<usize>
     requires { tried < count }
     ensures { s.Follows tried count result }

@@ -17,7 +17,7 @@ use lmtp::{Lookup, Names, Next, Outcome, Receiver, Stage};
 use octets::Octets;
 use std::alloc::{AllocError, Global};
 
-/// One connection of LMTP: its dialogue, and the accounts of the recipients of the message that goes on.
+/// One connection of LMTP: its dialogue, and the accounts of the recipients of the current message.
 ///
 /// It knows no store: it says what is to be asked of one (`demand`), and is told what became of it. It holds what its
 /// receiver holds, and 1,000 recipients of twice 1,024 octets.
@@ -36,7 +36,7 @@ pub struct Post {
 impl Post {
     /// One that has just come: it is greeted, by the host's name.
     ///
-    /// Lack of memory is the only error, and the output then stays.
+    /// Lack of memory is the only error; the output then stays as it was.
     pub fn new(
         alloc: Global,
         names: Names,
@@ -76,7 +76,7 @@ impl Post {
         self.tally.due()
     }
 
-    /// Since when no recipient is taken, where its client owes octets. None where one is, and where something is owed to the client.
+    /// Since when no recipient is taken, if its client owes octets. None if one is, and if something is owed to the client.
     pub fn owed_since(&self) -> Option<u64>
         ensures { result ≡ s.owed_since self.now }
     {
@@ -90,7 +90,7 @@ impl Post {
         has_said_at(self.receiver.stage())
     }
 
-    /// Octets of the client come.
+    /// Takes octets of the client.
     ///
     /// Lack of memory is the only error; nothing changes then.
     pub fn hear(&mut self, now: u64, piece: &[u8]) -> Result<(), AllocError>
@@ -112,8 +112,8 @@ impl Post {
         self.receiver.held()
     }
 
-    /// A text that is sent, or was, isn't kept any more, since there is no room for it: it is heard to its end, and each recipient is told
-    /// so (452) who has had no reply. Where none is sent, nothing changes. Takes no memory.
+    /// Drops a text that is sent, or was, since there is no room for it: it is read to its end, and each recipient who has had no reply is
+    /// told so (452). If none is sent, nothing changes. Takes no memory.
     pub fn drop_text(&mut self)
         ensures keeps { s.Keeps self.old self.new }
         ensures dropped { receivers.IsDropped self.new.receiver.talk }
@@ -123,8 +123,8 @@ impl Post {
         self.receiver.drop_text();
     }
 
-    /// Where a MAIL comes next that announces more octets than there is `room` for, it is refused (452, RFC 1870, section 6.1), and the
-    /// answer is true; else nothing changes.
+    /// If a MAIL comes next that announces more octets than there is `room` for, refuses it (452, RFC 1870, section 6.1) and returns
+    /// true; otherwise nothing changes.
     ///
     /// Lack of memory is the only error; nothing changes then.
     pub fn refuse(&mut self, now: u64, room: u64, out: &mut Octets) -> Result<bool, AllocError>
@@ -140,7 +140,7 @@ impl Post {
         Ok(did)
     }
 
-    /// The line that comes next is answered.
+    /// Answers the line that comes next.
     ///
     /// Lack of memory is the only error.
     pub fn answer(&mut self, now: u64, out: &mut Octets) -> Result<(), AllocError>
@@ -154,7 +154,7 @@ impl Post {
         Ok(())
     }
 
-    /// The recipient that is asked for is put off: the store was away for too long.
+    /// Puts off the recipient that is asked for: the store was away for too long.
     ///
     /// Lack of memory is the only error.
     pub fn put_off(&mut self, now: u64) -> Result<Octets, AllocError>
@@ -166,7 +166,7 @@ impl Post {
         Ok(self.resolve(now, Lookup::Away, room))
     }
 
-    /// The store isn't to be had, and is asked for again.
+    /// The store isn't available, and is asked for again.
     pub fn await_store(&mut self, now: u64)
         requires { s.AsksIt now self.old }
         ensures does { s.Does now Away [] self.old self.new }
@@ -175,7 +175,7 @@ impl Post {
         self.tally = self.tally.away(now);
     }
 
-    /// The store was asked a question, and this is what was found. What is said. Takes no memory.
+    /// The store was asked a question, and this is what was found. Returns what is said. Takes no memory.
     pub fn found(&mut self, now: u64, question: Question, lookup: Lookup, room: Room) -> Octets
         requires found { posts.IsFound lookup }
         requires asked { s.Demands now self.old (demands.Account question) }
@@ -207,7 +207,7 @@ impl Post {
         }
     }
 
-    // The next form of the recipient's name is looked for.
+    // Looks for the next form of the recipient's name.
     fn try_next(&mut self, now: u64, next: usize) -> Octets
         ensures said { result ≡ [] }
         ensures tally { self.new.tally ≡ record (tallies.done now self.old.tally) { tried = next } }
@@ -218,7 +218,7 @@ impl Post {
         Octets::new(self.alloc)
     }
 
-    // The recipient is answered.
+    // Answers the recipient.
     fn resolve(&mut self, now: u64, lookup: Lookup, room: Room) -> Octets
         ensures resolves { s.ResolvesIt now lookup result self.old self.new }
         ensures held { s.HoldsNoMore self.old self.new }
@@ -229,7 +229,7 @@ impl Post {
         room.say(Outcome::Refused(lookup.reply()))
     }
 
-    /// A reply is made behind the text without the store. What is said.
+    /// Makes a reply after the text without the store. Returns what is said.
     ///
     /// Lack of memory is the only error.
     pub fn reply(&mut self, now: u64, became: Became) -> Result<Octets, AllocError>
@@ -241,7 +241,7 @@ impl Post {
         Ok(self.tell(now, became, room))
     }
 
-    /// A message was brought to the store, and this became of it. What is said. Takes no memory.
+    /// The store was to deliver a message, and this became of it. Returns what is said. Takes no memory.
     pub fn brought(&mut self, now: u64, parcel: &Parcel, became: Became, room: Room) -> Octets
         requires { s.Demands now self.old (demands.Delivery parcel.now) }
         ensures does { s.Does now (Brought parcel.now became) result self.old self.new }
@@ -250,7 +250,7 @@ impl Post {
         self.tell(now, became, room)
     }
 
-    // The reply to the next recipient is made.
+    // Makes the reply to the next recipient.
     fn tell(&mut self, now: u64, became: Became, room: Room) -> Octets
         ensures tells { s.TellsIt now became result self.old self.new }
         ensures held { s.HoldsNoMore self.old self.new }
@@ -262,7 +262,7 @@ impl Post {
         line
     }
 
-    // What became of the message for the next recipient is noted.
+    // Notes what became of the message for the next recipient.
     fn note_became(&mut self, became: Became)
         ensures noted { s.NotesBecame became self.old self.new }
         ensures counted { self.old.tally.told < length self.old.addressees.items → self.new.tally ≡ posts.next_recipient self.old.tally }
@@ -285,7 +285,7 @@ impl Post {
         self.comes = wanted_for(self.receiver.next());
     }
 
-    // Of a transaction that isn't open any more nothing is left.
+    // Drops what is left of a transaction that is no longer open.
     fn settle(&mut self, now: u64)
         ensures { s.Settles now self.old self.new }
     {
@@ -318,7 +318,7 @@ fn wanted_for(next: Next<'_>) -> Wanted
     }
 }
 
-// Since when it owes octets, where no recipient is taken and more is wanted of it.
+// Since when it owes octets, if no recipient is taken and more is wanted of it.
 fn owed_by(addressees: &[Addressee], wanted: Wanted, since: u64) -> Option<u64>
     ensures { result ≡ s.owed_by addressees.now wanted since }
 {

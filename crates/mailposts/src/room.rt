@@ -1,4 +1,4 @@
-//! Room for a reply, which is had before what is replied to is done.
+//! Memory for a reply, which is reserved before what is replied to is done.
 ghost use Rattle.std.specs.Prelude.{◌≡◌, ◌≤◌, ◌+◌, ◌++◌, [], length, map, take};
 ghost use Rattle.std.specs.Vec.{vec_len, vec_capacity};
 ghost use Rattle.lmtp.specs.Replies as replies;
@@ -13,7 +13,7 @@ const MAX_LINE: usize = 512;
 /// The most octets of a report.
 const MAX_REPORT: usize = 500;
 
-/// Room for one line.
+/// Memory for one line.
 #[derive(Drop)]
 pub struct Room {
     line: Vec<u8>,
@@ -46,7 +46,7 @@ impl Room {
     }
 }
 
-// So many octets of a text at most.
+// At most this many octets of a text.
 fn front(text: &[u8], most: usize) -> &[u8]
     ensures value { result.now ≡ take most text.now }
     ensures short { length result.now ≤ most }

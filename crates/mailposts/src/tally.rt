@@ -2,13 +2,13 @@
 ghost use Rattle.std.specs.Prelude.{◌≡◌, true, false};
 ghost use Rattle.mailposts.specs.Tallies as s;
 
-/// So many milliseconds the store is asked for in vain, for all recipients of a message together.
+/// For how many milliseconds the store is asked for without success, for all recipients of a message together.
 const MAX_AWAY: u64 = 60000;
 
-/// So many milliseconds later it is asked for again.
+/// After how many milliseconds it is asked for again.
 const RETRY_SPAN: u64 = 5;
 
-/// For so many milliseconds a client may say nothing (RFC 5321, section 4.5.3.2.7).
+/// For how many milliseconds a client may say nothing (RFC 5321, section 4.5.3.2.7).
 const MAX_SILENCE: u64 = 300_000;
 
 /// What is wanted of a connection to which all is sent.
@@ -16,9 +16,9 @@ const MAX_SILENCE: u64 = 300_000;
 pub enum Wanted {
     /// More octets.
     More,
-    /// To go on with what it has heard.
+    /// To continue with what it has heard.
     Step,
-    /// To go on at that moment.
+    /// To continue at that moment.
     Until(u64),
     /// That it ends.
     Done,
@@ -29,23 +29,23 @@ pub enum Wanted {
 pub enum Waits {
     /// Nothing.
     Nothing,
-    /// The store, which wasn't to be had at the first moment, and is asked for again at the second.
+    /// The store, which wasn't available at the first moment, and is asked for again at the second.
     Store(u64, u64),
 }
 
 /// How far a message has come, and the time that it took.
 #[derive(Clone, Copy, Debug, PartialEq, Eq)]
 pub struct Tally {
-    /// For so many forms of the recipient that is asked for there is no account.
+    /// How many forms of the recipient that is asked for have no account.
     pub tried: usize,
-    /// For so many recipients a reply was made behind the text.
+    /// How many recipients got a reply after the text.
     pub told: usize,
     pub waits: Waits,
-    /// For so many milliseconds the store was away before, for this message.
+    /// How many milliseconds the store was away before, for this message.
     pub spent: u64,
     /// The moment from which on the client's silence is counted.
     pub since: u64,
-    /// The moment since which no recipient is taken; where one is, that of what was done last.
+    /// The moment since which no recipient is taken; if one is, that of what was done last.
     pub guest: u64,
 }
 
@@ -85,7 +85,7 @@ impl Tally {
         }
     }
 
-    /// Behind something that was done: the store isn't waited for.
+    /// After something that was done: the store isn't waited for.
     pub fn done(&self, now: u64) -> Tally
         ensures { result ≡ s.done now self.now }
     {
@@ -99,7 +99,7 @@ impl Tally {
         }
     }
 
-    /// Behind something that was done, where a transaction is open or none is, with a recipient that was taken or without.
+    /// After something that was done, while a transaction is open or none is, with a recipient that was taken or without.
     pub fn settled(&self, now: u64, opened: bool, taken: bool) -> Tally
         ensures { result ≡ s.settled now opened taken self.now }
     {
@@ -112,7 +112,7 @@ impl Tally {
         tally
     }
 
-    /// Behind the store's absence.
+    /// After the store's absence.
     pub fn away(&self, now: u64) -> Tally
         ensures { result ≡ s.away now self.now }
     {
@@ -130,7 +130,7 @@ impl Tally {
         }
     }
 
-    /// Behind so many octets that came; of a text that is sent each octet buys a millisecond.
+    /// After this many octets that came; of a text that is sent each octet buys a millisecond.
     pub fn heard(&self, now: u64, sending: bool, count: usize) -> Tally
         ensures { result ≡ s.heard now sending count self.now }
     {
@@ -159,7 +159,7 @@ impl Tally {
         }
     }
 
-    /// What is wanted, where `comes` is what the dialogue wants.
+    /// What is wanted, if `comes` is what the dialogue wants.
     pub fn wanted(&self, comes: Wanted) -> Wanted
         ensures { result ≡ s.wanted comes self.now }
     {

@@ -12,7 +12,7 @@ use Rattle.mailsenders.specs.declared.queue.TakenOut.{TakenOut}
 use Rattle.mailsenders.specs.declared.row.Stop.{Stop}
 use Rattle.mailsenders.specs.declared.row.Stop.TheVariants.{Memory, Store, Output, Kept, Unreachable}
 
--- a row's letter: its own sender and target, and its message without our `Return-Path`
+-- a row's message: its own sender and target, and its text without our `Return-Path`
 pub record IsLetterOf (row : Row) (mail : Mail) : Type 0 where
   pub sender : mail.sender ≡ row.sender
   pub target : mail.target ≡ row.target
@@ -24,7 +24,7 @@ pub record Deed : Type 0 where
   -- what the server offers
   pub offered : Extensions
   pub ending : Ending
-  -- what became of the row where it was to be taken out
+  -- what became of the row if it was to be taken out
   pub taken : Option TakenOut
 
 pub record State : Type 0 where
@@ -34,12 +34,12 @@ pub record State : Type 0 where
 abbrev pub state : Rows → Talk → State
 state rows talk = record { rows = rows; talk = talk }
 
--- the row is taken out only where it was sent; else no row changes
+-- the row is taken out only if it was sent; otherwise no row changes
 abbrev pub Leaves : Option TakenOut → Row → Ending → Rows → Rows → Type 0
 Leaves (Some taken) row ending before after = (ending ≡ Sent) × TakesRow row taken before after
 Leaves None row ending before after = after ≡ before
 
--- one row: it is in the queue and due, its letter is handed to the server, and then it leaves or stays
+-- one row: it is in the queue and due, its message is handed to the server, and then it leaves or stays
 pub record Does (may_eight_bit : Bool) (deed : Deed) (before after : State) : Type 0 where
   pub there : IsThere deed.row before.rows
   pub mail : Mail
@@ -47,16 +47,16 @@ pub record Does (may_eight_bit : Bool) (deed : Deed) (before after : State) : Ty
   pub treats : Treats deed.offered may_eight_bit mail before.talk after.talk deed.ending
   pub leaves : Leaves deed.taken deed.row deed.ending before.rows after.rows
 
--- deeds, the last one first
+-- what was done with rows, the last one first
 abbrev pub Leads : Bool → List Deed → State → State → Type 0
 Leads may_eight_bit [] before after = after ≡ before
 Leads may_eight_bit (deed ∷ earlier) before after = (mid : State) × Leads may_eight_bit earlier before mid × Does may_eight_bit deed mid after
 
--- a row that was sent was taken out, or it didn't stand there any more
+-- a row that was sent was taken out, or it wasn't there any more
 abbrev pub HasLeft : Deed → Type 0
 HasLeft deed = deed.ending ≡ Sent → IsSome deed.taken
 
--- deeds lead to rows that are shown, and to what was said; where the run ended well each row that was sent has left
+-- what was done leads to rows that are shown, and to what was said; if the run ended well each row that was sent has left
 pub record Reaches (may_eight_bit : Bool) (Shows : Rows → Type 0) (Said : Talk → Type 0) (before : State) (is_whole : Bool) : Type 0 where
   pub deeds : List Deed
   pub after : State

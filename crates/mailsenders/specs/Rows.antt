@@ -28,13 +28,13 @@ pub record TakesOut (user : List ℕ) (id : ℕ) (before after : Rows) : Type 0 
   pub gone : after user id ≡ None
   pub others : (other : List ℕ) (number : ℕ) → (other ≡ user → number ≡ id → ⊥) → after other number ≡ before other number
 
--- what a row has is a row's own sender, target and message, be it due or not
+-- what a row has is a row's own sender, target and message, whether it is due or not
 pub record HasOctets (row : Row) (content : Content) : Type 0 where
   pub sender : content.sender ≡ row.sender
   pub target : content.target ≡ row.target
   pub message : content.message ≡ row.message
 
--- a row stands in its user's queue: its number is there, and its octets are
+-- a row is in its user's queue: its number is there, and its octets are
 abbrev pub Stands : Row → Rows → Type 0
 Stands row rows = (content : Content) × (rows row.user row.id ≡ Some content) × HasOctets row content
 
@@ -42,7 +42,7 @@ Stands row rows = (content : Content) × (rows row.user row.id ≡ Some content)
 abbrev pub IsChanged : Row → Rows → Type 0
 IsChanged row rows = (content : Content) × (rows row.user row.id ≡ Some content) × (HasOctets row content → ⊥)
 
--- what became of a row that was to be taken out: it stood there, and left; or it didn't, and no row changed
+-- what became of a row that was to be taken out: it was there, and left; or it wasn't, and no row changed
 abbrev pub TakesRow : Row → TakenOut → Rows → Rows → Type 0
 TakesRow row Removed before after = Stands row before × TakesOut row.user row.id before after
 TakesRow row Gone before after = (before row.user row.id ≡ None) × (after ≡ before)

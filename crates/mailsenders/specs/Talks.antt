@@ -1,4 +1,4 @@
--- What is written for a letter and answered, over a connection that is open.
+-- What is written for a message and answered, over a connection that is open.
 use Rattle.std.specs.Prelude.{◌≡◌, ◌<◌, ℕ, Bool, List, [], ◌∷◌, ◌++◌}
 use Rattle.smtpclient.specs.Letters.{Mail, mail_of, mail_line, rcpt_line, IsAddressed, IsOffered}
 use Rattle.smtpclient.specs.Dialogues.{Speaks, spelled, turn_of}
@@ -26,7 +26,7 @@ wrote t octets = talk (t.written ++ octets) t.answered
 abbrev pub heard : Talk → ℕ → Talk
 heard t code = talk t.written (t.answered ++ code ∷ [])
 
--- a front of octets was written
+-- a prefix of octets was written
 pub record WritesFront (octets : List ℕ) (before after : Talk) : Type 0 where
   pub front : List ℕ
   pub rest : List ℕ
@@ -34,19 +34,19 @@ pub record WritesFront (octets : List ℕ) (before after : Talk) : Type 0 where
   pub written : after.written ≡ before.written ++ front
   pub answered : after.answered ≡ before.answered
 
--- a front of octets is written, and these are left
+-- a prefix of octets is written, and these are left
 pub record Writing (all : List ℕ) (before now : Talk) (rest : List ℕ) : Type 0 where
   pub done : List ℕ
   pub written : now.written ≡ before.written ++ done
   pub answered : now.answered ≡ before.answered
   pub whole : all ≡ done ++ rest
 
--- a letter's lines are its own
+-- a message's lines are its own
 pub record IsSpelled (letter : Spelled) : Type 0 where
   pub mail : letter.mail.now ≡ mail_line letter.offered (mail_of letter.letter)
   pub rcpt : letter.rcpt.now ≡ rcpt_line (mail_of letter.letter)
 
--- a letter's dialogue from a stage on
+-- a message's dialogue from a stage on
 pub record Says (offered : Extensions) (mail : Mail) (stage : Stage) (before after : Talk) (ending : Ending) : Type 0 where
   pub lines : List ℕ
   pub codes : List ℕ
@@ -78,13 +78,13 @@ abbrev pub Steps : Extensions → Mail → Stage → Talk → Talk → Turn → 
 Steps offered mail stage before after (Goes onward) = GoesOn offered mail stage before after onward
 Steps offered mail stage before after (Ends ending) = Says offered mail stage before after ending
 
--- a letter that goes: its addresses are mailboxes, what it needs is offered, and this is its dialogue
+-- a message that goes out: its addresses are mailboxes, what it needs is offered, and this is its dialogue
 pub record GoesOut (offered : Extensions) (may_eight_bit : Bool) (mail : Mail) (before after : Talk) (ending : Ending) : Type 0 where
   pub addressed : IsAddressed mail
   pub needs : IsOffered offered may_eight_bit mail
   pub says : Says offered mail Sender before after ending
 
--- what is done with a letter: it goes, or nothing is written, for a cause
+-- what is done with a message: it goes out, or nothing is written, for a cause
 abbrev pub Treats : Extensions → Bool → Mail → Talk → Talk → Ending → Type 0
 Treats offered may_eight_bit mail before after Unaddressed = (after ≡ before) × (IsAddressed mail → ⊥)
 Treats offered may_eight_bit mail before after Undeclared = (after ≡ before) × IsAddressed mail × (IsOffered offered may_eight_bit mail → ⊥)

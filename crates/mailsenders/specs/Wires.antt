@@ -1,15 +1,15 @@
--- What passes over a connection, and what of it was for letters.
+-- What passes over a connection, and what of it was for messages.
 use Rattle.std.specs.Prelude.{ℕ, List, [], ◌∷◌, ◌++◌}
 use Rattle.smtpclient.specs.Replies.{IsReply}
 use Rattle.mailsenders.specs.Talks.{Talk}
 
--- of what was sent this was written for letters, in this order; the rest was for others: EHLO, RSET, QUIT
+-- of what was sent this was written for messages, in this order; the rest was for others: EHLO, RSET, QUIT
 pub data Carries : List ℕ → List ℕ → Type 0 where
   sent_none : Carries [] []
   sent_letter : (sent written octets : List ℕ) → Carries sent written → Carries (sent ++ octets) (written ++ octets)
   sent_other : (sent written octets : List ℕ) → Carries sent written → Carries (sent ++ octets) written
 
--- of what came these are the codes of the replies to letters, in this order; the rest was other replies, or none
+-- of what came these are the codes of the replies to messages, in this order; the rest was other replies, or none
 pub data Answers : List ℕ → List ℕ → Type 0 where
   came_none : Answers [] []
   came_reply : (came codes octets rest : List ℕ) (code : ℕ) → Answers came codes → IsReply (octets ++ rest) code rest → Answers (came ++ octets) (codes ++ code ∷ [])

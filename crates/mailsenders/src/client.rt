@@ -13,7 +13,7 @@ use std::alloc::Global;
 /// The most octets of a reply.
 const MAX_REPLY: usize = 65_536;
 
-/// A reply that comes at once comes in so many pieces at most.
+/// A reply that comes at once comes in at most this many pieces.
 const MAX_PIECES: u32 = 4;
 
 /// A client of SMTP (RFC 5321) over a connection.
@@ -58,7 +58,7 @@ impl<P: Peer + Drop> Client<P> {
         &self.peer
     }
 
-    // Octets of no letter.
+    // Writes octets of no message.
     fn say(&mut self, octets: &[u8]) -> Result<(), Lost>
         ensures { (t : Talk) → s.Passes (P.passed self.old.peer) self.old.unread t → s.Passes (P.passed self.new.peer) self.new.unread t }
     {
@@ -68,7 +68,7 @@ impl<P: Peer + Drop> Client<P> {
         }
     }
 
-    // More octets come.
+    // Takes more octets, once they come.
     fn listen(&mut self, patience: Patience) -> Result<(), Lost>
         ensures { (t : Talk) → s.Passes (P.passed self.old.peer) self.old.unread t → s.Passes (P.passed self.new.peer) self.new.unread t }
     {
@@ -85,7 +85,7 @@ impl<P: Peer + Drop> Client<P> {
         Ok(())
     }
 
-    // More octets come at once. Answers whether some did.
+    // Takes more octets, if some come at once. Returns whether some did.
     fn listen_at_once(&mut self) -> bool
         ensures { (t : Talk) → s.Passes (P.passed self.old.peer) self.old.unread t → s.Passes (P.passed self.new.peer) self.new.unread t }
     {
@@ -104,7 +104,7 @@ impl<P: Peer + Drop> Client<P> {
         }
     }
 
-    // Waits until a reply stands first in what isn't read.
+    // Waits until a reply comes first in what isn't read.
     fn next_reply(&mut self, patience: Patience) -> Result<Reply, Lost>
         ensures kept { (t : Talk) → s.Passes (P.passed self.old.peer) self.old.unread t → s.Passes (P.passed self.new.peer) self.new.unread t }
         ensures within { IfOk result (λ reply. reply.count ≤ length self.new.unread) }
@@ -124,7 +124,7 @@ impl<P: Peer + Drop> Client<P> {
         Err(Lost)
     }
 
-    // The reply to something that is no letter's. Answers whether it is 2yz.
+    // Hears the reply to something that is no message's. Returns whether it is 2yz.
     fn agrees(&mut self, patience: Patience) -> Result<bool, Lost>
         ensures { (t : Talk) → s.Passes (P.passed self.old.peer) self.old.unread t → s.Passes (P.passed self.new.peer) self.new.unread t }
     {
@@ -137,7 +137,7 @@ impl<P: Peer + Drop> Client<P> {
         }
     }
 
-    // The server's greeting, and EHLO. Answers what the reply to that offers.
+    // Hears the server's greeting, and says EHLO. Returns what the reply to that offers.
     fn greet(&mut self) -> Result<Extensions, Lost>
         ensures { (t : Talk) → s.Passes (P.passed self.old.peer) self.old.unread t → s.Passes (P.passed self.new.peer) self.new.unread t }
     {
@@ -166,7 +166,7 @@ impl<P: Peer + Drop> Client<P> {
         }
     }
 
-    // What the reply that stands first offers.
+    // What the reply that comes first offers.
     fn offered_in(&self, count: usize) -> Extensions
         requires { count ≤ length self.now.unread }
     {
@@ -174,7 +174,7 @@ impl<P: Peer + Drop> Client<P> {
         read_extensions(reply)
     }
 
-    // What isn't read is forgotten, and the connection ends.
+    // Drops what isn't read, and ends the connection.
     fn leave(&mut self)
         ensures { (t : Talk) → s.Passes (P.passed self.old.peer) self.old.unread t → s.Passes (P.passed self.new.peer) self.new.unread t }
     {

@@ -1,4 +1,4 @@
-//! A letter's dialogue with a server.
+//! A message's dialogue with a server.
 ghost use Rattle.std.specs.Prelude.{IfOk, OnOk, OnErr};
 ghost use Rattle.smtpclient.specs.Dialogues.{spelled};
 ghost use Rattle.smtpclient.specs.Letters.{mail_of};
@@ -14,12 +14,12 @@ use crate::way::{await_reply, write_octets};
 use smtpclient::{DATA, Ending, Extensions, Letter, Stage, Turn, mail_line, next_turn, rcpt_line};
 use std::alloc::{AllocError, Global};
 
-/// Hands a letter to a server: one whose addresses are no mailboxes, or that needs what isn't offered, isn't written.
+/// Hands a message to a server: one whose addresses are no mailboxes, or that needs what isn't offered, isn't written.
 ///
-/// The store of the queue is given back before each wait for the connection that isn't over at once, and where somebody waits for it.
+/// The store of the queue is given back before each wait for the connection that isn't over at once, and if somebody waits for it.
 ///
-/// Lack of memory is the only error, and then nothing was written. Time is linear in the letter's octets; memory is taken for the lines of
-/// MAIL and RCPT, and for a piece of the text. Where there is none for the piece the connection counts as lost.
+/// Lack of memory is the only error, and then nothing was written. Time is linear in the message's octets; memory is taken for the lines
+/// of MAIL and RCPT, and for a piece of the text. If there is none for the piece the connection counts as lost.
 pub fn send_letter<Q: Queue, S: Server, J: Journal>(
     alloc: Global,
     queue: &mut Q,
@@ -51,7 +51,7 @@ pub fn send_letter<Q: Queue, S: Server, J: Journal>(
     Ok(speak(alloc, queue, server, journal, spelled, Stage::Sender))
 }
 
-/// A letter with its lines.
+/// A message with its lines.
 #[derive(Clone, Copy)]
 pub(crate) struct Spelled<'a> {
     pub(crate) letter: Letter<'a>,
@@ -63,7 +63,7 @@ pub(crate) struct Spelled<'a> {
     pub(crate) rcpt: &'a [u8],
 }
 
-// The letter's dialogue from a stage on.
+// The message's dialogue from a stage on.
 fn speak<Q: Queue, S: Server, J: Journal>(
     alloc: Global,
     queue: &mut Q,
@@ -83,7 +83,7 @@ fn speak<Q: Queue, S: Server, J: Journal>(
     }
 }
 
-// One stage: it is written, and what is answered is heard.
+// One stage: writes it, and hears what is answered.
 fn step<Q: Queue, S: Server, J: Journal>(
     alloc: Global,
     queue: &mut Q,

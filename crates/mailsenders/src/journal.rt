@@ -5,7 +5,7 @@ use smtpclient::Ending;
 #[derive(Clone, Copy, Debug, PartialEq, Eq)]
 pub struct Unwritten;
 
-/// Tells what became of rows, notes when one is tried again, and has a clock. Nothing that is promised of a run hangs on it.
+/// Tells what became of rows, notes when one is tried again, and has a clock. Nothing that is promised of a run depends on it.
 pub trait Journal {
     /// The user's row with the number is the next that is handed over.
     fn begin(&mut self, user: &[u8], id: u64);
@@ -23,6 +23,6 @@ pub trait Journal {
     /// The milliseconds of a clock that never goes back.
     fn uptime(&mut self) -> u64;
 
-    /// Waits for so many milliseconds.
+    /// Waits for this many milliseconds.
     fn pause(&mut self, milliseconds: u64);
 }

@@ -31,7 +31,7 @@ impl Patience {
     }
 }
 
-/// So many milliseconds are a moment: what comes or goes later doesn't do so at once.
+/// How many milliseconds are a moment: what comes or goes later doesn't do so at once.
 pub const MOMENT: u64 = 20;
 
 /// Connections with one server, one after another.
@@ -49,7 +49,7 @@ pub trait Peer {
         ensures err { OnErr result ((sent came : List ℕ) → passed self.old sent came
             → (front rest : List ℕ) × (octets.now ≡ front ++ rest) × passed self.new (sent ++ front) came) };
 
-    /// Sends as many of these octets as the connection takes at once. Answers how many.
+    /// Sends as many of these octets as the connection takes at once. Returns how many.
     fn offer(&mut self, octets: &[u8]) -> Result<usize, Lost>
         ensures within { IfOk result (λ count. count ≤ length octets.now) }
         ensures ok { IfOk result (λ count. (sent came : List ℕ) → passed self.old sent came → passed self.new (sent ++ take count octets.now) came) }
@@ -62,14 +62,14 @@ pub trait Peer {
         ensures ok { IfOk result (λ count. (sent came : List ℕ) → passed self.old sent came → passed self.new sent (came ++ take count piece.new)) }
         ensures err { OnErr result ((sent came : List ℕ) → passed self.old sent came → passed self.new sent came) };
 
-    /// Takes octets as [`receive`](Peer::receive) does, where some come at once; none where none do.
+    /// Takes octets as [`receive`](Peer::receive) does, if some come at once; none if none do.
     fn receive_at_once(&mut self, piece: &mut [u8]) -> Result<Option<usize>, Lost>
         ensures within { IfOk result (λ found. IfSome found (λ count. count ≤ length piece.new)) }
         ensures some { IfOk result (λ found. IfSome found (λ count. (sent came : List ℕ) → passed self.old sent came → passed self.new sent (came ++ take count piece.new))) }
         ensures none { IfOk result (λ found. IfNone found ((sent came : List ℕ) → passed self.old sent came → passed self.new sent came)) }
         ensures err { OnErr result ((sent came : List ℕ) → passed self.old sent came → passed self.new sent came) };
 
-    /// Ends the connection, where there is one.
+    /// Ends the connection, if there is one.
     fn disconnect(&mut self)
         ensures kept { (sent came : List ℕ) → passed self.old sent came → passed self.new sent came };
 }

@@ -32,7 +32,7 @@ pub enum TakenOut {
 pub enum Unavailable {
     /// There is no memory.
     Memory,
-    /// The store can't be had, or refuses.
+    /// The store isn't available, or refuses.
     Store,
 }
 
@@ -44,14 +44,13 @@ pub trait Queue {
     ghost shows: { Self → Rows → Type 0 };
 
     /// The first row after this place that is due, in the order of the octets of the users and of the numbers. The store is taken for it,
-    /// where it isn't had, and had then.
+    /// if it isn't held, and held then.
     fn next(&mut self, user: &[u8], id: u64) -> Result<Option<Row>, Unavailable>
         ensures there { IfOk result (λ found. IfSome found (λ row. (rows : Rows) → shows self.old rows → IsThere row rows)) }
         ensures same { (rows : Rows) → shows self.old rows → shows self.new rows };
 
-    /// Takes a row out, and what is taken out stays so whatever stops later. It is the row that has its user, its number, its sender, its
-    /// target and its message; where there is no such row nothing changes. The store is taken for it, where it isn't had, waited for without
-    /// an end, and had then.
+    /// Takes a row out, durably. It is the row that has its user, its number, its sender, its target and its message; if there is no such
+    /// row nothing changes. The store is taken for it, if it isn't held, waited for without an end, and held then.
     ///
     /// # Errors
     ///
@@ -60,12 +59,12 @@ pub trait Queue {
         ensures taken { IfOk result (λ taken. (rows : Rows) → shows self.old rows → (after : Rows) × TakesRow row.now taken rows after × shows self.new after) }
         ensures kept { OnErr result ((rows : Rows) → shows self.old rows → shows self.new rows) };
 
-    /// Gives the store back where it is had and somebody waits for it, or it was had for long, at a moment in milliseconds. Answers
-    /// whether it was had for long.
+    /// Gives the store back if it is held and somebody waits for it, or it was held for long, at a moment in milliseconds. Returns
+    /// whether it was held for long.
     fn give_way(&mut self, moment: u64) -> bool
         ensures same { (rows : Rows) → shows self.old rows → shows self.new rows };
 
-    /// Gives the store back, where it is had.
+    /// Gives the store back, if it is held.
     fn give_back(&mut self)
         ensures same { (rows : Rows) → shows self.old rows → shows self.new rows };
 }

@@ -1,4 +1,4 @@
-//! One row: its letter is sent, and then it leaves the queue.
+//! One row: its message is sent, and then it leaves the queue.
 ghost use Rattle.std.specs.Prelude.{IfOk, OnErr};
 ghost use Rattle.smtpclient.specs.Letters.{mail_of};
 ghost use Rattle.mailsenders.specs.Rows.{Rows, TakesRow};
@@ -11,10 +11,10 @@ use crate::server::Server;
 use smtpclient::{Ending, Extensions, Letter, without_path};
 use std::alloc::Global;
 
-/// How many milliseconds a row that was sent is tried to be taken out, from the first refusal on.
+/// For how many milliseconds it is tried to take out a row that was sent, from the first refusal on.
 const PATIENCE: u64 = 600_000;
 
-/// So many milliseconds later it is tried again.
+/// After how many milliseconds it is tried again.
 const PAUSE: u64 = 1_000;
 
 /// Why a run ends early.
@@ -22,9 +22,9 @@ const PAUSE: u64 = 1_000;
 pub enum Stop {
     /// There is no memory.
     Memory,
-    /// The store can't be had, or can't be read.
+    /// The store isn't available, or can't be read.
     Store,
-    /// The server can't be had.
+    /// The server isn't available.
     Unreachable,
     /// What became of a row can't be told.
     Output,
@@ -32,7 +32,7 @@ pub enum Stop {
     Kept,
 }
 
-/// Hands a row's letter to the server. Behind the 250 to its text the row is taken out; where the store refuses that it is tried again for
+/// Hands a row's message to the server. After the 250 to its text the row is taken out; if the store refuses that it is tried again for
 /// ten minutes. Another row that has its number by then stays. That is told, and so is a row that is gone.
 ///
 /// Time is linear in the message's octets.
@@ -72,7 +72,7 @@ pub fn send_row<Q: Queue, S: Server, J: Journal>(
     }
 }
 
-// The row's letter.
+// The row's message.
 pub(crate) fn letter_of(row: &Row) -> Letter<'_>
     ensures { s.IsLetterOf row.now (mail_of result) }
 {
@@ -83,7 +83,7 @@ pub(crate) fn letter_of(row: &Row) -> Letter<'_>
     }
 }
 
-// What is to be told of a row that was sent and was to be taken out.
+// Tells of a row that was sent and was to be taken out.
 fn tell_taken<J: Journal>(journal: &mut J, row: &Row, taken: TakenOut) {
     match taken {
         TakenOut::Removed => {}
@@ -92,7 +92,7 @@ fn tell_taken<J: Journal>(journal: &mut J, row: &Row, taken: TakenOut) {
     }
 }
 
-// Takes the row out. What is refused is tried again, a second between, until ten minutes are over since the first refusal.
+// Takes the row out. What is refused is tried again, a second later, until ten minutes have passed since the first refusal.
 fn take_out<Q: Queue, J: Journal>(
     queue: &mut Q,
     journal: &mut J,

@@ -51,11 +51,11 @@ struct Link {
     may_eight_bit: bool,
 }
 
-/// Hands the rows of all queues that are due to a server, in the order of the octets of the users and of the numbers, at most so many of
-/// them. It connects once there is one, and again where the connection was lost.
+/// Hands the rows of all queues that are due to a server, in the order of the octets of the users and of the numbers, at most this many
+/// of them. It connects once there is one, and again if the connection was lost.
 ///
-/// The store of the queues is had from one row to the next while the server answers at once and nobody waits for it: it is given back
-/// before each wait for the connection that isn't over at once, where somebody waits for it, and where it was had for long.
+/// The store of the queues is held from one row to the next while the server answers at once and nobody waits for it: it is given back
+/// before each wait for the connection that isn't over at once, if somebody waits for it, and if it was held for long.
 ///
 /// Time is linear in the rows and in their messages' octets; one row is in memory.
 ///
@@ -103,7 +103,7 @@ pub fn send_queue<Q: Queue, S: Server, J: Journal>(
     Ok(tally)
 }
 
-// The first row behind a place.
+// The first row after a place.
 fn read_next<Q: Queue>(queue: &mut Q, user: &Octets, id: u64) -> Result<Option<Row>, Stop>
     ensures there { IfOk result (λ found. IfSome found (λ row. (rows : Rows) → Q.shows queue.old rows → IsThere row rows)) }
     ensures same { (rows : Rows) → Q.shows queue.old rows → Q.shows queue.new rows }
@@ -115,7 +115,7 @@ fn read_next<Q: Queue>(queue: &mut Q, user: &Octets, id: u64) -> Result<Option<R
     }
 }
 
-// One row: it is handed over, and what became of it is noted. Answers how that ended.
+// Hands over one row, and notes what became of it. Returns how that ended.
 fn visit<Q: Queue, S: Server, J: Journal>(
     alloc: Global,
     queue: &mut Q,
@@ -133,7 +133,7 @@ fn visit<Q: Queue, S: Server, J: Journal>(
     noted(journal, row, handed)
 }
 
-// The row is handed to the server, over the connection that there is or a new one.
+// Hands the row to the server, over the connection that there is or a new one.
 fn hand_over<Q: Queue, S: Server, J: Journal>(
     alloc: Global,
     queue: &mut Q,
@@ -159,7 +159,7 @@ fn hand_over<Q: Queue, S: Server, J: Journal>(
     }
 }
 
-// What became of the row is noted: where the server can't be had it waits.
+// Notes what became of the row: if the server isn't available it waits.
 fn noted<J: Journal>(
     journal: &mut J,
     row: &Row,
@@ -178,7 +178,8 @@ fn noted<J: Journal>(
     }
 }
 
-// What the server offers, over the connection that there is or a new one; none where it can't be had. A row that is never sent needs none.
+// What the server offers, over the connection that there is or a new one; none if it isn't available. A row that is never sent needs
+// none.
 fn offered_for<Q: Queue, S: Server>(
     queue: &mut Q,
     server: &mut S,
@@ -203,7 +204,7 @@ fn offered_for<Q: Queue, S: Server>(
     Some(offered)
 }
 
-// The connection behind a letter: a letter that was refused is forgotten by RSET, and a connection that was lost is ended.
+// Settles the connection after a message: one that was refused is dropped by RSET, and a connection that was lost is ended.
 fn settle<Q: Queue, S: Server, J: Journal>(
     queue: &mut Q,
     server: &mut S,
@@ -227,7 +228,7 @@ fn settle<Q: Queue, S: Server, J: Journal>(
     }
 }
 
-// The letter that was refused is forgotten. Answers whether the server says yes to that.
+// Drops the message that was refused. Returns whether the server says yes to that.
 fn begin_anew<Q: Queue, S: Server, J: Journal>(
     queue: &mut Q,
     server: &mut S,

@@ -4,36 +4,36 @@ ghost use Rattle.mailsenders.specs.Talks.{Talk};
 
 use smtpclient::{Extensions, Stage};
 
-/// The connection is lost, or can't be had.
+/// The connection is lost, or isn't available.
 #[derive(Clone, Copy, Debug, PartialEq, Eq)]
 pub struct Lost;
 
-/// A connection with a server. What is written and answered is counted from behind the reply to EHLO on, and without RSET and QUIT: it is
-/// what was written for letters, and the replies to that.
+/// A connection with a server. What is written and answered is counted after the reply to EHLO, and without RSET and QUIT: it is
+/// what was written for messages, and the replies to that.
 pub trait Server {
     ghost use Rattle.mailsenders.specs.Talks.{WritesFront, wrote, heard};
 
     /// Whether this is what was written and answered so far. A connection over a socket doesn't tell, and says it of nothing.
     ghost said: { Self → Talk → Type 0 };
 
-    /// Connects, hears the greeting, and says EHLO. Answers what the server offers.
+    /// Connects, hears the greeting, and says EHLO. Returns what the server offers.
     fn open(&mut self) -> Result<Extensions, Lost>
         ensures kept { (t : Talk) → said self.old t → said self.new t };
 
-    /// Writes octets of a letter.
+    /// Writes octets of a message.
     ///
     /// # Errors
     ///
-    /// The connection is lost, and a front of them was written.
+    /// The connection is lost, and a prefix of them was written.
     fn write(&mut self, octets: &[u8]) -> Result<(), Lost>
         ensures ok { OnOk result ((t : Talk) → said self.old t → said self.new (wrote t octets.now)) }
         ensures err { OnErr result ((t : Talk) → said self.old t → (u : Talk) × said self.new u × WritesFront octets.now t u) };
 
-    /// Writes as many octets of a letter as go at once. Answers how many.
+    /// Writes as many octets of a message as go at once. Returns how many.
     ///
     /// # Errors
     ///
-    /// The connection is lost, and a front of them was written.
+    /// The connection is lost, and a prefix of them was written.
     fn offer(&mut self, octets: &[u8]) -> Result<usize, Lost>
         ensures within { IfOk result (λ count. count ≤ length octets.now) }
         ensures ok { IfOk result (λ count. (t : Talk) → said self.old t → said self.new (wrote t (take count octets.now))) }
@@ -44,7 +44,7 @@ pub trait Server {
     fn has_reply(&mut self) -> bool
         ensures kept { (t : Talk) → said self.old t → said self.new t };
 
-    /// Waits for the reply to what was written at this stage. Answers its code.
+    /// Waits for the reply to what was written at this stage. Returns its code.
     ///
     /// # Errors
     ///
@@ -53,7 +53,7 @@ pub trait Server {
         ensures ok { IfOk result (λ code. (t : Talk) → said self.old t → said self.new (heard t code)) }
         ensures err { OnErr result ((t : Talk) → said self.old t → said self.new t) };
 
-    /// Says RSET, so that the next letter begins anew.
+    /// Says RSET, so that the next message begins anew.
     ///
     /// # Errors
     ///
@@ -61,11 +61,11 @@ pub trait Server {
     fn reset(&mut self) -> Result<(), Lost>
         ensures kept { (t : Talk) → said self.old t → said self.new t };
 
-    /// Waits for the reply to RSET. Answers whether the server says yes; not where the connection is lost.
+    /// Waits for the reply to RSET. Returns whether the server says yes; not if the connection is lost.
     fn is_reset(&mut self) -> bool
         ensures kept { (t : Talk) → said self.old t → said self.new t };
 
-    /// Says QUIT where the connection stands, and ends it.
+    /// Says QUIT if the connection isn't lost, and ends it.
     fn close(&mut self)
         ensures kept { (t : Talk) → said self.old t → said self.new t };
 }

@@ -12,10 +12,10 @@ use crate::way::write_octets;
 use smtpclient::Sent;
 use std::alloc::Global;
 
-/// Parts of a text are gathered up to so many octets, and written at once.
+/// Parts of a text are gathered up to this many octets, and written at once.
 const PIECE: usize = 32_768;
 
-/// Writes a text in its parts, and the dot behind it. Memory is taken for one piece.
+/// Writes a text in its parts, and the dot after it. Memory is taken for one piece.
 ///
 /// # Errors
 ///
@@ -43,7 +43,7 @@ pub(crate) fn write_text<Q: Queue, S: Server, J: Journal>(
     write_piece(queue, server, journal, &mut piece)
 }
 
-// A part joins the piece. A piece that it would make too large is written before, and so is a part that is one alone.
+// Appends a part to the piece. A piece that it would make too large is written before, and so is a part that is one alone.
 fn gather<Q: Queue, S: Server, J: Journal>(
     queue: &mut Q,
     server: &mut S,
@@ -67,7 +67,7 @@ fn gather<Q: Queue, S: Server, J: Journal>(
     Ok(())
 }
 
-// What was gathered is written.
+// Writes what was gathered.
 fn write_piece<Q: Queue, S: Server, J: Journal>(
     queue: &mut Q,
     server: &mut S,

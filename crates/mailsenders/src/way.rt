@@ -1,4 +1,4 @@
-//! The store while a connection is spoken to: it is kept where replies come at once, and nobody else waits for it.
+//! The store while a connection is spoken to: it is kept if replies come at once, and nobody else waits for it.
 ghost use Rattle.std.specs.Prelude.{OnOk, OnErr};
 ghost use Rattle.mailsenders.specs.Rows.{Rows};
 ghost use Rattle.mailsenders.specs.Talks as s;
@@ -8,10 +8,10 @@ use crate::journal::Journal;
 use crate::queue::Queue;
 use crate::server::{Lost, Server};
 
-/// So many milliseconds the store is left alone where it was had for long: others may ask for it without saying that they wait.
+/// For how many milliseconds the store is left alone if it was held for long: others may ask for it without saying that they wait.
 const REST: u64 = 20;
 
-/// The store is given back where somebody waits for it, or where it was had for long; then it rests.
+/// Gives the store back if somebody waits for it, or if it was held for long; then it rests.
 pub(crate) fn make_way<Q: Queue, J: Journal>(queue: &mut Q, journal: &mut J)
     ensures { (rows : Rows) → Q.shows queue.old rows → Q.shows queue.new rows }
 {
@@ -21,7 +21,7 @@ pub(crate) fn make_way<Q: Queue, J: Journal>(queue: &mut Q, journal: &mut J)
     }
 }
 
-/// Before a reply is waited for: the store is kept where the reply comes at once, and nobody waits for the store.
+/// Before a reply is waited for: the store is kept if the reply comes at once, and nobody waits for the store.
 pub(crate) fn await_reply<Q: Queue, S: Server, J: Journal>(
     queue: &mut Q,
     server: &mut S,
@@ -36,11 +36,11 @@ pub(crate) fn await_reply<Q: Queue, S: Server, J: Journal>(
     }
 }
 
-/// Writes octets of a letter. The store is kept where they go at once, and nobody waits for the store.
+/// Writes octets of a message. The store is kept if they go at once, and nobody waits for the store.
 ///
 /// # Errors
 ///
-/// The connection is lost, and a front of them was written.
+/// The connection is lost, and a prefix of them was written.
 pub(crate) fn write_octets<Q: Queue, S: Server, J: Journal>(
     queue: &mut Q,
     server: &mut S,

@@ -16,7 +16,7 @@ joined user folder message = counted user ++ counted folder ++ message
 abbrev pub file_name : List ℕ → List ℕ → ℕ → List ℕ → List ℕ
 file_name user folder number message = decimal number ++ (codes "." ++ encode_lower (sha256 (joined user folder message)))
 
--- where the file of that name stands in a Maildir: in `new`, and where its message has letters in `cur`, with them behind its name
+-- where the file of that name is in a Maildir: in `new`, and if its message has letters in `cur`, with them after its name
 abbrev pub place_by : List ℕ → List ℕ → List ℕ
 place_by name [] = codes "new/" ++ name
 place_by name (letter ∷ more) = codes "cur/" ++ (name ++ (codes ":2," ++ letter ∷ more))

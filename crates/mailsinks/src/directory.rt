@@ -20,7 +20,7 @@ impl Identity {
         }
     }
 
-    /// Which directory stands at a path; none where none does, or a link to one. Links before the last part of the path are followed.
+    /// Which directory is at a path; none if none is, or a link to one. Links before the last part of the path are followed.
     pub(crate) fn at(rt: &HostRuntime, path: &str) -> io::Result<Option<Identity>> {
         match fs::symlink_metadata(rt, path) {
             Ok(found) => Ok(found.is_dir().then(|| Identity::of(&found))),
@@ -34,7 +34,7 @@ impl Identity {
         }
     }
 
-    /// Which directory stands at a path where one is wanted. One that doesn't, or a link, is an error.
+    /// Which directory is at a path that is to have one. If none is, or a link, that is an error.
     pub(crate) fn wanted_at(rt: &HostRuntime, path: &str) -> io::Result<Identity> {
         match Identity::at(rt, path)? {
             Some(identity) => Ok(identity),
@@ -42,7 +42,7 @@ impl Identity {
         }
     }
 
-    /// Fails where another directory stands at a path now, or a link.
+    /// Fails if another directory is at a path now, or a link.
     pub(crate) fn expect_at(self, rt: &HostRuntime, path: &str) -> io::Result<()> {
         if Identity::wanted_at(rt, path)? == self {
             Ok(())
@@ -52,7 +52,7 @@ impl Identity {
     }
 }
 
-/// Opens the directory that stands at a path. A link to one is an error.
+/// Opens the directory at a path. A link to one is an error.
 pub(crate) fn open_directory(rt: &HostRuntime, path: &str) -> io::Result<File> {
     let named = Identity::wanted_at(rt, path)?;
     let file = File::open(rt, path)?;

@@ -1,4 +1,4 @@
-//! The names of files that keep messages, and where they stand.
+//! The names of files that keep messages, and where they are.
 ghost use Rattle.std.specs.Prelude.{◌≡◌, ◌++◌, IfOk};
 ghost use Rattle.std.specs.Str.{IsUtf8};
 ghost use Rattle.std.specs.String.{string_bytes};
@@ -28,8 +28,8 @@ pub fn name_of(
     format!(in alloc; "{number}.{digest}")
 }
 
-/// Where the file of that name stands in a Maildir, by the text that names its message's flags: in `new`; where some of them are system
-/// flags in `cur`, with their letters behind its name, as `cur/NAME:2,FS`. Other flags have no letters, and are told nowhere.
+/// Where the file of that name is in a Maildir, by the text that names its message's flags: in `new`; if some of them are system
+/// flags in `cur`, with their letters after its name, as `cur/NAME:2,FS`. Other flags have no letters, and are told nowhere.
 pub fn place_of(alloc: Global, name: &str, flags: &[u8]) -> Result<String, AllocError>
     ensures { IfOk result (λ place. string_bytes place ≡ place_by name.now (letters (named flags.now))) }
 {

@@ -10,6 +10,6 @@ pub struct KeptMail {
     pub number: u64,
     /// The octets that were received.
     pub message: Octets,
-    /// The text that names its flags there, with a blank between two; empty where it has none.
+    /// The text that names its flags there, with a blank between two; empty if it has none.
     pub flags: Octets,
 }

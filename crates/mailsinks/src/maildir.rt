@@ -10,14 +10,14 @@ use std::{format, fs, io};
 
 /// Keeps messages in a Maildir, each as a file of `new`, or with system flags of `cur`: one for any program that reads Maildirs.
 ///
-/// A file is written under `tmp`, and stands there only once all of it is on the disk. Memory is that of some paths.
+/// A file is written under `tmp`, and is in its place only once all of it is on the disk. Memory is that of some paths.
 ///
 /// No link is followed at the end of its path and below it: `tmp`, `new` and `cur` are directories of its own, and each is the same one,
-/// by its device and number, before a file came to its place and behind it. A path that ends in `/.` is a directory, whatever led there.
+/// by its device and number, before a file came to its place and after. A path that ends in `/.` is a directory, whatever led there.
 #[derive(Drop)]
 pub struct Maildir<'a> {
     rt: &'a HostRuntime,
-    /// The path, where one was opened.
+    /// The path, if one was opened.
     path: Option<String>,
     cause: Option<ErrorKind>,
 }
@@ -32,7 +32,8 @@ impl<'a> Maildir<'a> {
         }
     }
 
-    /// What is answered for an error of the system, `NoMaildir` where something else stands where a directory is to. What is known of it is kept for `cause`.
+    /// What is answered for an error of the system, `NoMaildir` if something else is where a directory is to be. What is known of it is kept
+    /// for `cause`.
     fn refusal(&mut self, error: io::Error) -> SinkError
         ensures { self.new.path ≡ self.old.path }
     {
@@ -57,8 +58,8 @@ impl MailSink for Maildir<'_> {
 
     ghost is_at = { λ maildir path. option_map string_bytes maildir.path ≡ Some path };
 
-    /// On Ok the names of the Maildir and of its `tmp`, `new` and `cur` are on the disk, whoever made them: each call syncs the
-    /// Maildir and the directory in which it stands.
+    /// After Ok the names of the Maildir and of its `tmp`, `new` and `cur` are on the disk, whoever made them: each call syncs the
+    /// Maildir and its parent directory.
     fn open(&mut self, path: &str) -> Result<(), SinkError> {
         self.cause = None;
         match is_settled(self.rt, path) {
@@ -71,7 +72,7 @@ impl MailSink for Maildir<'_> {
         }
     }
 
-    /// On Ok the names of what was made are on the disk.
+    /// After Ok the names of what was made are on the disk.
     fn make(&mut self, path: &str) -> Result<(), SinkError> {
         self.cause = None;
         match make_maildir(self.rt, path) {
@@ -111,7 +112,7 @@ impl MailSink for Maildir<'_> {
     }
 }
 
-/// Whether the path is a Maildir. Where it is, its name and those of its directories are on the disk, though the run that made them
+/// Whether the path is a Maildir. If it is, its name and those of its directories are on the disk, even if the run that made them
 /// was killed.
 fn is_settled(rt: &HostRuntime, path: &str) -> io::Result<bool> {
     if !is_maildir(rt, path)? {
@@ -122,7 +123,7 @@ fn is_settled(rt: &HostRuntime, path: &str) -> io::Result<bool> {
     Ok(true)
 }
 
-/// Syncs the directory in which one stands, where that can be done. One that may not be read is passed over: `make` is refused in it,
+/// Syncs the parent directory of a path, if that can be done. One that may not be read is passed over: `make` is refused in it,
 /// so others make what it has. One of a file system that syncs no directories is too: no name in it waits for a disk.
 fn sync_known_parent(rt: &HostRuntime, path: &str) -> io::Result<()> {
     match sync_parent(rt, path) {
@@ -134,7 +135,7 @@ fn sync_known_parent(rt: &HostRuntime, path: &str) -> io::Result<()> {
     }
 }
 
-/// Syncs the directory in which one stands, whose name is on the disk then. Of a link that is where its target stands.
+/// Syncs the parent directory of a path, whose name is on the disk then. For a link it is the parent of its target.
 fn sync_parent(rt: &HostRuntime, path: &str) -> io::Result<()> {
     sync_directory(rt, format!(in rt.alloc(); "{path}/..")?.as_str())
 }
@@ -149,7 +150,7 @@ fn is_maildir(rt: &HostRuntime, path: &str) -> io::Result<bool> {
     Ok(!path.is_empty() && is_directory(rt, path)? && has_parts(rt, path, &["tmp", "new"])?)
 }
 
-/// Whether a path has these directories below it. A link is none.
+/// Whether a path has these directories below it. A link counts as none.
 fn has_parts(rt: &HostRuntime, path: &str, parts: &[&str]) -> io::Result<bool> {
     for part in parts {
         if !is_directory(rt, format!(in rt.alloc(); "{path}/{part}")?.as_str())? {
@@ -164,8 +165,8 @@ fn is_directory(rt: &HostRuntime, path: &str) -> io::Result<bool> {
     Ok(Identity::at(rt, path)?.is_some())
 }
 
-/// Makes a Maildir, with its directories `tmp`, `new` and `cur`, where they aren't there. On Ok their names are on the disk. Nothing is
-/// made behind a link: one that stands at the end of the path has to lead to a whole Maildir.
+/// Makes a Maildir, with its directories `tmp`, `new` and `cur`, if they aren't there. After Ok their names are on the disk. Nothing is
+/// made beyond a link: one at the end of the path has to lead to a whole Maildir.
 fn make_maildir(rt: &HostRuntime, path: &str) -> io::Result<()> {
     let parts = ["tmp", "new", "cur"];
     if !has_parts(rt, path, &parts)? {
@@ -178,7 +179,7 @@ fn make_maildir(rt: &HostRuntime, path: &str) -> io::Result<()> {
     sync_parent(rt, path)
 }
 
-/// Makes a directory, where it isn't there. A link to one is an error.
+/// Makes a directory, if it isn't there. A link to one is an error.
 fn make_directory(rt: &HostRuntime, path: &str) -> io::Result<()> {
     match fs::create_dir(rt, path) {
         Err(error) if error.kind() == ErrorKind::AlreadyExists => {
@@ -189,10 +190,10 @@ fn make_directory(rt: &HostRuntime, path: &str) -> io::Result<()> {
     }
 }
 
-/// Puts a message into a Maildir under a name, at a place in it. On Ok the file and its name are on the disk; a file that doesn't come to
-/// its place isn't left under `tmp` either.
+/// Puts a message into a Maildir under a name, at a place in it. After Ok the file and its name are on the disk; a file that doesn't come
+/// to its place isn't left under `tmp` either.
 ///
-/// The Maildir, its `tmp` and the directory of the place are no links before and behind it, and the same directories.
+/// The Maildir, its `tmp` and the directory of the place are no links before and after that, and the same directories.
 fn keep_in(
     rt: &HostRuntime,
     path: &str,
@@ -217,7 +218,7 @@ fn keep_in(
     directory.sync_all()
 }
 
-/// The directory of a Maildir in which a place is. `cur`, which a Maildir may lack that no program has read, is made where it isn't
+/// The directory of a Maildir in which a place is. `cur`, which a Maildir may lack that no program has read, is made if it isn't
 /// there, and its name is on the disk then. The name of one that was there came to the disk as the Maildir was opened.
 fn directory_of(rt: &HostRuntime, path: &str, place: &str) -> io::Result<String> {
     if !place.starts_with("cur/") {

@@ -35,17 +35,17 @@ pub trait MailSink {
     /// Whether it tells what it keeps. One over memory does, one over files doesn't.
     ghost tells: { Bool };
 
-    /// The messages that it keeps, each with its user, folder and number, in the order in which they came, where it tells them.
+    /// The messages that it keeps, each with its user, folder and number, in the order in which they came, if it tells them.
     ghost kept: { Self → List KeptMail };
 
     /// What the system said of the last failure.
     ghost said: { Self → Option ErrorKind };
 
-    /// What is so of a sink that was opened at a path, until it is opened at another. Only an Ok of `open` says it, so who can say it of
+    /// What holds of a sink that was opened at a path, until it is opened at another. Only an Ok of `open` says it, so who can say it of
     /// any sink opened it for that path.
     ghost is_at: { Self → List ℕ → Type 0 } = { λ _ _. ⊤ };
 
-    /// What is so of a sink that refused a call, and why. Only the refusals of `open` and `keep` say it, so who can say it of any sink
+    /// What holds of a sink that refused a call, and why. Only the refusals of `open` and `keep` say it, so who can say it of any sink
     /// asked it, and was refused so.
     ghost refuses: { Self → SinkError → Type 0 } = { λ _ _. ⊤ };
 
@@ -53,14 +53,14 @@ pub trait MailSink {
     ///
     /// # Errors
     ///
-    /// `NoMaildir` where the path isn't one; else why it can't be looked at or synced. The place that was open before stays.
+    /// `NoMaildir` if the path isn't one; otherwise why it can't be looked at or synced. The place that was open before stays.
     fn open(&mut self, path: &str) -> Result<(), SinkError>
         ensures placed { OnOk result (is_at self.new path.now) }
         ensures unmoved { OnErr result ((before : List ℕ) → is_at self.old before → is_at self.new before) }
         ensures same { IsTrue tells → kept self.new ≡ kept self.old }
         ensures denied { IfErr result (refuses self.old) };
 
-    /// Makes the place at the path, where that isn't there, within one that is. After Ok a crash doesn't lose it. What is open stays
+    /// Makes the place at the path, if that isn't there, within one that is. After Ok a crash doesn't lose it. What is open stays
     /// open.
     ///
     /// # Errors
@@ -72,12 +72,12 @@ pub trait MailSink {
         ensures denied { IfErr result (refuses self.old) };
 
     /// Keeps the message that has this number in the user's folder, with the flags that the text names, so that a crash after Ok doesn't
-    /// lose it. What a try before kept of the same message under the same number isn't kept twice (a Maildir: while it is where that put
-    /// it).
+    /// lose it. What an earlier try kept of the same message under the same number isn't kept twice (a Maildir: while it is where that
+    /// put it).
     ///
     /// # Errors
     ///
-    /// `NoMaildir` where no place is open; else why the message isn't kept for sure. It may be kept nevertheless.
+    /// `NoMaildir` if no place is open; otherwise why the message isn't kept for sure. It may be kept nevertheless.
     fn keep(
         &mut self,
         user: &[u8],
@@ -91,7 +91,7 @@ pub trait MailSink {
         ensures refused { OnErr result (IsTrue tells → MayKeep (kept self.old) (kept_mail user.now folder.now number message.now flags.now) (kept self.new)) }
         ensures denied { IfErr result (refuses self.old) };
 
-    /// What the system said of the last failure; none where it said nothing.
+    /// What the system said of the last failure; none if it said nothing.
     fn cause(&self) -> Option<ErrorKind>
         ensures { result ≡ said self.now };
 }

@@ -102,7 +102,7 @@ impl Act {
         }
     }
 
-    /// The events of the act; the last one is the change. None where opening the store is it.
+    /// The events of the act; the last one is the change. None if opening the store is it.
     pub fn events(self, alloc: Global) -> Result<Vec<Event>, AllocError> {
         let mut events = Vec::new(alloc);
         match self {

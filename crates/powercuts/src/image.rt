@@ -34,14 +34,14 @@ impl Image {
         Ok(Image { log, db })
     }
 
-    /// What is left where all is lost that wasn't synced.
+    /// What is left if all is lost that wasn't synced.
     pub fn synced(alloc: Global, files: &mut CutFiles) -> Result<Image, AllocError> {
         files.log.crash();
         files.db.crash();
         Image::seen(alloc, files)
     }
 
-    /// What is left where of what wasn't synced every other sector is lost, the even ones or the odd ones.
+    /// What is left if of what wasn't synced every other sector is lost, the even ones or the odd ones.
     pub fn torn(
         alloc: Global,
         synced: &Image,
@@ -102,7 +102,7 @@ fn add_any(left: &mut Vec<u8>, count: usize) -> Result<(), AllocError> {
     Ok(())
 }
 
-/// A file of these octets, on the disk, of which so many calls are made.
+/// A file of these octets, on the disk, of which this many calls are made.
 fn laid(alloc: Global, octets: &[u8], calls: u64) -> Result<Fuse<Memory>, AllocError> {
     let mut file = Memory::new(alloc);
     if file.write_at(0, octets).is_err() || file.sync().is_err() {

@@ -21,7 +21,7 @@ pub const ALL: [&str; 8] = [
 /// The row of the version.
 pub const VERSION: [&str; 1] = ["SELECT value FROM meta"];
 
-/// The rows that queries give, in their order; none where one fails.
+/// The rows that queries give, in their order; none if one fails.
 pub fn found<S: Alter>(
     alloc: Global,
     conn: &mut Connection<S>,

@@ -13,7 +13,7 @@ const MOST: u64 = 10_000;
 #[derive(Clone, Copy)]
 pub struct Counts {
     pub stops: u64,
-    /// How many states were opened: all that was written, what was synced, and two that are torn, where they aren't those of
+    /// How many states were opened: all that was written, what was synced, and two that are torn, if they aren't those of
     /// the stop before.
     pub opened: u64,
     pub before: u64,
@@ -24,7 +24,7 @@ pub struct Counts {
 }
 
 impl Counts {
-    /// With one state more.
+    /// Counts one state more.
     fn with(self, found: Found, is_answered: bool) -> Counts {
         let mut counts = self;
         counts.opened = self.opened.saturating_add(1);
@@ -164,7 +164,7 @@ fn trial_of(alloc: Global, act: Act) -> Result<Trial, AllocError> {
     })
 }
 
-/// The store after what happens before the act; as it was made where that is nothing, and not opened yet.
+/// The store after what happens before the act; as it was made if that is nothing, and not opened yet.
 fn base_of(alloc: Global, act: Act, made: Image) -> Result<Image, AllocError> {
     let earlier = act.earlier(alloc)?;
     if earlier.is_empty() {
@@ -190,7 +190,7 @@ fn shown_by(alloc: Global, image: &Image) -> Result<Option<Octets>, AllocError> 
     Ok(visit.shown)
 }
 
-/// What is left of an act of which one file makes so many calls.
+/// What is left of an act of which one file makes this many calls.
 fn stop_at(
     alloc: Global,
     base: &Image,

@@ -24,7 +24,7 @@ pub enum Errand<'a> {
 pub struct Visit {
     /// Whether all was done: each event was answered, and the last one not refused.
     pub is_done: bool,
-    /// The version that was found, and the rows of the store that was opened, where it was looked at.
+    /// The version that was found, and the rows of the store that was opened, if it was looked at.
     pub shown: Option<Octets>,
 }
 
@@ -103,7 +103,7 @@ fn look<S: Alter>(alloc: Global, conn: Connection<S>) -> (Visit, Connection<S>) 
     )
 }
 
-/// What follows, behind the version; none where there is none of the two.
+/// What follows, after the version; none if there is none of the two.
 fn joined(version: Option<Octets>, rows: Option<Octets>) -> Option<Octets> {
     let (mut all, rows) = (version?, rows?);
     all.extend_from_slice(rows.as_slice()).ok()?;

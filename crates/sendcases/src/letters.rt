@@ -7,7 +7,7 @@ use mailsenders::{Client, Row, send_queue};
 use octets::{Octets, parse_decimal, write_decimal};
 use std::alloc::{AllocError, Global};
 
-/// How many octets come at once, at most: what is answered doesn't hang on that.
+/// How many octets come at once, at most: what is answered doesn't depend on that.
 const PIECES: [usize; 4] = [4_096, 1, 2, 7];
 
 /// Answers what becomes of rows: what is noted of each, `left` and the numbers of those that are left, and what was written.
@@ -17,19 +17,19 @@ const PIECES: [usize; 4] = [4_096, 1, 2, 7];
 #[derive(Drop)]
 pub struct Letters;
 
-/// Answers the same of queues that refuse so many times to give a row up, as the first column says; the others are those of `Letters`.
-/// Behind the answer stands how many seconds were waited.
+/// Answers the same of queues that refuse this many times to give a row up, as the first column says; the others are those of `Letters`.
+/// After the answer comes how many seconds were waited.
 #[derive(Drop)]
 pub struct Refusals;
 
 /// Answers when the store was taken and given back: what the queue noted (`trace` of `MemoryQueue`), what was noted of each row, and how many
-/// seconds were waited. The columns: what the server sends, where a `~` stands before what comes late; behind how many looks for who waits for
-/// the store somebody does, or nothing; how many milliseconds pass from one look at the clock to the next; how many times a row isn't given
-/// up; and three of each row, as in `Letters`.
+/// seconds were waited. The columns: what the server sends, with a `~` before what comes late; after how many looks whether somebody waits
+/// for the store somebody does, or nothing; how many milliseconds pass from one look at the clock to the next; how many times a row isn't
+/// given up; and three of each row, as in `Letters`.
 #[derive(Drop)]
 pub struct Holdings;
 
-/// Answers what becomes of rows, as `Letters` does, where another makes something else of one of them: once the store is given back behind
+/// Answers what becomes of rows, as `Letters` does, while another makes something else of one of them: once the store is given back after
 /// that row was found. The columns: what the server sends; the number of the row; `gone`, or `other` and three columns of the row that then
 /// has the number; and three of each row.
 #[derive(Drop)]
@@ -148,7 +148,7 @@ impl Answers for Changes {
     }
 }
 
-// What another makes of the row with a number, and the columns behind it.
+// What another makes of the row with a number, and the columns after it.
 fn change_of<'a>(
     alloc: Global,
     id: u64,
@@ -169,13 +169,13 @@ fn change_of<'a>(
 struct Run<'a> {
     /// What the server sends.
     server: &'a [u8],
-    /// Three texts a row.
+    /// Three texts for each row.
     rows: &'a [Octets],
     /// How many octets come at once, at most.
     most: usize,
-    /// How many times a row isn't given up.
+    /// How many times taking a row out is refused.
     refusals: u64,
-    /// Behind how many looks somebody waits for the store.
+    /// After how many looks somebody waits for the store.
     looks: Option<u64>,
     /// How many milliseconds pass from one look at the clock to the next.
     span: u64,

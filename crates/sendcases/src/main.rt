@@ -26,7 +26,7 @@ fn main(rt: HostRuntime) -> io::Result<ExitCode> {
     Ok(ExitCode::from(u8::from(failed)))
 }
 
-// Tries the rows of a file. Answers whether one of them doesn't hold.
+// Tries the rows of a file. Returns whether one of them doesn't hold.
 fn try_file<A: Answers>(rt: &HostRuntime, name: &str, answers: &mut A) -> io::Result<bool> {
     let file = fs::read_to_string(rt, name)?;
     let mut tally = Tally::new(rt.alloc());

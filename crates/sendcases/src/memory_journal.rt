@@ -4,7 +4,8 @@ use octets::{Octets, write_decimal};
 use smtpclient::Ending;
 use std::alloc::{AllocError, Global};
 
-/// What became of rows, one after another: `ID ENDING; ` for each, and `ID changed; ` before that of one whose number another row has. Its clock goes on where it pauses, and by a span at each look at it.
+/// What became of rows, one after another: `ID ENDING; ` for each, and `ID changed; ` before that of one whose number another row has. Its
+/// clock goes on when it pauses, and by a span at each look at it.
 #[derive(Drop)]
 pub struct MemoryJournal {
     told: Octets,

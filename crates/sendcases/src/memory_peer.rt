@@ -5,14 +5,14 @@ use mailsenders::{Lost, Patience, Peer};
 use octets::Octets;
 use std::alloc::Global;
 
-/// Of what is written at once it takes so many octets.
+/// Of what is written at once it takes this many octets.
 const MOST_TAKEN: usize = 1_000;
 
-/// Stands before octets that don't come at once, and isn't sent.
+/// Comes before octets that don't come at once, and isn't sent.
 const LATE: u8 = b'~';
 
-/// A server that sends given octets, so many of them at once at most, whatever it hears. What stands behind a `~` doesn't come at once.
-/// Behind them the connection ends, and there is no second one.
+/// A server that sends given octets, at most `most` of them at once, whatever it hears. What follows a `~` doesn't come at once.
+/// After them the connection ends, and there is no second one.
 #[derive(Drop)]
 pub struct MemoryPeer<'a> {
     left: &'a [u8],
@@ -31,7 +31,7 @@ impl<'a> MemoryPeer<'a> {
         }
     }
 
-    // So many octets come into the piece, up to some that are late.
+    // Puts the next octets into the piece, up to some that are late, and returns how many.
     fn hand_out(&mut self, piece: &mut [u8]) -> usize
         ensures { result ≤ length piece.new }
     {

@@ -3,10 +3,10 @@ use mailsenders::{Queue, Row, TakenOut, Unavailable};
 use octets::{List, Octets};
 use std::alloc::{AllocError, Global};
 
-/// The store is had for so many milliseconds in a row at most.
+/// For how many milliseconds at most the store is held without a break.
 const MAX_HAD: u64 = 1_000;
 
-/// What another makes of the row with a number, once the store is given back behind it was found.
+/// What another makes of the row with a number, once the store is given back after it was found.
 #[derive(Drop)]
 pub enum Change {
     /// Nothing.
@@ -26,11 +26,11 @@ pub struct MemoryQueue {
     gone: Vec<bool>,
     /// How many more times a row that is to be taken out is refused.
     refusals: u64,
-    /// Whether the store is had.
+    /// Whether the store is held.
     is_had: bool,
-    /// When it was first looked at the clock since then.
+    /// When the clock was first looked at since then.
     since: Option<u64>,
-    /// How many looks come before the one at which somebody waits; none where nobody does.
+    /// How many looks come before the one at which somebody waits; none if nobody does.
     looks: Option<u64>,
     change: Change,
     /// The number of the row that was found last.
@@ -39,8 +39,8 @@ pub struct MemoryQueue {
 }
 
 impl MemoryQueue {
-    /// Without rows. So many times a row that is to be taken out is refused. Of the looks for who waits for the store, while it is had, the
-    /// one behind so many others finds somebody, who adds a row.
+    /// Without rows. This many times taking a row out is refused. Of the looks whether somebody waits for the store, while it is held, the
+    /// one after `looks` others finds somebody, who adds a row.
     pub fn new(alloc: Global, refusals: u64, looks: Option<u64>) -> MemoryQueue {
         MemoryQueue {
             alloc,
@@ -61,15 +61,15 @@ impl MemoryQueue {
         self.change = change;
     }
 
-    /// A row more, behind the others.
+    /// Adds a row after the others.
     pub fn push(&mut self, row: Row) -> Result<(), AllocError> {
         self.rows.push(row)?;
         self.gone.push(false)?;
         Ok(())
     }
 
-    /// What was done, one after the other: `+` where the store was taken, `-` where it was given back, `?N` where the row with the number was
-    /// found, `.` where none was, `xN` where it was taken out, `gN` where it was gone, `cN` where another had its number, `!` where that was
+    /// What was done, one after the other: `+` if the store was taken, `-` if it was given back, `?N` if the row with the number was
+    /// found, `.` if none was, `xN` if it was taken out, `gN` if it was gone, `cN` if another had its number, `!` if that was
     /// refused.
     pub fn trace(&self) -> &[u8] {
         self.trace.as_slice()
@@ -111,7 +111,7 @@ impl MemoryQueue {
         }
     }
 
-    // What has the number of a row is taken out, where it is that row.
+    // Takes out what has the number of a row, if it is that row.
     fn remove(&mut self, sent: &Row) -> TakenOut {
         let mut taken = TakenOut::Gone;
         for (row, gone) in self.rows.as_slice().iter().zip(self.gone.iter_mut()) {
@@ -247,7 +247,7 @@ fn copy_of(alloc: Global, row: &Row) -> Result<Row, AllocError> {
     })
 }
 
-// The row that somebody else adds behind so many others.
+// The row that somebody else adds after this many others.
 fn row_of_other(alloc: Global, count: usize) -> Result<Row, AllocError> {
     Ok(Row {
         user: Octets::from_slice(alloc, b"u")?,

@@ -29,7 +29,7 @@ IsAfter start place = queued_cmp start place ≡ Less
 abbrev pub HasRow : Accounts → Queued → Outgoing → Type 0
 HasRow accounts place row = OfOpen accounts place.user (λ a. row_with place.id a.queue ≡ Some row)
 
--- the row at a place; none where there is none
+-- the row at a place; none if there is none
 abbrev pub IsRowAt : Queued → Accounts → Option Outgoing → Type 0
 IsRowAt place accounts None = (row : Outgoing) → HasRow accounts place row → ⊥
 IsRowAt place accounts (Some row) = HasRow accounts place row
@@ -40,7 +40,7 @@ is_due waits now at = wait.is_due waits now (place at.user at.id)
 
 -- rows that wait, at a moment
 module _ (waits : Waits) (now : ℕ) where
-  -- at none of these places a row is due
+  -- at none of these places is a row due
   abbrev pub IsNoneDue : (Queued → Type 0) → Accounts → Type 0
   IsNoneDue Here accounts = (place : Queued) (row : Outgoing) → Here place → HasRow accounts place row → is_due waits now place ≡ true → ⊥
 
@@ -51,7 +51,7 @@ module _ (waits : Waits) (now : ℕ) where
     pub row : HasRow accounts post.place post.row
     pub first : IsNoneDue (λ place. IsAfter start place × IsAfter place post.place) accounts
 
-  -- that row; none where none is due after the place
+  -- that row; none if none is due after the place
   abbrev pub IsFound : Queued → Accounts → Option Post → Type 0
   IsFound start accounts None = IsNoneDue (IsAfter start) accounts
   IsFound start accounts (Some post) = IsNext start accounts post
@@ -61,7 +61,7 @@ module _ (waits : Waits) (now : ℕ) where
     pub after : IsAfter start place
     pub none : IsNoneDue (λ other. IsAfter start other × (IsAfter place other → ⊥)) accounts
 
-  -- what stands after a place: nothing that is due, or nothing until there, or the first one that is
+  -- what comes after a place: nothing that is due, or nothing until there, or the first one that is
   abbrev pub IsStep : Queued → Accounts → Step → Type 0
   IsStep start accounts End = IsNoneDue (IsAfter start) accounts
   IsStep start accounts (Past place) = IsPast start place accounts
@@ -69,7 +69,7 @@ module _ (waits : Waits) (now : ℕ) where
 
 -- ---- over a store
 
--- whatever accounts a store showed, it then shows some that these turn into; and where its disk is clean then, it was before
+-- whatever accounts a store showed, it then shows some that these turn into; and if its disk is clean then, it was before
 pub record Works (Turn : Accounts → Accounts → Type 0) (old new : State) : Type 0 where
   pub carries : Carries Turn old new
   pub clean : HasCleanDisk new → HasCleanDisk old
@@ -100,7 +100,7 @@ IsOtherRow place sent accounts = (row : Outgoing) × HasRow accounts place row �
 abbrev pub IsGone : Queued → Accounts → Accounts → Type 0
 IsGone place accounts later = (answer : Answer) × Taking accounts place.user place.id answer later
 
--- what became of a row that was sent: it stood at its place, and that event took it; or it didn't, and no account changed
+-- what became of a row that was sent: it was at its place, and that event took it; or it wasn't, and no account changed
 abbrev pub TakesSent : Queued → Row → TakenOut → Accounts → Accounts → Type 0
 TakesSent place sent Removed accounts later = IsSentRow place sent accounts × IsGone place accounts later
 TakesSent place sent Gone accounts later = IsRowAt place accounts None × (later ≡ accounts)

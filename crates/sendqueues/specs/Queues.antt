@@ -37,23 +37,23 @@ module _ (waits : Waits) (now : ℕ) where
   abbrev pub AreRows : Accounts → Rows → Type 0
   AreRows accounts rows = (user : List ℕ) (id : ℕ) → rows user id ≡ rows_in accounts user id
 
-  -- a row that was found stands in its user's queue, and is due
+  -- a row that was found is in its user's queue, and is due
   abbrev pub IsFoundIn : Accounts → Option Post → Type 0
   IsFoundIn accounts found = IfSome found (λ post. HasRow accounts post.place post.row × (is_due waits now post.place ≡ true))
 
--- ---- a keeper, and its store while that is had
+-- ---- a keeper, and its store while that is held
 
--- no account changes, and where a row was found it is the first one that is due after a place; none is found where none is
+-- no account changes, and if a row was found it is the first one that is due after a place; none is found if there is none
 abbrev pub Finds : Waits → ℕ → Queued → Result (Option Post) Unavailable → Accounts → Accounts → Type 0
 Finds waits now start result accounts later = (later ≡ accounts) × IfOk result (IsFound waits now start accounts)
 
--- the row that was sent was taken out at its place, or it didn't stand there; or no account changes
+-- the row that was sent was taken out at its place, or it wasn't there; or no account changes
 abbrev pub Removes : Queued → Row → Result TakenOut Unavailable → Accounts → Accounts → Type 0
 Removes place sent (Ok taken) accounts later = TakesSent place sent taken accounts later
 Removes place sent (Err denial) accounts later = later ≡ accounts
 
 module _ {S : Type 0} (g : Ghosts S) where
-  -- while it is had the store shows the accounts; else the keeper's tables offer them
+  -- while it is held the store shows the accounts; otherwise the keeper's tables offer them
   abbrev pub ShowsBy : Database → Option (Held S) → Accounts → Type 0
   ShowsBy db (Some store) accounts = HasAccounts (state g store) accounts
   ShowsBy db None accounts = Offers db accounts

@@ -1,4 +1,4 @@
-//! A keeper, and its store while that is had.
+//! A keeper, and its store while that is held.
 ghost use Rattle.std.specs.Prelude.{◌≡◌, None};
 ghost use Rattle.sendqueues.specs.Queues.{Finds, Removes, StillShown, TurnsShown};
 
@@ -14,13 +14,13 @@ use std::alloc::Global;
 pub struct Search<'a> {
     /// The path of the store.
     pub path: &'a str,
-    /// What is known of rows that were tried in vain.
+    /// What is known of rows that were tried without success.
     pub waits: &'a Waits,
     /// The moment at which a row is to be due.
     pub now: u64,
 }
 
-/// A keeper, and its store while that is had. Nobody else changes the store then.
+/// A keeper, and its store while that is held. Nobody else changes the store then.
 #[derive(Drop)]
 pub struct HeldStore<K: Keeper + Drop> {
     keeper: K,
@@ -28,7 +28,7 @@ pub struct HeldStore<K: Keeper + Drop> {
 }
 
 impl<K: Keeper + Drop> HeldStore<K> {
-    /// The store isn't had yet.
+    /// The store isn't held yet.
     pub(crate) fn new(keeper: K) -> HeldStore<K>
         ensures keeper { result.keeper ≡ keeper }
         ensures store { result.store ≡ None }
@@ -48,7 +48,7 @@ impl<K: Keeper + Drop> HeldStore<K> {
         keeper
     }
 
-    /// Whether the store is had.
+    /// Whether the store is held.
     pub(crate) fn is_had(&self) -> bool {
         self.store.is_some()
     }
@@ -60,7 +60,7 @@ impl<K: Keeper + Drop> HeldStore<K> {
         self.keeper.is_awaited(path)
     }
 
-    /// Takes the store, where it isn't had; a lock that another process has is waited for, without an end.
+    /// Takes the store, if it isn't held; a lock that another process has is waited for, without an end.
     pub(crate) fn take(&mut self, path: &str) -> Result<(), Unavailable>
         ensures { StillShown K.S.Store K.tells K.holds self.old.store self.old.keeper self.new.store self.new.keeper }
     {
@@ -73,7 +73,7 @@ impl<K: Keeper + Drop> HeldStore<K> {
         Ok(())
     }
 
-    /// Gives the store back, where it is had.
+    /// Gives the store back, if it is held.
     pub(crate) fn give_back(&mut self)
         ensures shown { StillShown K.S.Store K.tells K.holds self.old.store self.old.keeper self.new.store self.new.keeper }
         ensures emptied { self.new.store ≡ None }
@@ -102,7 +102,7 @@ impl<K: Keeper + Drop> HeldStore<K> {
         }
     }
 
-    /// The row at a place is taken out, where it is the one that was sent.
+    /// Takes out the row at a place, if it is the one that was sent.
     pub(crate) fn remove(
         &mut self,
         path: &str,

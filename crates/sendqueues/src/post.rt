@@ -17,7 +17,7 @@ pub struct Post {
     pub row: Outgoing,
 }
 
-/// What stands after a place.
+/// What comes after a place.
 #[derive(Drop)]
 enum Step {
     /// No row.
@@ -36,7 +36,7 @@ fn is_due(alloc: Global, waits: &Waits, place: &Queued, now: u64) -> Result<bool
     Ok(waits.is_due(&at, now))
 }
 
-/// The row at a place; none where there is none, and where the user's account isn't open.
+/// The row at a place; none if there is none, and if the user's account isn't open.
 fn row_at<S: Alter>(store: &mut Store<S>, place: &Queued) -> Result<Option<Outgoing>, Refusal>
     ensures { Sees (IsRowAt place.now) (state S.Store store.old) (state S.Store store.new) result }
 {
@@ -47,7 +47,7 @@ fn row_at<S: Alter>(store: &mut Store<S>, place: &Queued) -> Result<Option<Outgo
     found
 }
 
-/// The row after a place, which is read where it is due.
+/// The row after a place, which is read if it is due.
 fn step_from<S: Alter>(
     alloc: Global,
     store: &mut Store<S>,
@@ -100,11 +100,11 @@ fn has_octets(row: &Outgoing, sent: &Row) -> bool
     row.sender == sent.sender && row.target == sent.target && row.message == sent.message
 }
 
-/// The row at a place is taken out, where it is the one that was sent. It is read once for that.
+/// Takes out the row at a place, if it is the one that was sent. It is read once for that.
 ///
 /// # Errors
 ///
-/// The row is there still.
+/// The row is still there.
 pub(crate) fn take_row<S: Alter>(
     store: &mut Store<S>,
     place: &Queued,

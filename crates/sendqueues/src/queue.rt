@@ -10,19 +10,19 @@ use mailstore::{Outgoing, Queued, Refusal};
 use octets::Octets;
 use std::alloc::{AllocError, Global};
 
-/// The store is had for so many milliseconds in a row at most, while others may ask for it who don't say that they wait.
+/// For how many milliseconds at most the store is held without a break, while others may ask for it who don't say that they wait.
 const MAX_HAD: u64 = 1_000;
 
 /// The queues of all users in a store at a path. A row that isn't due is passed over, without a look at its message.
 ///
-/// The store is taken for a call that needs it, and had until it is given back: by `give_back`, by `give_way` where somebody waits for it
-/// or it was had for a second, and where a call failed. Nobody else changes it while it is had.
+/// The store is taken for a call that needs it, and held until it is given back: by `give_back`, by `give_way` if somebody waits for it
+/// or it was held for a second, and after a call that failed. Nobody else changes it while it is held.
 #[derive(Drop)]
 pub struct StoreQueue<'a, K: Keeper + Drop> {
     alloc: Global,
     search: Search<'a>,
     held: HeldStore<K>,
-    /// When it was first looked at the clock since the store was taken, in milliseconds.
+    /// When the clock was first looked at since the store was taken, in milliseconds.
     since: Option<u64>,
 }
 

@@ -16,10 +16,10 @@ pub struct Ended<K: Keeper + Drop> {
     pub tally: Result<Tally, Stop>,
 }
 
-/// Hands the rows of a store's queues that are due to a server, in the order of the octets of the users and of the numbers, at most so many
-/// of them; each leaves its queue once the server has taken it.
+/// Hands the rows of a store's queues that are due to a server, in the order of the octets of the users and of the numbers, at most this
+/// many of them; each leaves its queue once the server has taken it.
 ///
-/// The store is had from one row to the next, as [`send_queue`] and [`StoreQueue`] say, and back with the keeper at the end.
+/// The store is held from one row to the next, as [`send_queue`] and [`StoreQueue`] say, and is back with the keeper at the end.
 ///
 /// Time is linear in the rows, but for the logarithm of those that wait, and in the messages' octets; one row is in memory.
 ///

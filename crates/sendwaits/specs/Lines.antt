@@ -31,7 +31,7 @@ is_for_good ending = false
 abbrev pub refusal_line : Place → Ending → List ℕ
 refusal_line place ending = ((codes "sieved: " ++ place_text place) ++ cause_text ending) ++ 10 ∷ []
 
--- a row that was sent, where another one has its number now
+-- a row that was sent, if another one has its number now
 abbrev pub changed_line : Place → List ℕ
 changed_line place = ((codes "sieved: " ++ place_text place) ++ codes ": another message has the number now") ++ 10 ∷ []
 

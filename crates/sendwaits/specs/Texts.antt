@@ -41,7 +41,7 @@ pub record IsBook (entries : List (Place × Wait)) : Type 0 where
   pub sorted : IsStrictlySortedBy place_cmp (keys_of entries)
   pub writable : AreWritable entries
 
--- it was found, with its number and what stands behind it
+-- it was found, with its number and what follows it
 abbrev pub IsNumber : ℕ → List ℕ → Option Number → Type 0
 IsNumber n rest None = ⊥
 IsNumber n rest (Some number) = (number.value ≡ n) × (number.rest.now ≡ rest)

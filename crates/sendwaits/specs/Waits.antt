@@ -24,7 +24,7 @@ wait_of waits at = get place_cmp waits.map at
 abbrev pub largest : ℕ
 largest = 2 ^ 64 - 1
 
--- a wait is over at a moment, or lies more than a day ahead, as none does that was noted by a right clock
+-- a wait is over at a moment, or is more than a day ahead, as none is that was noted by a right clock
 abbrev pub is_over : ℕ → Wait → Bool
 is_over now wait = nat_le wait.due now || nat_lt (min (now + 86400) largest) wait.due
 
@@ -39,7 +39,7 @@ is_due waits now at = allows now (wait_of waits at)
 
 -- ---- how long a row waits
 
--- how many times the row was tried in vain
+-- how many times the row was tried without success
 abbrev pub tries_in : Option Wait → ℕ
 tries_in None = 0
 tries_in (Some wait) = wait.tries
@@ -48,7 +48,8 @@ tries_in (Some wait) = wait.tries
 abbrev pub pause_after : ℕ → ℕ
 pause_after tries = if nat_lt tries 6 then 60 * 2 ^ tries else 3600
 
--- a row that was sent doesn't wait; one that is refused for good, that needs what the server doesn't offer, or that is no letter waits a day
+-- a row that was sent doesn't wait; one that is permanently refused, that needs what the server doesn't offer, or that has an address that
+-- is no mailbox waits a day
 abbrev pub seconds_after : Ending → ℕ → Option ℕ
 seconds_after Sent tries = None
 seconds_after (Refused code) tries = Some 86400
@@ -58,7 +59,7 @@ seconds_after Lost tries = Some (pause_after tries)
 seconds_after Undeclared tries = Some 86400
 seconds_after Unaddressed tries = Some 86400
 
--- the wait of a row that was tried so often before, and at a moment ended so that it waits so long
+-- the wait of a row that was tried this often before, and at a moment ended so that it waits this long
 abbrev pub waiting : ℕ → ℕ → ℕ → Wait
 waiting tries moment seconds = record { due = min (moment + seconds) largest; tries = min (tries + 1) largest }
 
@@ -70,7 +71,7 @@ pub record Notes (at : Place) (ending : Ending) (moment : ℕ) (old new : Waits)
   pub own : wait_of new at ≡ wait_after (tries_in (wait_of old at)) ending moment
   pub others : (other : Place) → (other ≡ at → ⊥) → wait_of new other ≡ wait_of old other
 
--- a wait is kept within two days of the moment at which its row is due: none longer, since its row may be gone, and none farther ahead, since it
--- keeps no row back
+-- a wait is kept within two days of the moment at which its row is due: none longer, since its row may be gone, and none farther ahead,
+-- since it keeps no row back
 abbrev pub is_kept : ℕ → Wait → Bool
 is_kept now wait = nat_lt now (min (wait.due + 172800) largest) && nat_le wait.due (min (now + 172800) largest)

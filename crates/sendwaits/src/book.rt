@@ -11,9 +11,9 @@ use smtpclient::Ending;
 use std::alloc::{AllocError, Global};
 use std::io::Write;
 
-/// A journal: tells what came of each row on an output, and of those that are refused for good, or whose number
-/// another one has, on another, too; keeps what is known of rows
-/// that wait, which row was tried last, and how many were.
+/// A journal: tells what came of each row on an output, and of those that are permanently refused, or whose number
+/// another one has, on another, too; keeps what is known of rows that wait, which row was tried last, and how many
+/// were.
 pub struct Book<'a, W: Write, E: Write, T: Clock> {
     alloc: Global,
     memory: Memory,
@@ -25,7 +25,7 @@ pub struct Book<'a, W: Write, E: Write, T: Clock> {
 /// What is known at the end of a run.
 #[derive(Drop)]
 pub struct Memory {
-    /// What is known of rows that were tried in vain.
+    /// What is known of rows that were tried without success.
     pub waits: Waits,
     /// The user and the number of the row that was tried last.
     pub last: Octets,
@@ -36,7 +36,7 @@ pub struct Memory {
 }
 
 impl<'a, W: Write, E: Write, T: Clock> Book<'a, W, E, T> {
-    /// With what is known of rows that were tried in vain before.
+    /// With what was known before of rows that were tried without success.
     pub fn new(
         alloc: Global,
         waits: Waits,

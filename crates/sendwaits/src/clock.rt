@@ -8,6 +8,6 @@ pub trait Clock {
     /// The milliseconds of a clock that never goes back, from some moment on.
     fn uptime(&mut self) -> u64;
 
-    /// Waits for so many milliseconds.
+    /// Waits for this many milliseconds.
     fn pause(&mut self, milliseconds: u64);
 }

@@ -1,4 +1,5 @@
-//! What a run that sends knows of rows that were tried in vain: until when each waits, as a text between two runs, and what is told of rows.
+//! What a run that sends knows of rows that were tried without success: until when each waits, as a text between two runs, and what is
+//! told of rows.
 #![tactic(auto)]
 
 pub mod book;

@@ -35,7 +35,7 @@ pub fn row_line(alloc: Global, place: &Place, ending: Ending) -> Result<Octets, 
     Ok(line)
 }
 
-/// The line on a row that is refused for good: `sieved: USER ID: CAUSE`. Lack of memory is the only error.
+/// The line on a row that is permanently refused: `sieved: USER ID: CAUSE`. Lack of memory is the only error.
 pub fn refusal_line(alloc: Global, place: &Place, ending: Ending) -> Result<Octets, AllocError>
     ensures { IfOk result (λ line. line ≡ s.refusal_line place.now ending) }
 {
@@ -47,7 +47,7 @@ pub fn refusal_line(alloc: Global, place: &Place, ending: Ending) -> Result<Octe
     Ok(line)
 }
 
-/// The line on a row that was sent, where another one has its number now: `sieved: USER ID: another message has the number now`. Lack of
+/// The line on a row that was sent, if another one has its number now: `sieved: USER ID: another message has the number now`. Lack of
 /// memory is the only error.
 pub fn changed_line(alloc: Global, place: &Place) -> Result<Octets, AllocError>
     ensures { IfOk result (λ line. line ≡ s.changed_line place.now) }

@@ -37,7 +37,7 @@ fn put_wait(text: &mut Octets, place: &Place, wait: Wait) -> Result<(), AllocErr
     text.push(b'\n')
 }
 
-/// A number, and a space behind it.
+/// A number, and a space after it.
 fn put_number(text: &mut Octets, number: u64) -> Result<(), AllocError>
     ensures { OnOk result (text.new ≡ text.old ++ (decimal number ++ 32 ∷ [])) }
 {
@@ -46,7 +46,7 @@ fn put_number(text: &mut Octets, number: u64) -> Result<(), AllocError>
 }
 
 /// The waits of a text that `write_waits` made; none of one that is damaged. Lack of memory is the only error. Memory is in proportion to
-/// the text, and time but for the logarithm of the waits.
+/// the text, and so is time but for the logarithm of the waits.
 pub fn read_waits(alloc: Global, text: &[u8]) -> Result<Waits, AllocError>
     ensures { IfOk result (λ waits. (own : List (Place × Wait)) → s.IsBook own → text.now ≡ s.text_of own → waits.map.entries ≡ own) }
 {
@@ -56,7 +56,7 @@ pub fn read_waits(alloc: Global, text: &[u8]) -> Result<Waits, AllocError>
     }
 }
 
-/// The waits of a text; none where a line of it isn't one.
+/// The waits of a text; none if a line of it isn't one.
 fn lines_of(alloc: Global, text: &[u8]) -> Result<Option<Waits>, AllocError>
     ensures { IfOk result (λ found. (own : List (Place × Wait)) → s.IsBook own → text.now ≡ s.text_of own → s.IsTextOf own found) }
 {
@@ -97,7 +97,7 @@ impl Parts<'_> {
     }
 }
 
-/// The parts of a line; none where it is no such line.
+/// The parts of a line; none if it is no such line.
 fn parts_of(line: &[u8]) -> Option<Parts<'_>>
     ensures { (own : Place × Wait) → s.IsWritable own → line.now ≡ s.wait_body own → s.ArePartsOf own result }
 {
@@ -118,14 +118,14 @@ fn parts_of(line: &[u8]) -> Option<Parts<'_>>
     })
 }
 
-/// A number, and what stands behind the space after it.
+/// A number, and what follows the space after it.
 #[derive(Clone, Copy)]
 struct Number<'a> {
     value: u64,
     rest: &'a [u8],
 }
 
-/// The number that stands at the front; none where no number and a space do.
+/// The number at the start of a text; none if no number and a space come first.
 fn number_then(text: &[u8]) -> Option<Number<'_>>
     ensures { (n : ℕ) (rest : List ℕ) → n < 2 ^ 64 → text.now ≡ decimal n ++ 32 ∷ rest → s.IsNumber n rest result }
 {
@@ -141,7 +141,7 @@ fn number_then(text: &[u8]) -> Option<Number<'_>>
     }
 }
 
-/// What stands before the first such octet, and what behind it.
+/// What comes before the first such octet, and what comes after it.
 #[derive(Clone, Copy)]
 struct Cut<'a> {
     front: &'a [u8],
@@ -161,7 +161,7 @@ fn cut_at(text: &[u8], mark: u8) -> Option<Cut<'_>>
     }
 }
 
-/// How many octets stand before the first such one.
+/// How many octets come before the first such one.
 fn length_before(text: &[u8], mark: u8) -> usize
     ensures value { result ≡ prefix_len (λ octet. not (octet == mark)) text.now }
     ensures within { result ≤ length text.now }

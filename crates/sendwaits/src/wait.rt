@@ -4,24 +4,24 @@ ghost use Rattle.sendwaits.specs.Waits as s;
 
 use smtpclient::Ending;
 
-/// How many seconds a row waits that is refused for good.
+/// How many seconds a row waits that is permanently refused.
 const DAY: u64 = 86_400;
 
-/// What is known of a row is kept for so many seconds after it was due, and so many before. None is noted for longer than a day, and a
-/// run is shorter than another.
+/// For how many seconds after its row was due what is known of it is kept, and for how many before. None is noted for longer than a
+/// day, and a run is shorter than another.
 const KEPT: u64 = 172_800;
 
-/// What is known of a row that was tried in vain.
+/// What is known of a row that was tried without success.
 #[derive(Clone, Copy, Debug, PartialEq, Eq)]
 pub struct Wait {
     /// The moment from which on it is due again, in seconds since 1970-01-01 UTC.
     pub due: u64,
-    /// How many times it was tried in vain, one time after the other.
+    /// How many times in a row it was tried without success.
     pub tries: u64,
 }
 
 impl Wait {
-    /// Whether its row is due at a moment: the wait is over, or lies more than a day ahead. None is noted for longer than a day, so such a
+    /// Whether its row is due at a moment: the wait is over, or is more than a day ahead. None is noted for longer than a day, so such a
     /// one was noted by a clock that was ahead.
     pub fn is_over(&self, now: u64) -> bool
         ensures { result ≡ s.is_over now self.now }
@@ -30,7 +30,7 @@ impl Wait {
     }
 
     /// Whether it is kept at a moment: within two days of the moment at which the row is due. So what a clock noted that was ahead is
-    /// forgotten too, also of a row that is gone.
+    /// forgotten too, even of a row that is gone.
     pub fn is_kept(&self, now: u64) -> bool
         ensures { result ≡ s.is_kept now self.now }
     {
@@ -38,7 +38,7 @@ impl Wait {
     }
 }
 
-/// How many seconds a row waits that was tried so many times before: 1, 2, 4, 8, 16, 32 and then 60 minutes.
+/// How many seconds a row waits that was tried this many times before: 1, 2, 4, 8, 16, 32 and then 60 minutes.
 pub fn pause_after(tries: u64) -> u64
     ensures { result ≡ s.pause_after tries }
 {
@@ -53,8 +53,8 @@ pub fn pause_after(tries: u64) -> u64
     }
 }
 
-/// How many seconds a row waits after an ending: none after 250; a day where it is refused for good, needs what the server
-/// doesn't offer, or is no letter.
+/// How many seconds a row waits after an ending: none after 250; a day if it is permanently refused, needs what the server
+/// doesn't offer, or has an address that is no mailbox.
 pub fn seconds_after(ending: Ending, tries: u64) -> Option<u64>
     ensures { result ≡ s.seconds_after ending tries }
 {
@@ -65,7 +65,7 @@ pub fn seconds_after(ending: Ending, tries: u64) -> Option<u64>
     }
 }
 
-/// The wait of a row that was tried so many times before and ended so at a moment; none where it was sent.
+/// The wait of a row that was tried this many times before and ended so at a moment; none if it was sent.
 pub fn wait_after(tries: u64, ending: Ending, moment: u64) -> Option<Wait>
     ensures { result ≡ s.wait_after tries ending moment }
 {

@@ -9,7 +9,7 @@ use smtpclient::Ending;
 use std::alloc::{AllocError, Global};
 use std::collections::BTreeMap;
 
-/// What is known of rows that were tried in vain, by their places.
+/// What is known of rows that were tried without success, by their places.
 #[derive(Drop)]
 pub struct Waits {
     pub(crate) map: BTreeMap<Place, Wait>,
@@ -42,7 +42,7 @@ impl Waits {
         }
     }
 
-    /// A wait for the row at a place, in the place of the one that is there. Lack of memory is the only error, and then nothing changes.
+    /// Puts a wait for the row at a place in place of the one that is there. Lack of memory is the only error, and then nothing changes.
     pub(crate) fn put(&mut self, place: Place, wait: Wait) -> Result<(), AllocError>
         ensures updates { OnOk result (Updates s.place_cmp self.old.map self.new.map place (Some wait)) }
         ensures entries { OnOk result (self.new.map.entries ≡ insert_entry s.place_cmp self.old.map.entries place wait) }
@@ -54,7 +54,7 @@ impl Waits {
         }
     }
 
-    /// How many times the row at a place was tried in vain.
+    /// How many times the row at a place was tried without success.
     fn tries_of(&self, place: &Place) -> u64
         ensures { result ≡ s.tries_in (s.wait_of self.now place.now) }
     {

@@ -35,7 +35,7 @@ LeadsBy w _ v = v ≡ w
 abbrev pub IsGuest : World → ℕ → Type 0
 IsGuest w id = IfSome (get w.sessions id) (λ c. c.user ≡ None)
 
--- memory was lacking for a connection: what follows says so at once, where something follows
+-- memory was lacking for a connection: what follows says so at once, if something follows
 abbrev pub LacksThen : ℕ → List (Act Note) → Type 0
 LacksThen id [] = Unit {0}
 LacksThen id (Full n ∷ more) = n ≡ id
@@ -54,8 +54,8 @@ abbrev pub LeadsIn : Bool → World → ℕ → List (Act Note) → World → Ty
 LeadsIn true w id more v = v ≡ w
 LeadsIn false w id more v = (answer : Answer) × IsMadeOr answer id more × Next w (Open id) answer v
 
--- who comes opens a session, what is heard is given to it, who goes closes it: each is an event, and none is passed over, but where memory
--- was lacking, and then that connection ends. Only a guest makes room. `more` follows
+-- who comes opens a session, what is heard is given to it, who goes closes it: each is an event, and none is passed over, except when
+-- memory was lacking, and then that connection ends. Only a guest makes room. `more` follows
 abbrev pub Leads : World → Act Note → List (Act Note) → World → Type 0
 Leads w (Came id kind) more v = LeadsIn (kind == lmtp) w id more v
 Leads w (Heard id piece) more v = (answer : Answer) × IsHeardOr answer id more × Next w (Give id piece) answer v
@@ -164,7 +164,7 @@ abbrev pub tell_on : ℕ → ℕ → Option Line → List (Act Note) → Option 
 tell_on id now o [] = o
 tell_on id now o (act ∷ acts) = tell_on id (moment_after now act) (tell_line id now o act) acts
 
--- each note of it is one that it allows: its own items are stepped, each once, and given up for a cause alone
+-- each note of it is one that it allows: its own items are stepped, each once, and given up only for a cause
 abbrev pub IsRight : ℕ → ℕ → Line → Act Note → Type 0
 IsRight id now l (Noted n note) = cond (same n id) (Allows now l.waits id note) (Unit {0})
 IsRight id now l act = Unit {0}

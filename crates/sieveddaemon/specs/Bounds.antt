@@ -34,19 +34,19 @@ held_in (it ∷ entries) = held_by it.1.receiver + held_in entries
 abbrev pub held : MailDaemon → ℕ
 held d = unread_in d.daemon.clients.sessions d.daemon.places.entries + held_in d.posts.entries
 
--- so many they may hold
+-- the number that they may hold
 abbrev pub bound : MailDaemon → ℕ
 bound d = d.memory * 1024
 
--- so many each client may hold whatever the others do: two pieces, so a line that isn't whole and a piece
+-- how many each client may hold whatever the others do: two pieces, so a line that isn't whole and a piece
 abbrev pub own : ℕ
 own = 8192
 
--- for so many more there is room
+-- for how many more there is room
 abbrev pub room : MailDaemon → ℕ
 room d = bound d - held d
 
--- so many of them clients of ManageSieve hold where nobody is logged in, and so many they may: an eighth
+-- how many of them clients of ManageSieve hold where nobody is logged in, and how many they may: an eighth
 abbrev pub guests : MailDaemon → ℕ
 guests d = guests_in d.daemon.clients.sessions d.daemon.places.entries
 
@@ -57,16 +57,16 @@ share d = d.memory * 128
 abbrev pub IsGuestAt : MailDaemon → ℕ → Type 0
 IsGuestAt d id = is_user (client_at d.daemon.clients.sessions id) ≡ false
 
--- with so many octets more of a client of ManageSieve all hold what they may, and where nobody is logged in there, so do all such ones
+-- with this many octets more of a client of ManageSieve all hold what they may, and if nobody is logged in there, so do all such clients
 pub record KeepsBound (d : MailDaemon) (id count : ℕ) : Type 0 where
   pub all : held d + count ≤ bound d
   pub guests : IsGuestAt d id → guests d + count ≤ share d
 
--- so many more of it fit: then, and where it holds no more with them than each may
+-- this many more of it fit: then, and if it holds no more with them than each may
 abbrev pub FitsClient : MailDaemon → ℕ → ℕ → Type 0
 FitsClient d id count = KeepsBound d id count ⊎ (unread_of (client_at d.daemon.clients.sessions id) + count ≤ own)
 
--- they don't: it holds more than each may, and all hold more than they may, or such ones do, and it is one
+-- they don't: it holds more than each may, and all hold more than they may, or such clients do, and it is one
 pub record PassesBound (d : MailDaemon) (id count : ℕ) : Type 0 where
   pub its : own < unread_of (client_at d.daemon.clients.sessions id) + count
   pub all : (bound d < held d + count) ⊎ (IsGuestAt d id × (share d < guests d + count))

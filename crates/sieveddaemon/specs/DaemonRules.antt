@@ -71,7 +71,7 @@ pub record Opens (d : Daemon) (now id : ℕ) (said : List ℕ) (e : Daemon) : Ty
   pub event : Made (Open id) d e
   pub place : Knows d id (Some (new_place now)) e
 
--- octets of one join its session, and nothing is said; whether there was room for them is known then
+-- octets of one are appended to its session, and nothing is said; whether there was room for them is known then
 pub record Gives (d : Daemon) (now id : ℕ) (piece : List ℕ) (whether : Fit) (said : List ℕ) (e : Daemon) : Type 0 where
   pub silent : said ≡ []
   pub event : Made (Give id piece) d e
@@ -81,7 +81,7 @@ pub record Gives (d : Daemon) (now id : ℕ) (piece : List ℕ) (whether : Fit) 
   pub session : client_at d.clients.sessions id ≡ Some client
   pub place : Knows d id (Some (place_given now before client whether)) e
 
--- where memory was lacking for one nothing more is known of it, and each session is as it was
+-- if memory was lacking for one nothing more is known of it, and each session is as it was
 pub record LacksFor (d : Daemon) (id : ℕ) (e : Daemon) : Type 0 where
   pub kept : KeepsClients d.clients.sessions e.clients.sessions
   pub place : Knows d id None e
@@ -91,10 +91,10 @@ pub record Closes (d : Daemon) (id : ℕ) (e : Daemon) : Type 0 where
   pub event : Happened (Close id) d e
   pub place : Knows d id None e
 
--- ---- the daemon goes on with one
+-- ---- the daemon continues with one
 
--- what a note says is done: an event by the store; nothing where it was away, what was kept back is said, or it is over; an event that asks no
--- store, and is the same whatever accounts there are
+-- what a note says is done: an event by the store; nothing if it was away, what was kept back is said, or it is over; an event that asks
+-- no store, and is the same whatever accounts there are
 abbrev pub Makes : {R : Type 0} → View R → R → Daemon → Note → R → Daemon → Type 0
 Makes view r d (Did others event answer) q e = IsDone view others event answer r d.clients.sessions q e.clients.sessions
 Makes view r d Away q e = NothingDone view r d.clients.sessions q e.clients.sessions
@@ -109,7 +109,7 @@ AsksFor id (Did others event answer) kept = AsksStore (Step id) kept
 AsksFor id Away kept = AsksStore (Step id) kept
 AsksFor id note kept = Unit {0}
 
--- it is over with a connection only where there was no room for what it sent
+-- it is over with a connection only if there was no room for what it sent
 abbrev pub HasCause : Note → Fit → Type 0
 HasCause Answered whether = whether ≡ fit.Over
 HasCause note whether = Unit {0}
@@ -144,8 +144,8 @@ pub record Renews (d : Daemon) (now id : ℕ) (w : Waits) (answered : Bool) (e :
 
 -- ---- work of its own: the store is given back, or mail moves on
 
--- what is noted of it: it was given back where somebody waits for it, or nobody asked for so long; a message was to move on, and it was
--- its time; or the store wasn't to be had for that
+-- what is noted of it: it was given back if somebody waits for it, or nobody asked for that long; a message was to move on, and it was
+-- its time; or the store wasn't available for that
 abbrev pub WorksBy : {R : Type 0} → View R → Daemon → R → ℕ → Note → Kept → Holding → R → Type 0
 WorksBy view d r now (Looked wanted) after h q =
     StillShows view r q × (after ≡ d.clients.sessions) × (h ≡ looked d.holding now (is_rested d.holding now) (is_rested d.holding now || wanted))
@@ -161,7 +161,7 @@ pub record DoesWork {R : Type 0} (view : View R) (d : Daemon) (r : R) (now : ℕ
 
 -- ---- for how long it may rest
 
--- in milliseconds: where one waits for the store, or for the answer to what was refused; where something is kept back; else
+-- in milliseconds: if one waits for the store, or for the answer to what was refused; if something is kept back; otherwise
 abbrev pub patience_with : Waits → ℕ
 patience_with waits.Nothing = 1000
 patience_with (waits.Store since again) = 5

@@ -33,7 +33,7 @@ joined_octet octet = if octet == 10 then 44 ∷ 32 ∷ [] else octet ∷ []
 abbrev pub one_line : List ℕ → List ℕ
 one_line lines = flat_map joined_octet (take (length lines - 1) lines)
 
--- of whom a refusal of the envelope is: of the sender where that address may not stand in a store, else of the recipient
+-- of whom a refusal of the envelope is: of the sender if that address may not be in a store, otherwise of the recipient
 abbrev pub envelope_reply : Bool → Reply
 envelope_reply true = BadRecipient
 envelope_reply false = BadSender
@@ -47,13 +47,13 @@ reply_to sender BadEnvelope = envelope_reply (is_envelope_address sender)
 reply_to sender Memory = NoRoom
 reply_to sender refusal = LocalFault
 
--- what became of a message that was brought: a delivery is reported, or where memory was lacking for the report just told
+-- what became of a message that was to be delivered: a delivery is reported, or if memory was lacking for the report just told
 abbrev pub IsBecame : List ℕ → Answer → Became → Type 0
 IsBecame sender (answer.Delivered report) became = (became ≡ Delivered (one_line (delivery_report report))) ⊎ (became ≡ Delivered [])
 IsBecame sender (answer.Refused refusal) became = became ≡ Refused (reply_to sender refusal)
 IsBecame sender other became = became ≡ Refused LocalFault
 
--- the deed that a note tells; a MAIL that is refused for lack of room is answered too
+-- the step that a note tells; a MAIL that is refused for lack of room is answered too
 abbrev pub IsDeed : Note → Deed → Type 0
 IsDeed note.Answered deed = (deed ≡ Answered) ⊎ ((size : ℕ) × (deed ≡ Declined size))
 IsDeed (note.Asked others user lookup) deed = deed ≡ Asked user lookup
@@ -70,8 +70,8 @@ Stores view r before other q after = NothingDone view r before q after
 
 -- ---- one step of a client of LMTP, apart from others
 
--- its note tells a deed for it, of which the store and the sessions have their part; where there is room for so many octets. It holds no more
--- behind it
+-- its note tells a step for it, of which the store and the sessions have their part; there is room for this many octets. It holds no more
+-- after it
 pub record DoesOne {R : Type 0} (view : View R) (room : ℕ) (d : Daemon) (r : R) (before : Post) (now : ℕ) (note : Note) (said : List ℕ) (e : Daemon) (q : R) (after : Post) : Type 0 where
   pub deed : Deed
   pub is : IsDeed note deed
@@ -82,7 +82,7 @@ pub record DoesOne {R : Type 0} (view : View R) (room : ℕ) (d : Daemon) (r : R
   pub places : e.places ≡ d.places
   pub holding : e.holding ≡ holding_behind now note d.holding
 
--- the same, where it is told
+-- the same, if it is told
 abbrev pub DoesOneIf : {O R : Type 0} → (O → Bool) → (O → List (Act Note)) → (O → R) → View R → ℕ → O → Daemon → Post → ℕ → ℕ → List ℕ → O → Daemon → Post → Type 0
 DoesOneIf tells seen rest view room o d before now id said p e after =
     IsTrue (tells p) → (note : Note) × (seen p ≡ seen o ++ Noted id note ∷ []) × DoesOne view room d (rest o) before now note said e (rest p) after

@@ -1,4 +1,4 @@
--- What bringing an event to the store comes to.
+-- What applying an event to the store comes to.
 use Rattle.std.specs.Prelude.{◌≡◌, ℕ, ◌||◌, Bool, List, [], ◌∷◌, Option, Some, None, IsSome, IsTrue}
 use Rattle.lmtp.specs.declared.receiver.Lookup.{Lookup}
 use Rattle.lmtp.specs.declared.receiver.Lookup.TheVariants.{Known, Unknown, Away as Absent}
@@ -22,7 +22,8 @@ use Rattle.wires.specs.Told.{TellsIf}
 use Rattle.sieveddaemon.specs.declared.note.Note.{Note}
 use Rattle.sieveddaemon.specs.declared.note.Note.TheVariants.{Did, Away, Asked, Looked}
 
--- which accounts a store shows, and what an open after a crash at this moment may find, while it is had and no fault of the disk has shut it
+-- which accounts a store shows, and what an open after a crash at this moment may find, while it is held and no fault of the disk has
+-- shut it
 pub record View (R : Type 0) : Type 1 where
   pub shows : R → Accounts → Type 0
   pub leaves : R → Trees → Type 0
@@ -44,8 +45,8 @@ abbrev pub AreOthers : Clients → List Event → Type 0
 AreOthers sessions [] = Unit {0}
 AreOthers sessions (event ∷ events) = IsOthers sessions event × AreOthers sessions events
 
--- from a world others' events, with whatever they were answered, lead to accounts: sessions of their own come and go in them, and those
--- that there are stay. From there the event with this answer leads to a next world
+-- from a world others' events, with whatever they were answered, lead to accounts: sessions of their own come and go in them, and the
+-- existing ones stay. From there the event with this answer leads to a next world
 pub record DoneAt (others : List Event) (event : Event) (answer : Answer) (w next : World) : Type 0 where
   pub strangers : AreOthers w.sessions others
   pub told : List Answer
@@ -59,25 +60,25 @@ pub record IsWorld {R : Type 0} (view : View R) (r : R) (kept : Kept) (w : World
   pub shown : view.shows r w.accounts
   pub sessions : HasClients kept w.sessions
 
--- behind a call, from a world to the next one: a crash leaves the accounts of that, or, where they are as they were, what it might leave
+-- after a call, from a world to the next one: a crash leaves the accounts of that, or, if they are as they were, what it might leave
 -- before, or what was tried in the call
 pub record ComesTo {R : Type 0} (view : View R) (r : R) (w : World) (Tried : Trees → Type 0) (q : R) (kept : Kept) (next : World) : Type 0 where
   pub is : IsWorld view q kept next
   pub left : MayLeave (view.leaves r) w.accounts (view.leaves q) next.accounts Tried
 
--- the event with this answer was done, behind those of others, whatever accounts the store showed. Where it was refused it was tried, at
+-- the event with this answer was done, after those of others, whatever accounts the store showed. If it was refused it was tried, at
 -- the world that it met; of what others tried nothing is left
 abbrev pub IsDone : {R : Type 0} → View R → List Event → Event → Answer → R → Kept → R → Kept → Type 0
 IsDone view others event answer r before q after =
     (w : World) → IsWorld view r before w
     → (next : World) × (done : DoneAt others event answer w next) × ComesTo view r w (ShowsTried event answer done.between) q after next
 
--- whatever accounts and sessions there were, there are
+-- all accounts and sessions that there were are still there
 pub record NothingDone {R : Type 0} (view : View R) (r : R) (before : Kept) (q : R) (after : Kept) : Type 0 where
   pub shown : StillShows view r q
   pub kept : KeepsClients before after
 
--- an event was done and answered, or the store wasn't to be had and nothing was; where something is told, it is that. `clean`: the disk
+-- an event was done and answered, or the store wasn't available and nothing was; if something is told, it is that. `clean`: the disk
 -- returned what was written
 abbrev pub Carries : {O R : Type 0} → (O → Bool) → (O → List (Act Note)) → (O → R) → View R → (R → Type 0) → ℕ → Event → O → Kept → Option Answer → O → Kept → Type 0
 Carries tells seen rest view clean id event old before (Some answer) new after =
@@ -86,12 +87,12 @@ Carries tells seen rest view clean id event old before (Some answer) new after =
 Carries tells seen rest view clean id event old before None new after =
     (clean (rest new) → NothingDone view (rest old) before (rest new) after) × TellsIf tells seen old (Noted id Away) new
 
--- it was looked whether somebody waits; the store was given back where somebody does, or where it `rests`; no account changed
+-- it was looked whether somebody waits; the store was given back if somebody does, or if it `rests`; no account changed
 abbrev pub Looks : {O R : Type 0} → (O → Bool) → (O → List (Act Note)) → (O → R) → View R → (R → Type 0) → O → Bool → Bool → O → Type 0
 Looks tells seen rest view clean old rests gave new =
     (clean (rest new) → StillShows view (rest old) (rest new)) × ((wanted : Bool) × (gave ≡ (rests || wanted)) × TellsIf tells seen old (Worked (Looked wanted)) new)
 
--- the same, where it is told
+-- the same, if it is told
 abbrev pub StillShowsIf : {O R : Type 0} → (O → Bool) → (O → R) → View R → O → O → Type 0
 StillShowsIf tells rest view old new = IsTrue (tells new) → StillShows view (rest old) (rest new)
 
@@ -102,7 +103,7 @@ IsFoundIn accounts user Unknown = known_one (get accounts user) ≡ None
 IsFoundIn accounts user Absent = ⊥
 IsFoundIn accounts user lookup = Unit {0}
 
--- the same of a store, as it is behind that: it shows what it showed, and a crash leaves that, or what it left before
+-- the same of a store, as it is after that: it shows what it showed, and a crash leaves that, or what it left before
 abbrev pub Finds : List ℕ → Lookup → State → State → Type 0
 Finds user lookup old new = HasCleanDisk new → (accounts : Accounts) → HasAccounts old accounts → IsFoundIn accounts user lookup × Endures old accounts new accounts none_tried
 

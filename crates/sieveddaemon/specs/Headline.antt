@@ -25,7 +25,7 @@ use Rattle.sieveddaemon.specs.declared.note.Note.{Note}
 abbrev pub world_of : Accounts → World
 world_of accounts = record { accounts = accounts; sessions = empty }
 
--- what holds where these acts were seen and no more, from a world at a moment to another
+-- what holds after exactly these acts were seen, from a world at a moment to another
 pub record HoldsAfter (names : Names) (host : List ℕ) (w : World) (now : ℕ) (acts : List (Act Note)) (v : World) : Type 0 where
   -- each act does what it is to the accounts and the sessions, and so the events of all, with some answers that agree with those noted,
   -- are a run of the machine of mailengine
@@ -40,13 +40,13 @@ pub record HoldsAfter (names : Names) (host : List ℕ) (w : World) (now : ℕ) 
   pub sound : AreSound w.accounts → AreSound v.accounts
   -- what is done for a client of ManageSieve is what it allows
   pub right : (id : ℕ) → AreRight id now (Some no_line) acts
-  -- what was sent to it since it came is a front of what its own acts spell
+  -- what was sent to it since it came is a prefix of what its own acts spell
   pub sent : (id : ℕ) → IfSome (tell_on id now (Some no_line) acts) (λ l. IsFrontOf l.sent l.spelled)
-  -- what is done for a client of LMTP is a deed that it allows, and what was sent to it since it came is a front of what these spell
+  -- what is done for a client of LMTP is a step that it allows, and what was sent to it since it came is a prefix of what these spell
   pub mail : (id : ℕ) → (o : Option MailLine) × TellsOn names host id now None acts o × IfSome o (λ l. IsFrontOf l.sent l.spelled)
 
--- from these accounts and no connection on, at each front of the acts, and at the end with the accounts that the store shows then and the
--- daemon's sessions. A crash at the end, while the store is had and no fault of the disk has shut it, leaves these accounts, or what one
+-- from these accounts and no connection on, at each prefix of the acts, and at the end with the accounts that the store shows then and the
+-- daemon's sessions. A crash at the end, while the store is held and no fault of the disk has shut it, leaves these accounts, or what one
 -- event makes of them that was refused since they last changed, at the very world that it met (`IsLeft`). So what was acknowledged stays,
 -- but for what that event makes of it, and nothing is half there
 pub record Headline {R : Type 0} (view : View R) (names : Names) (host : List ℕ) (start : Accounts) (now : ℕ) (acts : List (Act Note)) (r : R) (d : MailDaemon) : Type 0 where
@@ -64,7 +64,7 @@ pub record IsNew (d : MailDaemon) : Type 0 where
   pub places : d.daemon.places.entries ≡ []
   pub posts : d.posts.entries ≡ []
 
--- of a life, where it is told, that begins with a store that shows these accounts, and of which a crash leaves nothing else: the acts
+-- of a life, if it is told, that begins with a store that shows these accounts, and of which a crash leaves nothing else: the acts
 -- that were added
 abbrev pub Serves : {O R : Type 0} → (O → Bool) → (O → List (Act Note)) → (O → R) → View R → O → MailDaemon → Service → O → MailDaemon → Type 0
 Serves tells seen rest view o d s p e =

@@ -18,7 +18,7 @@ abbrev pub sum_below : ℕ → (ℕ → ℕ) → ℕ
 sum_below zero f = 0
 sum_below (suc n) f = f n + sum_below n f
 
--- what a client of ManageSieve holds beyond what each may; but for a piece where there was no room for the last one
+-- what a client of ManageSieve holds beyond what each may; but for a piece if there was no room for the last one
 abbrev pub firm_by : Fit → ℕ → ℕ
 firm_by fit.Fits count = count - own
 firm_by fit.Over count = count - (own + largest_piece)

@@ -1,15 +1,15 @@
--- Whether the store is had, when it is given back, and when a message moves on.
+-- Whether the store is held, when it is given back, and when a message moves on.
 use Rattle.std.specs.Prelude.{ℕ, ◌+◌, ◌==◌, ◌&&◌, ◌||◌, not, nat_le, nat_lt, Bool, true, false, Option, Some, None, if◌then◌else◌}
 use Rattle.wires.specs.Talk.{after_span}
 use Rattle.sieveddaemon.specs.declared.daemon.Holding.{Holding}
 use Rattle.sieveddaemon.specs.declared.note.Note.{Note}
 use Rattle.sieveddaemon.specs.declared.note.Note.TheVariants.{Did, Asked}
 
--- one event more; ten at most are counted
+-- one event more; at most ten are counted
 abbrev pub counted : ℕ → ℕ
 counted events = if nat_lt events 10 then events + 1 else 10
 
--- behind an event that asked the store it is had, it is looked at once whether somebody waits for it, and it is looked for mail
+-- after an event that asked the store it is held, it is looked at once whether somebody waits for it, and it is looked for mail
 abbrev pub asked_at : ℕ → Holding → Holding
 asked_at now h = record { had = true; look = now; asked = now; moves = h.moves; next = now; soon = h.soon; events = counted h.events }
 
@@ -20,7 +20,7 @@ holding_behind now _ h = h
 
 -- ---- the store is given back
 
--- so many milliseconds pass from one look for who waits for the store to the next, and so many without an event that asked it
+-- how many milliseconds pass from one look whether somebody waits for the store to the next, and how many without an event that asked it
 -- before it is given back at the latest
 abbrev pub look_span : ℕ
 look_span = 20
@@ -31,11 +31,11 @@ max_rest = 10000
 abbrev pub is_look_due : Holding → ℕ → Bool
 is_look_due h now = h.had && nat_le h.look now
 
--- nobody asked for so long
+-- nobody asked for that long
 abbrev pub is_rested : Holding → ℕ → Bool
 is_rested h now = nat_le (after_span h.asked max_rest) now
 
--- it was looked; where the store was given back it is looked for mail 50 ms later, and where nobody asked it a minute later
+-- it was looked; if the store was given back it is looked for mail 50 ms later, and if nobody asked it a minute later
 abbrev pub again_span : ℕ
 again_span = 50
 
@@ -54,7 +54,7 @@ is_turn h now = h.events == 0 || (nat_le 10 h.events || nat_le (after_span h.ask
 abbrev pub is_move_due : Holding → ℕ → Bool
 is_move_due h now = h.moves && (nat_le h.next now && is_turn h now)
 
--- one was to move: for so long none is to; or the store wasn't to be had, and it is asked for 50 ms later
+-- one was to move: for how long none is to; or the store wasn't available, and it is asked for 50 ms later
 abbrev pub moved : Holding → ℕ → Option ℕ → Holding
 moved h now (Some span) = record { had = true; look = now; asked = now; moves = h.moves; next = after_span now span; soon = false; events = 0 }
 moved h now None = record h { next = after_span now again_span; soon = true }
@@ -68,7 +68,7 @@ has_work h now = is_look_due h now || is_move_due h now
 abbrev pub is_moving : Holding → Bool
 is_moving h = h.moves && (h.events == 0 && nat_le h.next h.asked)
 
--- one is to move soon, and the store isn't had
+-- one is to move soon, and the store isn't held
 abbrev pub patience_away : Holding → ℕ
 patience_away h = if h.moves && h.soon then again_span else 1000
 

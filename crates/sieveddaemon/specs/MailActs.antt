@@ -12,7 +12,7 @@ use Rattle.sieveddaemon.specs.DaemonRules.{lmtp}
 use Rattle.sieveddaemon.specs.Deeds.{IsDeed}
 use Rattle.sieveddaemon.specs.declared.note.Note.{Note}
 
--- how it stands, what its acts spell, and what was sent on it
+-- its state, what its acts spell, and what was sent on it
 pub record MailLine : Type 0 where
   pub post : Post
   pub spelled : List ℕ
@@ -32,7 +32,7 @@ says_more octets l = record l { spelled = l.spelled ++ octets }
 abbrev pub sent_more : List ℕ → MailLine → MailLine
 sent_more octets l = record l { sent = l.sent ++ octets }
 
--- a note is a deed that it allows, and what is said with that is spelled
+-- a note is a step that it allows, and what is said with that is spelled
 pub record IsNoted (now : ℕ) (l : MailLine) (note : Note) (k : MailLine) : Type 0 where
   pub deed : Deed
   pub told : IsDeed note deed
@@ -41,7 +41,7 @@ pub record IsNoted (now : ℕ) (l : MailLine) (note : Note) (k : MailLine) : Typ
   pub goes : Goes now l.post deed said after
   pub leaves : k ≡ record { post = after; spelled = l.spelled ++ said; sent = l.sent }
 
--- where it is an act of the connection
+-- if it is an act of the connection
 abbrev pub Its : Bool → Type 0 → Type 0 → Type 0
 Its true is other = is
 Its false is other = other

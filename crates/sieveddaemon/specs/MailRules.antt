@@ -70,7 +70,7 @@ abbrev pub due_by : Option Post → ℕ → ℕ
 due_by None other = other
 due_by (Some post) other = due post.tally
 
--- in milliseconds: where one waits for the store as long as a client of ManageSieve does
+-- in milliseconds: if one waits for the store as long as a client of ManageSieve does
 abbrev pub patience_with : Wanted → ℕ
 patience_with (wanted.Until moment) = 5
 patience_with other = 1000
@@ -97,11 +97,11 @@ pub record DropsText (d : MailDaemon) (id : ℕ) (e : MailDaemon) : Type 0 where
   pub daemon : e.daemon ≡ d.daemon
   pub host : SameHost d e
 
--- with so many octets more a client of LMTP holds no more than each may
+-- with this many octets more a client of LMTP holds no more than each may
 abbrev pub IsOwn : MailDaemon → ℕ → ℕ → Type 0
 IsOwn d id count = (post : Post) × (post_at d id ≡ Some post) × (held_by post.receiver + count ≤ own)
 
--- so many more of it fit: all hold what they may with them, or they are its own
+-- this many more of it fit: all hold what they may with them, or they are its own
 abbrev pub HasRoom : MailDaemon → ℕ → ℕ → Type 0
 HasRoom d id count = (held d + count ≤ bound d) ⊎ IsOwn d id count
 
@@ -110,7 +110,7 @@ pub record LacksRoom (d : MailDaemon) (id count : ℕ) : Type 0 where
   pub all : bound d < held d + count
   pub its : (post : Post) → post_at d id ≡ Some post → own < held_by post.receiver + count
 
--- so many octets may come of a client of LMTP: only where they don't fit its text is dropped
+-- this many octets of a client of LMTP may come: only if they don't fit its text is dropped
 abbrev pub KeepsText : MailDaemon → ℕ → ℕ → MailDaemon → Type 0
 KeepsText d id count e = (HasRoom d id count × (e ≡ d)) ⊎ (LacksRoom d id count × DropsText d id e)
 
@@ -118,7 +118,7 @@ KeepsText d id count e = (HasRoom d id count × (e ≡ d)) ⊎ (LacksRoom d id c
 abbrev pub KeepsPosts : MailDaemon → ℕ → MailDaemon → Type 0
 KeepsPosts d id e = (e ≡ d) ⊎ DropsText d id e
 
--- octets of a client of LMTP join its dialogue
+-- octets of a client of LMTP are appended to its dialogue
 pub record TakesPiece (d : MailDaemon) (now id : ℕ) (piece : List ℕ) (e : MailDaemon) : Type 0 where
   pub before : Post
   pub was : post_at d id ≡ Some before
@@ -161,7 +161,7 @@ pub record PostGives (d : MailDaemon) (now id : ℕ) (piece said : List ℕ) (e 
   pub fits : Fits d id (length piece) fitted
   pub takes : TakesPiece fitted now id piece e
 
--- one step is one deed, which the note tells; a MAIL is refused only where it announces more than there is room for
+-- one step is what the note tells; a MAIL is refused only if it announces more than there is room for
 pub record PostGoes {R : Type 0} (view : View R) (d : MailDaemon) (r : R) (now id : ℕ) (note : Note) (said : List ℕ) (e : MailDaemon) (q : R) : Type 0 where
   pub before : Post
   pub was : post_at d id ≡ Some before
@@ -182,7 +182,7 @@ abbrev pub OpensBy : Bool → MailDaemon → ℕ → ℕ → List ℕ → MailDa
 OpensBy true d now id said e = PostOpens d now id said e
 OpensBy false d now id said e = SessionOpens d now id said e
 
--- whether so many octets of a client of ManageSieve fit: where they don't, it is over with it behind them
+-- whether this many octets of a client of ManageSieve fit: if they don't, it is over with it after them
 abbrev pub FitsAs : MailDaemon → ℕ → ℕ → Fit → Type 0
 FitsAs d id count fit.Fits = FitsClient d id count
 FitsAs d id count fit.Over = PassesBound d id count
@@ -199,7 +199,7 @@ pub record SessionGives (d : MailDaemon) (now id : ℕ) (piece said : List ℕ) 
 abbrev pub GivesBy : MailDaemon → ℕ → ℕ → List ℕ → List ℕ → MailDaemon → Type 0
 GivesBy d now id piece said e = PostGives d now id piece said e ⊎ SessionGives d now id piece said e
 
--- the daemon goes on with one, by its own rules
+-- the daemon continues with one, by its own rules
 pub record SessionGoes {R : Type 0} (view : View R) (d : MailDaemon) (r : R) (now id : ℕ) (note : Note) (said : List ℕ) (e : MailDaemon) (q : R) : Type 0 where
   pub other : post_at d id ≡ None
   pub goes : Goes view d.daemon r now id note said e.daemon q
@@ -223,7 +223,7 @@ pub record Works {R : Type 0} (view : View R) (d : MailDaemon) (r : R) (now : �
   pub does : DoesWork view d.daemon r now note e.daemon q
   pub same : SamePosts d e
 
--- where memory was lacking for one nothing more is known of it
+-- if memory was lacking for one nothing more is known of it
 pub record LacksBy (d : MailDaemon) (id : ℕ) (e : MailDaemon) : Type 0 where
   pub lacks : LacksFor d.daemon id e.daemon
   pub posts : Posts d id None e

@@ -25,7 +25,7 @@ pub record LetAt (others : List Event) (w next : World) : Type 0 where
   pub theirs : Runs w others told next
   pub apart : next.sessions ≡ w.sessions
 
--- behind others' events the message is the first of its folder, and the event that takes the first out was answered so
+-- after others' events the message is the first of its folder, and the event that takes the first out was answered so
 pub record TakenAt (others : List Event) (mail : KeptMail) (answer : Answer) (w next : World) : Type 0 where
   pub done : DoneAt others (TakeMail mail.user mail.folder) answer w next
   pub first : IsFirst done.between.accounts mail.user mail.folder mail.message mail.flags
@@ -35,7 +35,7 @@ abbrev pub MovedAt : List Event → Moving → World → World → Type 0
 MovedAt others (moving.Kept mail answer) w next = TakenAt others mail answer w next
 MovedAt others other w next = LetAt others w next
 
--- what was tried in it: the event that takes the message out, where it was refused, at the world that it met
+-- what was tried in it: the event that takes the message out, if it was refused, at the world that it met
 abbrev pub TriedAt : (others : List Event) (m : Moving) (w next : World) → MovedAt others m w next → Trees → Type 0
 TriedAt others (moving.Kept mail answer) w next moved trees = ShowsTried (TakeMail mail.user mail.folder) answer moved.done.between trees
 TriedAt others other w next moved trees = ⊥
@@ -46,7 +46,7 @@ IsMoved view others moving r before q after =
     (w : World) → IsWorld view r before w
     → (next : World) × (moved : MovedAt others moving w next) × ComesTo view r w (TriedAt others moving w next moved) q after next
 
--- the event that takes a message out is behind the sink, which has that message then, at the end of those that it had
+-- the event that takes a message out comes after the sink, which has that message then, at the end of those that it had
 abbrev pub HasKept : {R : Type 0} → (R → List KeptMail → Type 0) → Moving → R → R → Type 0
 HasKept has (moving.Kept mail answer) r q = (mails : List KeptMail) → has r mails → has q (mails ++ mail ∷ [])
 HasKept has other r q = Unit {0}
@@ -60,7 +60,7 @@ abbrev pub answers_of : Moving → List Answer
 answers_of (moving.Kept mail answer) = answer ∷ []
 answers_of other = []
 
--- a call of the desk; where something is told, it is that. `clean`: the disk returned what was written
+-- a call on the store; if something is told, it is that. `clean`: the disk returned what was written
 abbrev pub MovesOn : {O R : Type 0} → (O → Bool) → (O → List (Act Note)) → (O → R) → View R → (R → List KeptMail → Type 0) → (R → Type 0) → O → Kept → Option ℕ → O → Kept → Type 0
 MovesOn tells seen rest view has clean old before (Some span) new after =
     (others : List Event) × (moving : Moving) × (span ≡ span_behind moving) × (clean (rest new) → IsMoved view others moving (rest old) before (rest new) after)

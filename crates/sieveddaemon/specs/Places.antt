@@ -28,7 +28,7 @@ client_at kept id = option_map (λ session. session.client) (tree.get nat_cmp ke
 abbrev pub want_of_session : Client → Want
 want_of_session c = if c.closed then Done else if is_ready c then Step else More
 
--- where there was no room for what it sent, a step in which it is told so, and then nothing more
+-- if there was no room for what it sent, a step in which it is told so, and then nothing more
 abbrev pub want_in : Fit → Client → Want
 want_in fit.Fits c = want_of_session c
 want_in fit.Over c = Step
@@ -46,7 +46,7 @@ want_of _ _ = Done
 
 -- ---- when it is late
 
--- so many milliseconds there are for a login in all, for a command from its first octet on, and for a client that is logged in and
+-- how many milliseconds there are for a login in all, for a command from its first octet on, and for a client that is logged in and
 -- says nothing (RFC 5804, 1.2)
 abbrev pub max_login : ℕ
 max_login = 60000
@@ -83,14 +83,14 @@ due_of _ _ = never
 abbrev pub new_place : ℕ → Place
 new_place now = record { waits = waits.Nothing; guest = now; since = now; fit = fit.Fits }
 
--- octets came: where nothing was unread they begin what comes next; and whether there was room for them
+-- octets came: if nothing was unread they begin what comes next; and whether there was room for them
 abbrev pub begun : ℕ → Place → Bool → Fit → Place
 begun now place begins fits = record { waits = place.waits; guest = place.guest; since = if begins then now else place.since; fit = fits }
 
 abbrev pub place_given : ℕ → Place → Client → Fit → Place
 place_given now place c fits = begun now place (length c.unread == 0) fits
 
--- what is waited for changes: `answered`, where the next command is counted from now on; `user`, where somebody is logged in, who is a
+-- what is waited for changes: `answered`, if the next command is counted from now on; `user`, if somebody is logged in, who is a
 -- guest from now on at the earliest
 abbrev pub renewed : ℕ → Place → Waits → Bool → Bool → Place
 renewed now place w answered user =
@@ -114,10 +114,10 @@ abbrev pub fit_behind : Fit → Note → Fit
 fit_behind whether Answered = fit.Told
 fit_behind whether _ = whether
 
--- behind a note, with the session that is there then
+-- after a note, with the session that is there then
 abbrev pub place_behind : ℕ → Place → Note → Option Client → Place
 place_behind now place note c = record (renewed now place (waits_behind now place.waits note) (is_answered note) (is_user c)) { fit = fit_behind place.fit note }
 
--- behind one that says that there was no room
+-- after one that says that there was no room
 abbrev pub place_told : ℕ → Place → Bool → Place
 place_told now place user = record (renewed now place waits.Nothing false user) { fit = fit.Told }

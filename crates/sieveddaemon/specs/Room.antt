@@ -1,4 +1,4 @@
--- Who claims to go where another one of its kind wants its place, and all are taken.
+-- Who claims to go when another one of its kind wants its place, and all are taken.
 use Rattle.std.specs.Prelude.{◌≡◌, ℕ, ◌+◌, ◌-◌, ◌==◌, nat_le, Bool, true, false, if◌then◌else◌, List, [], ◌∷◌, Option, Some, None, is_some}
 use Rattle.sessions.specs.Clients.{Client, has_failed}
 use Rattle.mailposts.specs.Stands.{owed_since, has_said_hello}
@@ -15,7 +15,7 @@ use Rattle.sieveddaemon.specs.declared.place.Waits.TheVariants as waits
 
 -- ---- for how long one is left alone, in milliseconds
 
--- a guest of ManageSieve from its coming on, and a client of LMTP that hasn't said LHLO, where many haven't
+-- a guest of ManageSieve since it came, and a client of LMTP that hasn't said LHLO, when many haven't
 abbrev pub first_span : ℕ
 first_span = 50
 
@@ -23,7 +23,7 @@ first_span = 50
 abbrev pub sender_span : ℕ
 sender_span = 1000
 
--- so many are many: three quarters of the places
+-- how many are many: three quarters of the places
 abbrev pub many_silent : ℕ
 many_silent = 15
 
@@ -44,7 +44,7 @@ kept_rank = 2
 
 -- ---- claims
 
--- one that owes octets claims the moment since which it stands so, once so many milliseconds have passed since
+-- one that owes octets claims the moment since which it does, once this many milliseconds have passed since
 abbrev pub owed_claim : ℕ → ℕ → ℕ → ℕ → Option Claim
 owed_claim now span rank since = if nat_le (after_span since span) now then Some (record { rank = rank; moment = since }) else None
 

@@ -28,7 +28,7 @@ pub record RefusedAt (others : List Event) (event : Event) (answer : Answer) (w 
   pub met_is : met ≡ done.between
   pub refused : IsRefusal answer
 
--- a note tells that this event was tried, and which world it met: an event that was brought, or the one that takes a message out
+-- a note tells that this event was tried, and which world it met: an event that was applied, or the one that takes a message out
 abbrev pub TriesBy : World → Note → World → Event → World → Type 0
 TriesBy w (Did others event answer) next tried met = (tried ≡ event) × RefusedAt others event answer w met next
 TriesBy w (Moved others (moving.Kept mail answer)) next tried met = (tried ≡ TakeMail mail.user mail.folder) × RefusedAt others (TakeMail mail.user mail.folder) answer w met next
@@ -39,7 +39,7 @@ TriesAt w (Noted id note) next tried met = TriesBy w note next tried met
 TriesAt w (Worked note) next tried met = TriesBy w note next tried met
 TriesAt w act next tried met = ⊥
 
--- behind some of the acts one tried the event, at this world, and none since changed an account
+-- after some of the acts one tried the event, at this world, and none since changed an account
 pub record TriedIn (start : World) (acts : List (Act Note)) (end : World) (event : Event) (met : World) : Type 0 where
   pub some : List (Act Note)
   pub act : Act Note

@@ -16,11 +16,11 @@ use Rattle.sieveddaemon.specs.declared.note.Note.TheVariants.{Did, Away, Freed, 
 use Rattle.sieveddaemon.specs.declared.place.Waits.{Waits}
 use Rattle.sieveddaemon.specs.declared.place.Waits.TheVariants as waits
 
--- so many milliseconds the answer to a login that failed is kept back
+-- for how many milliseconds the answer to a login that failed is kept back
 abbrev pub login_delay : ℕ
 login_delay = 2000
 
--- so many milliseconds later the store is asked for again, and so many it is asked for in all
+-- after how many milliseconds the store is asked for again, and for how many it is asked for in all
 abbrev pub retry_span : ℕ
 retry_span = 5
 
@@ -75,7 +75,7 @@ abbrev pub asked_since : ℕ → Waits → ℕ
 asked_since now (waits.Store since again) = since
 asked_since now _ = now
 
--- what a connection waits for behind a note of it
+-- what a connection waits for after a note of it
 abbrev pub waits_behind : ℕ → Waits → Note → Waits
 waits_behind now w (Did others event answer) = waits_after now answer
 waits_behind now w (Freed event answer) = waits_after now answer
@@ -84,13 +84,13 @@ waits_behind now w _ = waits.Nothing
 
 -- ---- what may be done
 
--- the store may be asked for what comes first: where nothing is waited for, or the store, for not yet five seconds
+-- the store may be asked for what comes first: if nothing is waited for, or the store, for less than five seconds
 abbrev pub MayAsk : ℕ → Waits → Type 0
 MayAsk now waits.Nothing = Unit {0}
 MayAsk now (waits.Store since again) = now < since + max_away
 MayAsk now _ = ⊥
 
--- what comes first may be given up: where the store was asked for it for five seconds, or refused it
+-- what comes first may be given up: if the store was asked for it for five seconds, or refused it
 abbrev pub MayGiveUp : ℕ → Waits → Type 0
 MayGiveUp now (waits.Store since again) = since + max_away ≤ now
 MayGiveUp now waits.Refused = Unit {0}
@@ -103,7 +103,7 @@ AllowsFreed now w id (GiveUp n) answer = MayGiveUp now w × (n ≡ id)
 AllowsFreed now w id event answer = ⊥
 
 -- at a moment, for a connection that waits so: what comes first is stepped by the store, or that is away; or it is stepped at once, or
--- given up; or what was kept back is said, at its moment; or it is told that there was no room, where it waits for nothing
+-- given up; or what was kept back is said, at its moment; or it is told that there was no room, if it waits for nothing
 abbrev pub Allows : ℕ → Waits → ℕ → Note → Type 0
 Allows now w id (Did others event answer) = MayAsk now w × (event ≡ Step id)
 Allows now w id Away = MayAsk now w
@@ -117,7 +117,7 @@ abbrev pub IsReply : Waits → Type 0
 IsReply (waits.Reply until text) = Unit {0}
 IsReply _ = ⊥
 
--- its moment has come, where one is waited for
+-- its moment has come, if one is waited for
 abbrev pub IsDue : ℕ → Waits → Type 0
 IsDue now (waits.Reply until text) = until ≤ now
 IsDue now w = Unit {0}

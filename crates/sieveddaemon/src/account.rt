@@ -7,7 +7,8 @@ use lmtp::Lookup;
 use mailstore::{Refusal, Store};
 use sqlite::Alter;
 
-/// Whether the store has an account of that name, open or closed; one that was removed isn't there. A name that it can't look for now is a fault, or lacks memory. Nothing changes.
+/// Whether the store has an account of that name, open or closed; one that was removed isn't there. A name that it can't look for now
+/// is a fault, or lacks memory. Nothing changes.
 ///
 /// Time is that of one row that is read by its key.
 pub fn find_account<S: Alter>(store: &mut Store<S>, user: &[u8]) -> Lookup

@@ -1,4 +1,4 @@
-//! What a recipient is told of a message that was brought.
+//! What a recipient is told of a message that was to be delivered.
 ghost use Rattle.std.specs.Prelude.{◌≡◌};
 ghost use Rattle.std.specs.List.{list_any};
 ghost use Rattle.mailengine.specs.Limits.{is_envelope_address, is_forbidden_octet};
@@ -10,7 +10,7 @@ use mailengine::{Answer, Refusal};
 use mailposts::Became;
 use std::alloc::Global;
 
-/// What became of a message that was brought.
+/// What became of a message that was to be delivered.
 pub fn became_of(alloc: Global, sender: &[u8], answer: Answer) -> Became
     ensures { deeds.IsBecame sender.now answer result }
 {

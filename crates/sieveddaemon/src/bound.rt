@@ -16,13 +16,13 @@ use std::collections::BTreeMap;
 /// Octets of a KiB.
 const KIB: usize = 1024;
 
-/// So many octets each client may hold, whatever the others do.
+/// How many octets each client may hold, whatever the others do.
 const OWN: usize = 8192;
 
-/// So many octets of each KiB clients of ManageSieve may hold who aren't logged in.
+/// How many octets of each KiB clients of ManageSieve may hold who aren't logged in.
 const GUESTS: usize = 128;
 
-/// Whether there is room for so many octets more. Time is linear in the connections.
+/// Whether there is room for this many octets more. Time is linear in the connections.
 pub fn has_room(mail: &MailDaemon, count: usize) -> bool
     ensures has { result ≡ true → bounds.held mail.now + count ≤ bounds.bound mail.now }
     ensures lacks { result ≡ false → bounds.bound mail.now < bounds.held mail.now + count }
@@ -30,8 +30,8 @@ pub fn has_room(mail: &MailDaemon, count: usize) -> bool
     count < left(mail)
 }
 
-/// Whether there is room for so many octets more of a client of ManageSieve: they are within what each may hold, or there is room for
-/// them, and where nobody is logged in there, also in the share of such ones. Time is linear in the connections.
+/// Whether there is room for this many octets more of a client of ManageSieve: they are within what each may hold, or there is room for
+/// them, and if nobody is logged in there, also in the share of such clients. Time is linear in the connections.
 pub fn has_room_for(mail: &MailDaemon, id: u32, count: usize) -> bool
     ensures has { result ≡ true → bounds.FitsClient mail.now id count }
     ensures lacks { result ≡ false → bounds.PassesBound mail.now id count }
@@ -42,7 +42,7 @@ pub fn has_room_for(mail: &MailDaemon, id: u32, count: usize) -> bool
     keeps_bound(mail, id, count)
 }
 
-/// Whether all hold what they may with so many octets more of a client of ManageSieve.
+/// Whether all hold what they may with this many octets more of a client of ManageSieve.
 fn keeps_bound(mail: &MailDaemon, id: u32, count: usize) -> bool
     ensures has { result ≡ true → bounds.KeepsBound mail.now id count }
     ensures lacks { result ≡ false → (bounds.bound mail.now < bounds.held mail.now + count) ⊎ (bounds.IsGuestAt mail.now id × (bounds.share mail.now < bounds.guests mail.now + count)) }
@@ -56,7 +56,7 @@ fn keeps_bound(mail: &MailDaemon, id: u32, count: usize) -> bool
     count < left_to_guests(mail)
 }
 
-/// Whether a client of ManageSieve holds no more with so many octets than each may.
+/// Whether a client of ManageSieve holds no more with this many octets than each may.
 fn is_small(clients: &Clients, id: u32, count: usize) -> bool
     ensures has { result ≡ true → bounds.unread_of (client_at clients.now.sessions id) + count ≤ bounds.own }
     ensures lacks { result ≡ false → bounds.own < bounds.unread_of (client_at clients.now.sessions id) + count }
@@ -64,7 +64,7 @@ fn is_small(clients: &Clients, id: u32, count: usize) -> bool
     is_within(unread_of(clients, id), count)
 }
 
-/// Whether so many octets more of a client of LMTP are within what each may hold, whatever the others do.
+/// Whether this many octets more of a client of LMTP are within what each may hold, whatever the others do.
 pub fn is_own(mail: &MailDaemon, id: u32, count: usize) -> bool
     ensures has { result ≡ true → rules.IsOwn mail.now id count }
     ensures lacks { result ≡ false → (post : PostOf) → rules.post_at mail.now id ≡ Some post → bounds.own < held_by post.receiver + count }
@@ -75,7 +75,7 @@ pub fn is_own(mail: &MailDaemon, id: u32, count: usize) -> bool
     }
 }
 
-/// Whether so many octets and so many more are no more than each client may hold.
+/// Whether `held` and `count` together are no more than each client may hold.
 fn is_within(held: usize, count: usize) -> bool
     ensures has { result ≡ true → held + count ≤ bounds.own }
     ensures lacks { result ≡ false → bounds.own < held + count }
@@ -90,7 +90,7 @@ pub fn room(mail: &MailDaemon) -> usize
     left(mail).saturating_sub(1)
 }
 
-/// With how many octets more the bound is passed; 0 where it is.
+/// The least number of octets more that pass the bound; 0 if it is passed.
 fn left(mail: &MailDaemon) -> usize
     ensures { result ≡ bounds.bound mail.now + 1 - bounds.held mail.now }
 {
@@ -99,7 +99,7 @@ fn left(mail: &MailDaemon) -> usize
     less_held(left, &mail.posts)
 }
 
-/// With how many octets more those who aren't logged in pass their share; 0 where they do.
+/// The least number of octets more with which those who aren't logged in pass their share; 0 if they have.
 fn left_to_guests(mail: &MailDaemon) -> usize
     ensures { result ≡ bounds.share mail.now + 1 - bounds.guests mail.now }
 {
@@ -107,7 +107,7 @@ fn left_to_guests(mail: &MailDaemon) -> usize
     less_guests(most, &mail.daemon.clients, &mail.daemon.places)
 }
 
-/// Less what clients of ManageSieve hold who aren't logged in.
+/// `most` less what clients of ManageSieve hold who aren't logged in.
 fn less_guests(most: usize, clients: &Clients, places: &BTreeMap<u32, Place>) -> usize
     ensures { result ≡ most - bounds.guests_in clients.now.sessions places.now.entries }
 {
@@ -128,7 +128,7 @@ fn guest_unread(clients: &Clients, id: u32) -> usize
     }
 }
 
-/// Less what clients of ManageSieve hold.
+/// `most` less what clients of ManageSieve hold.
 fn less_unread(most: usize, clients: &Clients, places: &BTreeMap<u32, Place>) -> usize
     ensures { result ≡ most - bounds.unread_in clients.now.sessions places.now.entries }
 {
@@ -148,7 +148,7 @@ fn unread_of(clients: &Clients, id: u32) -> usize
     }
 }
 
-/// Less what clients of LMTP hold.
+/// `most` less what clients of LMTP hold.
 fn less_held(most: usize, posts: &BTreeMap<u32, Post>) -> usize
     ensures { result ≡ most - bounds.held_in posts.now.entries }
 {

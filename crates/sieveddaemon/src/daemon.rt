@@ -1,4 +1,4 @@
-//! The daemon: sessions, what each connection waits for, and whether the store is had.
+//! The daemon: sessions, what each connection waits for, and whether the store is held.
 ghost use Rattle.std.specs.Prelude.{◌≡◌, []};
 ghost use Rattle.sieveddaemon.specs.Holds as rules;
 
@@ -7,12 +7,12 @@ use mailengine::Clients;
 use std::alloc::Global;
 use std::collections::BTreeMap;
 
-/// Whether the store is had, and when a message is to move on. Moments are in milliseconds.
+/// Whether the store is held, and when a message is to move on. Moments are in milliseconds.
 #[derive(Clone, Copy, Debug, PartialEq, Eq)]
 pub struct Holding {
-    /// It may be had.
+    /// It may be held.
     pub had: bool,
-    /// The moment from which on it is to be looked whether somebody waits for it.
+    /// The moment from which on it is to be checked whether somebody waits for it.
     pub look: u64,
     /// The moment of the last event that asked it.
     pub asked: u64,
@@ -20,9 +20,9 @@ pub struct Holding {
     pub moves: bool,
     /// The moment from which on a message may move on.
     pub next: u64,
-    /// It is soon: somebody waited for the store, or it wasn't to be had.
+    /// It is soon: somebody waited for the store, or it wasn't available.
     pub soon: bool,
-    /// How many events asked the store since the last message was to move; ten at most are counted.
+    /// How many events asked the store since the last message was to move; at most ten are counted.
     pub events: u64,
 }
 
@@ -36,7 +36,7 @@ pub struct Daemon {
 }
 
 impl Holding {
-    /// Behind an event that asked the store at a moment: it is had.
+    /// After an event that asked the store at a moment: it is held.
     pub fn asked_at(self, now: u64) -> Holding
         ensures { result ≡ rules.asked_at now self }
     {
@@ -52,7 +52,7 @@ impl Holding {
     }
 }
 
-/// One more, ten at most.
+/// One more, at most ten.
 fn counted(events: u64) -> u64
     ensures { result ≡ rules.counted events }
 {
@@ -60,7 +60,7 @@ fn counted(events: u64) -> u64
 }
 
 impl Daemon {
-    /// No connections. Where `moves`, mail moves on. Takes no memory.
+    /// No connections. If `moves`, mail moves on. Takes no memory.
     pub fn new(alloc: Global, moves: bool) -> Daemon
         ensures sessions { result.clients.sessions.entries ≡ [] }
         ensures places { result.places.entries ≡ [] }

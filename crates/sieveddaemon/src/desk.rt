@@ -15,10 +15,10 @@ use mailengine::{Answer, Clients, Event};
 use mailposts::Parcel;
 use wires::outside::Outside;
 
-/// Where events are brought to a store that other processes use too. Each call but those that only tell asks for the store
-/// where it isn't had, and keeps it until it is given back.
+/// Access to a store that other processes use too. Each call but those that only tell takes the store if it isn't held, and keeps it
+/// until it is given back.
 pub trait Desk: Outside<Note = Note> {
-    /// Which accounts the store shows, and what an open after a crash at this moment may find, while it is had and no fault of the disk
+    /// Which accounts the store shows, and what an open after a crash at this moment may find, while it is held and no fault of the disk
     /// has shut it.
     ghost view: { View Self.Rest };
 
@@ -28,8 +28,7 @@ pub trait Desk: Outside<Note = Note> {
     /// The text of the script by which the host has mail delivered to an account without an active one, if it has one.
     ghost default: { Self → Option (List ℕ) };
 
-    /// Brings an event to the store and its sessions, and answers it once its change is there for good. None where the
-    /// store isn't to be had now.
+    /// Applies an event to the store and its sessions, and answers it once its change is durable. None if the store isn't available now.
     fn carry(&mut self, id: u32, clients: &mut Clients, event: &Event) -> Option<Answer>
         requires { ¬ IsGivenUp event.now }
         ensures kept { IsTrue (Self.tells self.new) → IsTrue (Self.tells self.old) }
@@ -42,14 +41,14 @@ pub trait Desk: Outside<Note = Note> {
         ensures shown { StillShowsIf Self.tells Self.rest view self.old self.new };
 
     /// Asks the store whether there is an account of that name; a name that it can't look for now is a fault, or lacks
-    /// memory. Nothing is changed. None where the store isn't to be had now.
+    /// memory. Nothing is changed. None if the store isn't available now.
     fn look_up(&mut self, id: u32, clients: &mut Clients, user: &[u8]) -> Option<Lookup>
         ensures kept { IsTrue (Self.tells self.new) → IsTrue (Self.tells self.old) }
         ensures found { IfSome result IsFound }
         ensures asks { LooksUp Self.tells Self.seen Self.rest view clean id user.now self.old clients.old.sessions result self.new clients.new.sessions };
 
-    /// Brings a message to the store, at the moment that the clock shows now, with the host's default script, and answers it once
-    /// its change is there for good. None where the store isn't to be had now.
+    /// Delivers a message to the store, at the moment that the clock shows now, with the host's default script, and answers it once
+    /// its change is durable. None if the store isn't available now.
     fn deliver(&mut self, id: u32, clients: &mut Clients, parcel: &Parcel) -> Option<Answer>
         ensures kept { IsTrue (Self.tells self.new) → IsTrue (Self.tells self.old) }
         ensures delivers { Delivers Self.tells Self.seen Self.rest view clean default id parcel.now self.old clients.old.sessions result self.new clients.new.sessions };
@@ -60,28 +59,28 @@ pub trait Desk: Outside<Note = Note> {
         ensures told { TellsIf Self.tells Self.seen self.old (Noted id Answered) self.new }
         ensures shown { StillShowsIf Self.tells Self.rest view self.old self.new };
 
-    /// Tells that to a connection is said what was kept back. Nothing is done.
+    /// Tells that a connection is told what was kept back. Nothing is done.
     fn tell_spoke(&mut self, id: u32)
         ensures kept { IsTrue (Self.tells self.new) → IsTrue (Self.tells self.old) }
         ensures told { TellsIf Self.tells Self.seen self.old (Noted id Spoke) self.new }
         ensures shown { StillShowsIf Self.tells Self.rest view self.old self.new };
 
-    /// Which messages the sink has, where mail moves on; of one that doesn't tell them any may be had.
+    /// Which messages the sink has, if mail moves on; of one that doesn't tell them this may be any.
     ghost has: { Self.Rest → List KeptMail → Type 0 };
 
     /// Has the first message of a folder move on, whichever folder that is: the sink keeps it, and then it is taken out of the store,
-    /// all while that is had. `fresh`, where events asked the store since the last call. For so many milliseconds no other message
-    /// is to move; none where the store isn't to be had now.
+    /// which is held all the while. `fresh`, if events asked the store since the last call. Returns for how many milliseconds no other
+    /// message is to move; none if the store isn't available now.
     fn move_on(&mut self, clients: &mut Clients, now: u64, fresh: bool) -> Option<u64>
         ensures kept { IsTrue (Self.tells self.new) → IsTrue (Self.tells self.old) }
         ensures moves { MovesOn Self.tells Self.seen Self.rest view has clean self.old clients.old.sessions result self.new clients.new.sessions };
 
-    /// Looks whether somebody waits for the store, and gives it back where somebody does, or where it `rests`. Says whether
+    /// Looks whether somebody waits for the store, and gives it back if somebody does, or if it `rests`. Returns whether
     /// it was given back.
     fn look(&mut self, rests: bool) -> bool
         ensures kept { IsTrue (Self.tells self.new) → IsTrue (Self.tells self.old) }
         ensures looks { Looks Self.tells Self.seen Self.rest view clean self.old rests result self.new };
 
-    // Where it tells its acts, its disk doesn't lie.
+    // As long as it tells its acts, its disk doesn't lie.
     ghost sure: { (desk : Self) → IsTrue (Self.tells desk) → clean (Self.rest desk) };
 }

@@ -11,11 +11,11 @@ use wires::outcome::Fault;
 use wires::outside::{Clock, Sockets};
 use wires::service::Service;
 
-/// Serves clients of ManageSieve and of LMTP, for so many acts, neither fewer nor more.
+/// Serves clients of ManageSieve and of LMTP, for exactly this many acts.
 ///
 /// # Errors
 ///
-/// Where a wait failed.
+/// If a wait failed.
 pub fn serve<O: Sockets + Clock + Desk>(
     outside: &mut O,
     daemon: &mut MailDaemon,

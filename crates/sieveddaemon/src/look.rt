@@ -7,22 +7,22 @@ ghost use Rattle.sieveddaemon.specs.Holds as rules;
 use crate::daemon::{Daemon, Holding};
 use crate::desk::Desk;
 
-/// So many milliseconds pass from one look for who waits for the store to the next.
+/// How many milliseconds pass from one look whether somebody waits for the store to the next.
 const LOOK_SPAN: u64 = 20;
 
-/// After so many milliseconds without an event that asked it the store is given back.
+/// After how many milliseconds without an event that asked it the store is given back.
 const MAX_REST: u64 = 10000;
 
-/// So many milliseconds without an event that asked it are a rest in which a message moves on.
+/// How many milliseconds without an event that asked it are a rest in which a message moves on.
 const QUIET_SPAN: u64 = 20;
 
-/// After so many events that asked the store a message moves on, be there more of them.
+/// After how many events that asked the store a message moves on, even if there are more of them.
 const MAX_EVENTS: u64 = 10;
 
-/// So many milliseconds later it is looked for mail again, where somebody waited for the store, or it wasn't to be had.
+/// How many milliseconds later it is looked for mail again, if somebody waited for the store, or it wasn't available.
 const AGAIN_SPAN: u64 = 50;
 
-/// And so many where it was given back since nobody asked it.
+/// And how many if it was given back since nobody asked it.
 const LONG_SPAN: u64 = 60000;
 
 /// Whether the daemon has something to do by itself.
@@ -39,7 +39,7 @@ fn is_look_due(holding: &Holding, now: u64) -> bool
     holding.had && holding.look <= now
 }
 
-/// Whether a message is to move on: behind ten events, behind the last message where none came since, and where nobody asked the
+/// Whether a message is to move on: after ten events, after the last message if no event came since, and if nobody asked the
 /// store for a while.
 fn is_move_due(holding: &Holding, now: u64) -> bool
     ensures { result ≡ rules.is_move_due holding.now now }
@@ -47,7 +47,8 @@ fn is_move_due(holding: &Holding, now: u64) -> bool
     holding.moves && holding.next <= now && is_turn(holding, now)
 }
 
-/// Whether the store isn't had, or it was looked since the last event that asked it who waits for it: so who waits comes first.
+/// Whether the store isn't held, or it was looked since the last event that asked it whether somebody waits for it: so who waits comes
+/// first.
 fn is_looked(holding: &Holding) -> bool {
     !holding.had || holding.asked < holding.look
 }
@@ -60,7 +61,7 @@ fn is_turn(holding: &Holding, now: u64) -> bool
         || holding.asked.wrapping_add(QUIET_SPAN) <= now
 }
 
-/// The daemon does something by itself.
+/// Does something by itself.
 pub fn work_by<O: Desk>(daemon: &mut Daemon, outside: &mut O, now: u64)
     ensures kept { IsTrue (O.tells outside.new) → IsTrue (O.tells outside.old) }
     ensures works { WorksIf O.tells O.seen O.rest (daemon_rules O.view) outside.old daemon.old now outside.new daemon.new }
@@ -72,7 +73,7 @@ pub fn work_by<O: Desk>(daemon: &mut Daemon, outside: &mut O, now: u64)
     }
 }
 
-/// It is looked whether somebody waits for the store.
+/// Looks whether somebody waits for the store.
 fn look_by<O: Desk>(daemon: &mut Daemon, outside: &mut O, now: u64)
     ensures kept { IsTrue (O.tells outside.new) → IsTrue (O.tells outside.old) }
     ensures works { WorksIf O.tells O.seen O.rest (daemon_rules O.view) outside.old daemon.old now outside.new daemon.new }
@@ -82,7 +83,7 @@ fn look_by<O: Desk>(daemon: &mut Daemon, outside: &mut O, now: u64)
     daemon.holding = looked(daemon.holding, now, rests, gives);
 }
 
-/// What is so of the store behind a look.
+/// What is known of the store after a look.
 fn looked(holding: Holding, now: u64, rests: bool, gives: bool) -> Holding
     ensures { result ≡ rules.looked holding now rests gives }
 {
@@ -114,7 +115,7 @@ fn span_behind(rests: bool) -> u64
     if rests { LONG_SPAN } else { AGAIN_SPAN }
 }
 
-/// A message moves on.
+/// Has a message move on.
 fn move_by<O: Desk>(daemon: &mut Daemon, outside: &mut O, now: u64)
     requires { rules.is_move_due daemon.old.holding now ≡ true }
     ensures kept { IsTrue (O.tells outside.new) → IsTrue (O.tells outside.old) }
@@ -125,7 +126,7 @@ fn move_by<O: Desk>(daemon: &mut Daemon, outside: &mut O, now: u64)
     daemon.holding = moved(daemon.holding, now, span);
 }
 
-/// What is so of the store where a message was to move on: for how long none is to; none where the store wasn't to be had.
+/// What is known of the store after a message was to move on: for how long none is to; none if the store wasn't available.
 fn moved(holding: Holding, now: u64, span: Option<u64>) -> Holding
     ensures { result ≡ rules.moved holding now span }
 {

@@ -19,13 +19,13 @@ use wires::machine::{Claim, Machine, Want};
 /// The kind of the connections of ManageSieve.
 pub const MANAGESIEVE: u32 = 0;
 
-/// So many clients of ManageSieve may be there at once. A session holds one item and a piece at most: 2 MiB and 12 KiB.
+/// How many clients of ManageSieve may be there at once. A session holds one item and a piece at most: 2 MiB and 12 KiB.
 pub const MAX_CLIENTS: usize = 50;
 
 /// The kind of the connections of LMTP.
 pub const LMTP: u32 = 1;
 
-/// So many clients of LMTP may be there at once.
+/// How many clients of LMTP may be there at once.
 pub const MAX_SENDERS: usize = 20;
 
 impl<O: Desk> Machine<O> for MailDaemon {

@@ -17,16 +17,16 @@ pub struct MailDaemon {
     pub names: Names,
     /// The name with which clients of LMTP are greeted.
     pub host: Octets,
-    /// So many KiB all connections may hold together, unread and of texts.
+    /// How many KiB all connections may hold together, unread and of texts.
     pub memory: u32,
 }
 
 impl MailDaemon {
-    /// No connections. Where `moves`, mail moves on. Takes no memory.
+    /// No connections. If `moves`, mail moves on. Takes no memory.
     ///
-    /// Octets of a connection fit where it holds at most 8,192 with them, or all hold at most `memory` KiB (of ManageSieve what isn't
-    /// answered, of LMTP lines and texts), and those of ManageSieve that aren't logged in an eighth. For those of LMTP that don't a text
-    /// is dropped; one of ManageSieve is told so, and ends.
+    /// Octets of a connection fit if it holds at most 8,192 with them, or if all hold at most `memory` KiB (of ManageSieve what isn't
+    /// answered, of LMTP lines and texts), and those of ManageSieve that aren't logged in an eighth of it. If octets of LMTP don't fit, a
+    /// text is dropped; a client of ManageSieve is told so, and its connection ends.
     pub fn new(alloc: Global, names: Names, host: Octets, moves: bool, memory: u32) -> MailDaemon
         ensures sessions { result.daemon.clients.sessions.entries ≡ [] }
         ensures places { result.daemon.places.entries ≡ [] }

@@ -63,7 +63,7 @@ pub fn lack_post(mail: &mut MailDaemon, id: u32) -> Result<(), AllocError>
     Err(AllocError)
 }
 
-/// Octets of one come.
+/// Takes octets of a connection.
 pub fn hear_by(mail: &mut MailDaemon, now: u64, id: u32, piece: &[u8]) -> Result<(), AllocError>
     ensures ok { OnOk result (rules.GivesBy mail.old now id piece.now [] mail.new) }
     ensures err { OnErr result (rules.LacksBy mail.old id mail.new) }
@@ -75,7 +75,7 @@ pub fn hear_by(mail: &mut MailDaemon, now: u64, id: u32, piece: &[u8]) -> Result
     }
 }
 
-/// Octets of a client of ManageSieve come; where there is no room for them, it is over with it behind them.
+/// Takes octets of a client of ManageSieve; if there is no room for them, its connection ends after them.
 fn hear_client(mail: &mut MailDaemon, now: u64, id: u32, piece: &[u8]) -> Result<(), AllocError>
     requires { rules.post_at mail.old id ≡ None }
     ensures ok { OnOk result (rules.SessionGives mail.old now id piece.now [] mail.new) }
@@ -85,7 +85,7 @@ fn hear_client(mail: &mut MailDaemon, now: u64, id: u32, piece: &[u8]) -> Result
     hear(&mut mail.daemon, now, id, piece, fit)
 }
 
-/// Whether there is room for so many octets of a client of ManageSieve.
+/// Whether there is room for this many octets of a client of ManageSieve.
 fn fit_of(mail: &MailDaemon, id: u32, count: usize) -> Fit
     ensures { rules.FitsAs mail.now id count result }
 {
@@ -96,8 +96,8 @@ fn fit_of(mail: &MailDaemon, id: u32, count: usize) -> Fit
     }
 }
 
-/// Octets of a client of LMTP come; where there is no room for them beside its text, that is dropped, and where there is none then, it
-/// ends.
+/// Takes octets of a client of LMTP; if there is no room for them beside its text, that is dropped, and if there is none then, its
+/// connection ends.
 fn hear_post(mail: &mut MailDaemon, now: u64, id: u32, piece: &[u8]) -> Result<(), AllocError>
     ensures ok { OnOk result (rules.PostGives mail.old now id piece.now [] mail.new) }
     ensures err { OnErr result (rules.LacksBy mail.old id mail.new) }
@@ -111,8 +111,8 @@ fn hear_post(mail: &mut MailDaemon, now: u64, id: u32, piece: &[u8]) -> Result<(
     take_piece(mail, now, id, piece)
 }
 
-/// Makes room for so many octets of a client of LMTP, by its text where that is needed. Whether there is some; there is for 8,192 octets
-/// of one whose text is dropped and that holds no line.
+/// Makes room for this many octets of a client of LMTP, by its text if that is needed. Returns whether there is some; there is for 8,192
+/// octets of one whose text is dropped and that holds no line.
 fn fit(mail: &mut MailDaemon, id: u32, count: usize) -> bool
     ensures fits { result ≡ true → rules.Fits mail.old id count mail.new }
     ensures none { result ≡ false → rules.KeepsPosts mail.old id mail.new }
@@ -127,7 +127,7 @@ fn fit(mail: &mut MailDaemon, id: u32, count: usize) -> bool
     may_take(mail, id, count)
 }
 
-/// Whether so many octets of a client of LMTP fit: all may hold them, or they are its own.
+/// Whether this many octets of a client of LMTP fit: all may hold them, or they are its own.
 fn may_take(mail: &MailDaemon, id: u32, count: usize) -> bool
     ensures has { result ≡ true → rules.HasRoom mail.now id count }
     ensures lacks { result ≡ false → rules.LacksRoom mail.now id count }
@@ -138,7 +138,7 @@ fn may_take(mail: &MailDaemon, id: u32, count: usize) -> bool
     is_own(mail, id, count)
 }
 
-/// Drops the text of a client of LMTP, where there is that client.
+/// Drops the text of a client of LMTP, if there is that client.
 fn drop_text(mail: &mut MailDaemon, id: u32) -> bool
     ensures drops { result ≡ true → rules.DropsText mail.old id mail.new }
     ensures none { result ≡ false → mail.new ≡ mail.old }
@@ -150,7 +150,7 @@ fn drop_text(mail: &mut MailDaemon, id: u32) -> bool
     true
 }
 
-/// The octets join its dialogue.
+/// Appends the octets to its dialogue.
 fn take_piece(mail: &mut MailDaemon, now: u64, id: u32, piece: &[u8]) -> Result<(), AllocError>
     ensures ok { OnOk result (rules.TakesPiece mail.old now id piece.now mail.new) }
     ensures err { OnErr result (rules.LacksBy mail.old id mail.new) }
@@ -164,7 +164,7 @@ fn take_piece(mail: &mut MailDaemon, now: u64, id: u32, piece: &[u8]) -> Result<
     Ok(())
 }
 
-/// What is said last to one that is late or makes room. Where memory was lacking for it before, nothing is said.
+/// Says the last to one that is late or makes room. If memory was lacking for it before, nothing is said.
 pub fn say_last(mail: &mut MailDaemon, id: u32, out: &mut Octets) -> Result<(), AllocError>
     requires { out.old ≡ [] }
     ensures ok { OnOk result (rules.Parts mail.old id out.new mail.new) }
@@ -179,7 +179,7 @@ pub fn say_last(mail: &mut MailDaemon, id: u32, out: &mut Octets) -> Result<(), 
     Ok(())
 }
 
-/// What is said last, by what is known of the connection; none where nothing is.
+/// What is said last, by what is known of the connection; none if nothing is.
 fn farewell_to(mail: &MailDaemon, id: u32) -> Option<&'static [u8]>
     ensures { IfSome result (λ word. rules.IsFarewell (rules.post_at mail.now id) (place_at mail.now.daemon id) word.now) }
 {
@@ -192,7 +192,7 @@ fn farewell_to(mail: &MailDaemon, id: u32) -> Option<&'static [u8]>
     }
 }
 
-/// One is gone.
+/// Forgets a connection that is gone.
 pub fn leave_by(mail: &mut MailDaemon, id: u32)
     ensures { rules.ClosesBy mail.old id mail.new }
 {

@@ -1,4 +1,4 @@
-//! The daemon goes on with a client of LMTP: one deed.
+//! One step of a client of LMTP.
 ghost use Rattle.std.specs.Prelude.{◌≡◌, ℕ, [], IsTrue, OnOk, OnErr};
 ghost use Rattle.wires.specs.Rules.{StepsIf, IdlesIf};
 ghost use Rattle.sieveddaemon.specs.Deeds as deeds;
@@ -42,7 +42,7 @@ pub fn step_post<O: Desk>(
     }
 }
 
-/// What is to be done next is done. There is room for so many octets that may be announced.
+/// Does what is to be done next. There is room for this many octets that may be announced.
 fn do_next<O: Desk>(
     alloc: Global,
     spare: usize,
@@ -87,7 +87,7 @@ fn do_next<O: Desk>(
     }
 }
 
-/// The line that comes next is answered; a MAIL that announces more than there is room for is refused.
+/// Answers the line that comes next; a MAIL that announces more than there is room for is refused.
 fn answer_line<O: Desk>(
     spare: usize,
     post: &mut Post,
@@ -112,7 +112,7 @@ fn answer_line<O: Desk>(
     Ok(())
 }
 
-/// The store is asked for an account. What is said.
+/// Asks the store for an account. Returns what is said.
 fn ask<O: Desk>(
     alloc: Global,
     daemon: &mut Daemon,
@@ -140,7 +140,7 @@ fn ask<O: Desk>(
     }
 }
 
-/// A message is brought to the store. What is said.
+/// Has the store deliver a message. Returns what is said.
 fn bring<O: Desk>(
     alloc: Global,
     daemon: &mut Daemon,

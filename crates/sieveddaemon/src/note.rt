@@ -4,19 +4,19 @@ use mailengine::{Answer, Event};
 use mailmoves::Moving;
 use octets::{List, Octets};
 
-/// What the daemon did when it went on with a connection, or by itself. One that tells its acts makes the value; over the
+/// What the daemon did when it continued with a connection, or by itself. One that tells its acts makes the value; over the
 /// system none is made.
 #[derive(Drop)]
 pub enum Note {
-    /// An event was brought to the store, and answered so.
+    /// An event was applied to the store, and answered so.
     Did {
-        /// By these other processes had changed the accounts, since the daemon had the store last; the sessions in them
+        /// By these other processes had changed the accounts, since the daemon held the store last; the sessions in them
         /// come and go there.
         others: List<Event>,
         event: Event,
         answer: Answer,
     },
-    /// The store was asked for, and wasn't to be had.
+    /// The store was asked for, and wasn't available.
     Away,
     /// An event that asks no store, whatever the accounts are, was answered so.
     Freed {

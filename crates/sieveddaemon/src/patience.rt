@@ -1,4 +1,4 @@
-//! How long the daemon may rest where nothing happens.
+//! How long the daemon may rest if nothing happens.
 ghost use Rattle.std.specs.Prelude.{◌≡◌};
 ghost use Rattle.sieveddaemon.specs.DaemonRules as rules;
 ghost use Rattle.sieveddaemon.specs.Holds as holds;
@@ -9,22 +9,22 @@ use crate::mail::MailDaemon;
 use crate::place::Waits;
 use mailposts::Wanted;
 
-/// Where one waits for the store, in milliseconds.
+/// If one waits for the store, in milliseconds.
 const WHILE_AWAY: u32 = 5;
 
-/// Where the store is had.
+/// If the store is held.
 const WHILE_HAD: u32 = 20;
 
-/// Where something is kept back.
+/// If something is kept back.
 const WHILE_KEPT: u32 = 100;
 
-/// Where mail moves on soon, and the store isn't had.
+/// If mail moves on soon, and the store isn't held.
 const WHILE_SOON: u32 = 50;
 
-/// Else.
+/// Otherwise.
 const AT_REST: u32 = 1000;
 
-/// For how many milliseconds it may rest where nothing happens.
+/// For how many milliseconds it may rest if nothing happens.
 pub fn patience_for(daemon: &MailDaemon) -> u32
     ensures { result ≡ mail.patience_for daemon.now }
 {
@@ -55,7 +55,7 @@ fn patience_of(daemon: &Daemon) -> u32
     span
 }
 
-/// The same by the store: none where the next message is to move at once, and not long where one is to move soon.
+/// The same by the store: none if the next message is to move at once, and not long if one is to move soon.
 fn patience_by_store(holding: &Holding) -> u32
     ensures { result ≡ holds.patience_by holding.now }
 {
@@ -68,7 +68,7 @@ fn patience_by_store(holding: &Holding) -> u32
     WHILE_HAD
 }
 
-/// The same where the store isn't had.
+/// The same if the store isn't held.
 fn while_away(holding: &Holding) -> u32
     ensures { result ≡ holds.patience_away holding.now }
 {

@@ -6,7 +6,7 @@ use octets::Octets;
 pub enum Waits {
     /// Nothing.
     Nothing,
-    /// The store, which wasn't to be had at the first moment, and is asked for again at the second.
+    /// The store, which wasn't available at the first moment, and is asked for again at the second.
     Store(u64, u64),
     /// The answer to a command that the store refused, or that lacked memory.
     Refused,
@@ -21,7 +21,7 @@ pub enum Fit {
     Fits,
     /// There was none for what came last. The client is told so in its next step.
     Over,
-    /// It is told so, and nothing is wanted of it any more.
+    /// It is told so, and nothing more is wanted of it.
     Told,
 }
 
@@ -29,7 +29,7 @@ pub enum Fit {
 #[derive(Drop)]
 pub struct Place {
     pub waits: Waits,
-    /// The moment since which nobody is logged in; where somebody is, that of the last answer.
+    /// The moment since which nobody is logged in; if somebody is, that of the last answer.
     pub guest: u64,
     /// The moment of the last answer, or of the first octet after it.
     pub since: u64,

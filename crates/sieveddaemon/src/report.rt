@@ -8,7 +8,7 @@ use mailengine::{Report, VacationReport};
 use octets::{Octets, write_decimal};
 use std::alloc::{AllocError, Global};
 
-/// What is told of a delivery: its report, or where memory is lacking for that nothing. Linear in the report.
+/// What is told of a delivery: its report, or nothing if memory is lacking for that. Linear in the report.
 pub fn line_of_report(alloc: Global, report: &Report) -> Octets
     ensures { (result ≡ deeds.one_line (delivery_report report.now)) ⊎ (result ≡ []) }
 {
@@ -53,7 +53,7 @@ fn add_joined(line: &mut Octets, octet: u8) -> Result<(), AllocError>
 }
 
 // The report: a line for each folder that the message joined, for each address that it goes on to, on a vacation reply and of a
-// notice, in this order, or `discard` where there is none.
+// notice, in this order, or `discard` if there is none.
 fn of_report(alloc: Global, report: &Report) -> Result<Octets, AllocError>
     ensures { IfOk result (λ text. text ≡ delivery_report report.now) }
 {
@@ -121,7 +121,7 @@ fn add_notice(text: &mut Octets, notice: &Option<Octets>) -> Result<(), AllocErr
     }
 }
 
-// A word and what it is said of, as a line.
+// A word and what it is about, as a line.
 fn add_line(text: &mut Octets, word: &[u8], what: &[u8]) -> Result<(), AllocError>
     ensures { OnOk result (text.new ≡ text.old ++ with_end (word.now ++ what.now)) }
 {

@@ -1,4 +1,4 @@
-//! Who claims to go where another one of its kind wants its place, and all are taken.
+//! Who claims to go when another one of its kind wants its place, and all are taken.
 ghost use Rattle.std.specs.Prelude.{◌≡◌, ◌-◌};
 ghost use Rattle.sieveddaemon.specs.DaemonRules as rules;
 ghost use Rattle.sieveddaemon.specs.Places as places;
@@ -14,18 +14,18 @@ use sessions::Session;
 use std::collections::BTreeMap;
 use wires::machine::{Claim, Want};
 
-/// So many milliseconds a guest of ManageSieve is left alone from its coming on, and a client of LMTP that hasn't said LHLO, where many
+/// For how many milliseconds a guest of ManageSieve is left alone since it came, and a client of LMTP that hasn't said LHLO, when many
 /// haven't: a client on the same machine answers its greeting within one or two, and 300 that say nothing have gone by within a second.
 const FIRST_SPAN: u64 = 50;
 
-/// So many milliseconds any other client of LMTP is left alone while no recipient of its is taken.
+/// For how many milliseconds any other client of LMTP is left alone while no recipient of its is taken.
 const SENDER_SPAN: u64 = 1000;
 
-/// So many clients of LMTP that haven't said LHLO are many: three quarters of the places.
+/// How many clients of LMTP that haven't said LHLO are many: three quarters of the places.
 const MANY_SILENT: usize = 15;
 
-/// An answer to a login that failed is kept back for no more milliseconds where it may not be heard: its client has waited for 500 then, so
-/// who guesses passwords keeps each place that long.
+/// Once at most this many milliseconds are left for which the answer to a login that failed is kept back, its client may make room, and
+/// doesn't hear it: it has waited for 500 then, so who guesses passwords keeps each place that long.
 const KEPT_LEFT: u64 = 1500;
 
 /// Who failed a login goes before the others.
@@ -47,7 +47,7 @@ pub fn is_user(clients: &Clients, id: u32) -> bool
     }
 }
 
-/// What one claims that owes octets, and stands so since that moment.
+/// What one claims that owes octets, and has done so since that moment.
 fn owed_claim(now: u64, span: u64, rank: u32, since: u64) -> Option<Claim>
     ensures { result ≡ room.owed_claim now span rank since }
 {
@@ -81,7 +81,7 @@ fn rank_of(session: &Session) -> u32
     if session.has_failed() { FAILED } else { SILENT }
 }
 
-/// What one claims of whom that is wanted.
+/// What one claims of which that is wanted.
 fn want_claim(now: u64, want: Want, rank: u32, since: u64) -> Option<Claim>
     ensures { result ≡ room.want_claim now want rank since }
 {
@@ -106,7 +106,7 @@ fn waits_claim(now: u64, place: &Place, session: &Session) -> Option<Claim>
     }
 }
 
-/// What a client of ManageSieve claims; none where somebody is logged in there.
+/// What a client of ManageSieve claims; none if somebody is logged in there.
 pub fn claim_of_guest(daemon: &Daemon, now: u64, id: u32) -> Option<Claim>
     ensures { result ≡ room.guest_claim now (rules.place_at daemon.now id) (client_at daemon.now.clients.sessions id) }
 {
@@ -125,7 +125,7 @@ pub fn claim_of_guest(daemon: &Daemon, now: u64, id: u32) -> Option<Claim>
     }
 }
 
-/// What a client of LMTP claims: nothing while a recipient of its is taken. `flooded`, where many haven't said LHLO.
+/// What a client of LMTP claims: nothing while a recipient of its is taken. `flooded`, if many haven't said LHLO.
 pub fn claim_of_sender(
     clients: &Clients,
     now: u64,
@@ -170,7 +170,7 @@ pub fn is_flooded(posts: &BTreeMap<u32, Post>) -> bool
     less_silent(MANY_SILENT, posts) == 0
 }
 
-/// Less how many of them haven't.
+/// `most` less how many of them haven't.
 fn less_silent(most: usize, posts: &BTreeMap<u32, Post>) -> usize
     ensures { result ≡ most - room.silent_in posts.now.entries }
 {

@@ -42,7 +42,7 @@ pub fn enter(daemon: &mut Daemon, now: u64, id: u32, out: &mut Octets) -> Result
     }
 }
 
-/// What an answer has a client sent.
+/// What an answer sends to a client.
 fn octets_of(alloc: Global, answer: Answer) -> Octets
     ensures { result ≡ waiting.octets_of answer }
 {
@@ -52,7 +52,7 @@ fn octets_of(alloc: Global, answer: Answer) -> Octets
     }
 }
 
-/// Octets of one come, for which there was room or not.
+/// Takes octets of a connection, for which there was room or not.
 pub fn hear(
     daemon: &mut Daemon,
     now: u64,
@@ -77,7 +77,7 @@ pub fn hear(
     Ok(())
 }
 
-/// Where the octets that came `begin` what comes next, it is counted from now on; and whether there was room for them.
+/// If the octets that came begin what comes next (`begins`), its time is counted from now on; and whether there was room for them.
 fn begin(places: &mut BTreeMap<u32, Place>, now: u64, id: u32, begins: bool, fit: Fit)
     ensures { (before : Place) → tree.get nat_cmp places.old id ≡ Some before → tree.Updates nat_cmp places.old places.new id (Some (begun now before begins fit)) }
 {
@@ -90,7 +90,7 @@ fn begin(places: &mut BTreeMap<u32, Place>, now: u64, id: u32, begins: bool, fit
     }
 }
 
-/// One is gone, and its session.
+/// Ends a connection that is gone, and its session.
 pub fn leave(daemon: &mut Daemon, id: u32)
     ensures { Closes daemon.old id daemon.new }
 {

@@ -1,4 +1,4 @@
-//! The daemon goes on with a connection: one event, or one text that was kept back.
+//! One step of a connection: one event, or one text that was kept back.
 ghost use Rattle.std.specs.Prelude.{◌≡◌, [], Some, true, false, IsTrue, IsSome, IsErr, OnOk, OnErr};
 ghost use Rattle.std.specs.Ordering.{nat_cmp};
 ghost use Rattle.std.specs.BTreeMap as tree;
@@ -22,13 +22,13 @@ use std::alloc::AllocError;
 use std::collections::BTreeMap;
 use std::mem::replace;
 
-/// So many milliseconds the answer to a login that failed is kept back.
+/// For how many milliseconds the answer to a login that failed is kept back.
 const LOGIN_DELAY: u64 = 2000;
 
-/// So many milliseconds later the store is asked for again.
+/// After how many milliseconds the store is asked for again.
 const RETRY_SPAN: u64 = 5;
 
-/// For so many milliseconds the store is asked for in all.
+/// For how many milliseconds the store is asked for in all.
 const MAX_AWAY: u64 = 5000;
 
 /// What is answered to a login that failed.
@@ -49,7 +49,7 @@ fn is_failure(octets: &[u8]) -> bool
     octets == FAILED || octets == FAILED_LAST
 }
 
-/// What is waited for behind an answer; what is said of it at once is put out.
+/// What is waited for after an answer; what is said of it at once is put out.
 fn take_answer(now: u64, answer: Answer, out: &mut Octets) -> Waits
     requires { out.old ≡ [] }
     ensures waits { result ≡ waits_after now answer }
@@ -80,7 +80,7 @@ pub fn is_out(answer: &Answer) -> bool
 
 // ---- what is known of one connection
 
-/// Puts what a connection waits for in the place of what it waited for, which is given out.
+/// Replaces what a connection waits for, and returns what it waited for.
 fn replace_waits(
     places: &mut BTreeMap<u32, Place>,
     now: u64,
@@ -109,7 +109,7 @@ fn replace_waits(
     before.waits
 }
 
-/// From now on a connection waits so; `answered`, where its next command is counted from now on.
+/// From now on a connection waits so; `answered`, if its next command is counted from now on.
 fn renew(daemon: &mut Daemon, now: u64, id: u32, waits: Waits, answered: bool) -> Waits
     ensures renews { Renews daemon.old now id waits answered daemon.new }
     ensures before { (before : Place) → place_at daemon.old id ≡ Some before → result ≡ before.waits }
@@ -118,7 +118,7 @@ fn renew(daemon: &mut Daemon, now: u64, id: u32, waits: Waits, answered: bool) -
     replace_waits(&mut daemon.places, now, id, waits, answered, user)
 }
 
-/// Nothing more is known of a connection.
+/// Forgets a connection.
 pub fn forget(daemon: &mut Daemon, id: u32)
     ensures { Forgets daemon.old id daemon.new }
 {
@@ -158,7 +158,7 @@ fn asked_since(daemon: &Daemon, now: u64, id: u32) -> u64
     }
 }
 
-/// The same where the store answered: it is had then.
+/// The same if the store answered: it is held then.
 fn settle_done(daemon: &mut Daemon, now: u64, id: u32, answer: Answer, out: &mut Octets)
     requires { out.old ≡ [] }
     ensures renews { Renews (had_at now daemon.old) now id (waits_after now answer) (places.is_out answer) daemon.new }
@@ -179,7 +179,7 @@ fn await_store(daemon: &mut Daemon, now: u64, id: u32)
 
 // ---- one step
 
-/// What comes first is brought to the store.
+/// Applies what comes first to the store.
 fn bring<O: Desk>(
     daemon: &mut Daemon,
     outside: &mut O,
@@ -207,7 +207,7 @@ fn bring<O: Desk>(
     }
 }
 
-/// What comes first is stepped: at once where it asks no store, else by the store.
+/// Steps what comes first: at once if it asks no store, else by the store.
 fn step_first<O: Desk>(
     daemon: &mut Daemon,
     outside: &mut O,
@@ -237,7 +237,7 @@ fn step_first<O: Desk>(
     }
 }
 
-/// What comes first is given up.
+/// Gives up what comes first.
 fn give_up<O: Desk>(
     daemon: &mut Daemon,
     outside: &mut O,
@@ -264,7 +264,7 @@ fn give_up<O: Desk>(
     }
 }
 
-/// What was kept back is said.
+/// Says what was kept back.
 fn speak<O: Desk>(daemon: &mut Daemon, outside: &mut O, now: u64, id: u32, out: &mut Octets)
     requires out { out.old ≡ [] }
     requires may { AtPlace daemon.old id (λ place. IsReply place.waits) }
@@ -280,7 +280,7 @@ fn speak<O: Desk>(daemon: &mut Daemon, outside: &mut O, now: u64, id: u32, out: 
     }
 }
 
-/// Whether there was no room for what one sent, and it isn't told yet.
+/// Whether there was no room for what one sent, and it hasn't been told so yet.
 fn is_over(fit: Fit) -> bool
     ensures { result ≡ true → fit ≡ Fit.Over }
 {
@@ -290,7 +290,7 @@ fn is_over(fit: Fit) -> bool
     }
 }
 
-/// It is noted that one is told that there was no room.
+/// Notes that one is told that there was no room.
 fn note_told(places: &mut BTreeMap<u32, Place>, now: u64, id: u32, user: bool)
     ensures { (before : Place) → tree.get nat_cmp places.old id ≡ Some before → tree.Updates nat_cmp places.old places.new id (Some (place_told now before user)) }
 {
@@ -304,7 +304,7 @@ fn note_told(places: &mut BTreeMap<u32, Place>, now: u64, id: u32, user: bool)
     place.fit = Fit::Told;
 }
 
-/// One that sends what there is no room for is told so, and nothing more is done for it.
+/// Tells one that sends what there is no room for so; nothing more is done for it.
 fn refuse<O: Desk>(
     daemon: &mut Daemon,
     outside: &mut O,

@@ -9,13 +9,13 @@ use crate::place::{Fit, Place, Waits};
 use sessions::Session;
 use wires::machine::Want;
 
-/// So many milliseconds there are for a login in all.
+/// How many milliseconds there are for a login in all.
 const MAX_LOGIN: u64 = 60000;
 
-/// So many milliseconds there are for a command, from its first octet on.
+/// How many milliseconds there are for a command, from its first octet on.
 const MAX_COMMAND: u64 = 300000;
 
-/// For so many milliseconds a client that is logged in may say nothing (RFC 5804, 1.2).
+/// For how many milliseconds a client that is logged in may say nothing (RFC 5804, 1.2).
 const MAX_SILENCE: u64 = 1800000;
 
 /// What is wanted of a connection that waits so, and for whose octets there was room or not.

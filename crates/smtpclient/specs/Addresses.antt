@@ -31,20 +31,20 @@ is_ipv4 text = length (slice_split is_dot text) == 4 && list_all is_number (slic
 abbrev pub is_group : List ℕ → Bool
 is_group text = is_filled text && nat_le (length text) 4 && list_all is_ascii_hexdigit text
 
--- what stands between the colons
+-- what is between the colons
 abbrev pub between_colons : List ℕ → List (List ℕ)
 between_colons text = slice_split is_colon text
 
--- how many groups a text is, with colons between them; none where it isn't that
+-- how many groups a text is, with colons between them; none if it isn't that
 abbrev pub groups_of : List ℕ → Option ℕ
 groups_of text = if list_all is_group (between_colons text) then Some (length (between_colons text)) else None
 
--- the same, where there may be nothing
+-- the same, but there may be nothing
 abbrev pub some_groups_of : List ℕ → Option ℕ
 some_groups_of [] = Some 0
 some_groups_of (octet ∷ rest) = groups_of (octet ∷ rest)
 
--- so many groups, a colon and an IPv4 address
+-- this many groups, a colon and an IPv4 address
 pub record AreGroupsAndIpv4 (text : List ℕ) (count : ℕ) : Type 0 where
   pub groups : List ℕ
   pub address : List ℕ
@@ -52,11 +52,11 @@ pub record AreGroupsAndIpv4 (text : List ℕ) (count : ℕ) : Type 0 where
   pub counted : groups_of groups ≡ Some count
   pub is : is_ipv4 address ≡ true
 
--- the same, where there may be the address alone
+-- the same, but there may be the address alone
 abbrev pub EndsInIpv4 : List ℕ → ℕ → Type 0
 EndsInIpv4 text count = ((is_ipv4 text ≡ true) × (count ≡ 0)) ⊎ AreGroupsAndIpv4 text count
 
--- IPv6-comp: `::` stands for two groups of zeros at least, so six others stand there at most
+-- IPv6-comp: `::` stands for two groups of zeros at least, so there are at most six others
 pub record IsCompressed (text : List ℕ) : Type 0 where
   pub front : List ℕ
   pub rest : List ℕ
@@ -67,7 +67,7 @@ pub record IsCompressed (text : List ℕ) : Type 0 where
   pub after : some_groups_of rest ≡ Some behind
   pub most : before + behind ≤ 6
 
--- IPv6v4-comp: the same in front of an IPv4 address, which is two groups
+-- IPv6v4-comp: the same before an IPv4 address, which is two groups
 pub record IsCompressedIpv4 (text : List ℕ) : Type 0 where
   pub front : List ℕ
   pub rest : List ℕ
@@ -84,7 +84,7 @@ IsIpv6 text = (groups_of text ≡ Some 8) ⊎ IsCompressed text ⊎ AreGroupsAnd
 
 -- ---- what is read of one
 
--- both counts are there, and together at most so many
+-- both counts are there, and together at most this many
 pub record Fit (before behind : Option ℕ) (most : ℕ) : Type 0 where
   pub first : ℕ
   pub second : ℕ
@@ -92,17 +92,17 @@ pub record Fit (before behind : Option ℕ) (most : ℕ) : Type 0 where
   pub after : behind ≡ Some second
   pub within : first + second ≤ most
 
--- `::`, and before it a text that neither has `::` nor ends in a colon: what stands behind a colon there is filled
+-- `::`, and before it a text that neither has `::` nor ends in a colon: what follows a colon there is not empty
 pub record CutsDoubled (text front rest : List ℕ) : Type 0 where
   pub written : text ≡ front ++ 58 ∷ 58 ∷ rest
   pub first : list_all is_filled (drop 1 (between_colons front)) ≡ true
 
--- the last such octet, what stands before it and what behind it
+-- the last such octet, what comes before it and what comes after it
 pub record CutsLast (mark : ℕ) (text front rest : List ℕ) : Type 0 where
   pub written : text ≡ front ++ mark ∷ rest
   pub last : list_all (λ octet. not (octet == mark)) rest ≡ true
 
--- a colon stands in front
+-- a colon comes first
 abbrev pub begins_colon : List ℕ → Bool
 begins_colon [] = false
 begins_colon (octet ∷ rest) = is_colon octet
@@ -112,7 +112,7 @@ abbrev pub begins_doubled : List ℕ → Bool
 begins_doubled [] = false
 begins_doubled (octet ∷ rest) = is_colon octet && begins_colon rest
 
--- how many octets stand before the first `::`
+-- how many octets come before the first `::`
 abbrev pub before_doubled : List ℕ → ℕ
 before_doubled [] = 0
 before_doubled (octet ∷ rest) = if begins_doubled (octet ∷ rest) then 0 else 1 + before_doubled rest

@@ -6,7 +6,7 @@ use Rattle.octets.specs.Ascii.{lowered}
 use Rattle.smtpclient.specs.Replies.{IsHere}
 use Rattle.smtpclient.specs.declared.extension.Extensions.{Extensions}
 
--- the first word of a line behind its code and mark
+-- the first word of a line after its code and mark
 abbrev pub is_unspaced : ℕ → Bool
 is_unspaced octet = not (octet == 32)
 
@@ -28,7 +28,7 @@ names keyword line = is_word keyword (keyword_of line)
 abbrev pub offers : List ℕ → List (List ℕ) → Bool
 offers keyword lines = list_any (names keyword) lines
 
--- what is offered by the lines behind the first one, which has the server's name
+-- what is offered by the lines after the first one, which has the server's name
 abbrev pub extensions_of : List (List ℕ) → Extensions
 extensions_of lines = record { size = offers (codes "size") lines; eight_bit_mime = offers (codes "8bitmime") lines; smtputf8 = offers (codes "smtputf8") lines }
 
@@ -41,7 +41,7 @@ AreLines (line ∷ lines) octets = (behind : List ℕ) × IsHere octets line beh
 abbrev pub Offers : List ℕ → Extensions → Type 0
 Offers octets it = (first : List ℕ) (lines : List (List ℕ)) → AreLines (first ∷ lines) octets → it ≡ extensions_of lines
 
--- ---- one line behind others
+-- ---- one line after others
 
 abbrev pub with_line : Extensions → List ℕ → Extensions
 with_line it line = record {

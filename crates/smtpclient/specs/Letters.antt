@@ -1,4 +1,4 @@
--- A letter: a message with its envelope, and what is written for it.
+-- A message with its envelope, and what is written for it.
 use Rattle.std.specs.Prelude.{◌≡◌, ◌⊎◌, ℕ, ◌||◌, ◌&&◌, if◌then◌else◌, Bool, true, List, [], ◌++◌, length, codes, decimal}
 use Rattle.std.specs.List.{list_any}
 use Rattle.mailhead.specs.Cuts.{CutsLogicalLine}
@@ -35,7 +35,7 @@ IsSender sender = (sender ≡ []) ⊎ IsMailbox sender
 abbrev pub IsAddressed : Mail → Type 0
 IsAddressed mail = IsSender mail.sender × IsMailbox mail.target
 
--- an octet over 127 stands in an address; in its text
+-- an octet over 127 is in an address; in its text
 abbrev pub has_high : List ℕ → Bool
 has_high text = list_any is_high text
 
@@ -45,7 +45,7 @@ needs_smtputf8 mail = has_high mail.sender || has_high mail.target
 abbrev pub needs_eight_bit : Mail → Bool
 needs_eight_bit mail = has_high mail.text
 
--- what it needs is offered; without 8BITMIME it may go where that is allowed
+-- what it needs is offered; without 8BITMIME it may go if that is allowed
 pub record IsOffered (offered : Extensions) (may_eight_bit : Bool) (mail : Mail) : Type 0 where
   pub addresses : needs_smtputf8 mail ≡ true → offered.smtputf8 ≡ true
   pub text : needs_eight_bit mail ≡ true → (offered.eight_bit_mime || may_eight_bit) ≡ true

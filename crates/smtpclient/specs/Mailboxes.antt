@@ -60,7 +60,7 @@ is_qcontent (first ∷ second ∷ third ∷ rest) = false
 abbrev pub joined : List (List ℕ) → List ℕ
 joined parts = flat_map (λ part. part) parts
 
--- what stands between the marks of a quoted string, the mark that closes it, and what stands behind that
+-- what is between the marks of a quoted string, the mark that closes it, and what follows that
 pub record Closes (text rest : List ℕ) : Type 0 where
   pub parts : List (List ℕ)
   pub each : list_all is_qcontent parts ≡ true
@@ -137,7 +137,7 @@ IsHost text = (is_domain text ≡ true) ⊎ IsLiteral text
 
 -- ---- mailboxes
 
--- a local part, `@`, and what stands behind it
+-- a local part, `@`, and what follows it
 pub record CutsLocal (text host : List ℕ) : Type 0 where
   pub local : List ℕ
   pub written : text ≡ local ++ 64 ∷ host
@@ -162,25 +162,25 @@ pub record MailboxStands : Type 0 where
 
 -- ---- what is read of one
 
--- a Dot-string, `@`, and what stands behind it
+-- a Dot-string, `@`, and what follows it
 pub record CutsDotted (text host : List ℕ) : Type 0 where
   pub local : List ℕ
   pub written : text ≡ local ++ 64 ∷ host
   pub is : is_dot_string local ≡ true
 
--- what stands behind the mark that closes a quoted string, where these octets stand behind the one that opens it, or behind a backslash
+-- what follows the mark that closes a quoted string, if these octets follow the one that opens it, or a backslash
 abbrev pub behind_quotes : Bool → List ℕ → Option (List ℕ)
 behind_quotes escaped [] = None
 behind_quotes true (octet ∷ rest) = if is_printable octet then behind_quotes false rest else None
 behind_quotes false (octet ∷ rest) =
     if octet == 34 then Some rest else (if octet == 92 then behind_quotes true rest else (if is_qtext octet then behind_quotes false rest else None))
 
--- what a tag may have behind it
+-- what may follow a tag
 abbrev pub Says : List ℕ → List ℕ → Type 0
 Says tag content =
     ((is_ipv6_tag tag ≡ true) × IsIpv6 content) ⊎ ((is_ipv6_tag tag ≡ false) × (is_tag tag ≡ true) × (is_content content ≡ true))
 
--- the first such octet, what stands before it and what behind it
+-- the first such octet, what comes before it and what comes after it
 pub record CutsAt (mark : ℕ) (text front rest : List ℕ) : Type 0 where
   pub written : text ≡ front ++ mark ∷ rest
   pub first : list_all (λ octet. not (octet == mark)) front ≡ true

@@ -12,7 +12,7 @@ pub record IsCode (first second third code : ℕ) : Type 0 where
   pub last : (48 ≤ third) × (third ≤ 57)
   pub means : code + 5328 ≡ 100 * first + (10 * second + third)
 
--- what stands behind them: nothing, or a space and a text, where no line follows; else a hyphen and a text
+-- what follows them: nothing, or a space and a text, if no line follows; otherwise a hyphen and a text
 abbrev pub IsMark : List ℕ → Bool → List ℕ → Type 0
 IsMark rest true text = ((rest ≡ []) × (text ≡ [])) ⊎ (rest ≡ 32 ∷ text)
 IsMark rest false text = rest ≡ 45 ∷ text
@@ -42,29 +42,29 @@ ReadsMark code rest None = (is_last : Bool) (text : List ℕ) → IsMark rest is
 
 -- ---- a reply
 
--- a line stands first, and that behind it; with its CRLF it isn't longer than a line may be
+-- a line comes first, and that after it; with its CRLF it isn't longer than a line may be
 pub record IsHere (octets line behind : List ℕ) : Type 0 where
   pub first : IsFirstLine octets line behind
   pub short : length line + 2 ≤ max_line
 
--- these lines stand first, each of which says that another one follows, and then one that says that none does; all have the same code
+-- these lines come first, each of which says that another one follows, and then one that says that none does; all have the same code
 abbrev pub Follows : List (List ℕ) → List ℕ → ℕ → List ℕ → Type 0
 Follows [] octets code rest = (line text : List ℕ) × IsHere octets line rest × IsReplyLine line code true text
 Follows (line ∷ lines) octets code rest = (text behind : List ℕ) × IsHere octets line behind × IsReplyLine line code false text × Follows lines behind code rest
 
--- a reply stands first in the octets of a server, and that behind it
+-- a reply comes first in the octets of a server, and that after it
 abbrev pub IsReply : List ℕ → ℕ → List ℕ → Type 0
 IsReply octets code rest = (lines : List (List ℕ)) × Follows lines octets code rest
 
--- a reply of so many octets was heard; or there is none yet; or there is none, whatever follows
+-- a reply of this many octets was heard; or there is none yet; or there is none, whatever follows
 abbrev pub Hears : List ℕ → Heard → Type 0
 Hears octets (Reply code count) = (count ≤ length octets) × IsReply octets code (drop count octets)
 Hears octets Need = (code : ℕ) (rest : List ℕ) → IsReply octets code rest → ⊥
 Hears octets Bad = (more : List ℕ) (code : ℕ) (rest : List ℕ) → IsReply (octets ++ more) code rest → ⊥
 
--- ---- one line behind others
+-- ---- one line after others
 
--- the code is that of the lines before it, where there are some
+-- the code is that of the lines before it, if there are any
 abbrev pub Agrees : Option ℕ → ℕ → Type 0
 Agrees None code = Unit {0}
 Agrees (Some other) code = code ≡ other
@@ -73,7 +73,8 @@ abbrev pub ReadsNext : Option ℕ → List ℕ → Option ReplyLine → Type 0
 ReadsNext other line (Some it) = IsReplyLine line it.code it.is_last it.text.now × Agrees other it.code
 ReadsNext other line None = (code : ℕ) (is_last : Bool) (text : List ℕ) → IsReplyLine line code is_last text → Agrees other code → ⊥
 
--- so many octets in front are lines of a reply behind which others follow: with a reply behind them they are one, and a reply that they begin goes on there
+-- the first `at` octets are lines of a reply after which others follow: with a reply after them they are one, and a reply that they begin
+-- goes on there
 pub record Begins (octets : List ℕ) (at : ℕ) (other : Option ℕ) : Type 0 where
   pub within : at ≤ length octets
   pub joins : (code : ℕ) (rest : List ℕ) → Agrees other code → IsReply (drop at octets) code rest → IsReply octets code rest

@@ -1,4 +1,4 @@
--- What is sent of a message behind DATA (RFC 5321, sections 2.3.8 and 4.5.2).
+-- What is sent of a message after DATA (RFC 5321, sections 2.3.8 and 4.5.2).
 use Rattle.std.specs.Prelude.{◌≡◌, ◌≢◌, ℕ, ◌==◌, ◌&&◌, Bool, true, false, if◌then◌else◌, List, [], ◌∷◌, ◌++◌, Option, Some, None}
 use Rattle.std.specs.Borrow.{Bor}
 use Rattle.std.specs.List.{All, flat_map}
@@ -14,7 +14,7 @@ use Rattle.smtpclient.specs.declared.sent.Sent.{Sent}
 abbrev pub IsNoFeed : ℕ → Type 0
 IsNoFeed octet = (octet == 10) ≡ false
 
--- a message is these lines, each with an LF behind it, and what stands behind the last one. A line may have a CR before its LF
+-- a message is these lines, each with an LF after it, and what follows the last one. A line may have a CR before its LF
 pub record IsCut (message : List ℕ) (lines : List (List ℕ)) (last : List ℕ) : Type 0 where
   pub each : All (All IsNoFeed) lines
   pub tail : All IsNoFeed last
@@ -34,18 +34,18 @@ abbrev pub spaced : List ℕ → List ℕ
 spaced [] = []
 spaced (octet ∷ rest) = (if octet == 13 then 32 else octet) ∷ spaced rest
 
--- and as `?` where it begins a line: with a space the line would go on with the field before it (RFC 5322, section 2.2.3)
+-- and as `?` if it begins a line: with a space the line would continue the field before it (RFC 5322, section 2.2.3)
 abbrev pub mended : List ℕ → List ℕ
 mended [] = []
 mended (octet ∷ rest) = (if octet == 13 then 63 else octet) ∷ spaced rest
 
--- the lines as the other side has them: what stands behind the last LF is one, if it is anything
+-- the lines as the other side has them: what follows the last LF is one, if it is anything
 abbrev pub mended_lines : List (List ℕ) → List ℕ → List (List ℕ)
 mended_lines [] [] = []
 mended_lines [] (octet ∷ rest) = mended (octet ∷ rest) ∷ []
 mended_lines (line ∷ lines) last = mended (chomped line) ∷ mended_lines lines last
 
--- a dot stands before one that begins with a dot
+-- a dot is put before one that begins with a dot
 abbrev pub dotted : List ℕ → List ℕ
 dotted [] = []
 dotted (octet ∷ rest) = if octet == 46 then 46 ∷ octet ∷ rest else octet ∷ rest
@@ -64,7 +64,7 @@ abbrev pub begins_feed : List ℕ → Bool
 begins_feed [] = false
 begins_feed (octet ∷ rest) = octet == 10
 
--- what is still to be sent, where these octets are left at a place
+-- what is still to be sent, if these octets are left at a place
 abbrev pub sent_from : Place → List ℕ → List ℕ
 sent_from Start [] = with_end (46 ∷ [])
 sent_from Start (octet ∷ rest) =
@@ -97,7 +97,7 @@ is_folded [] = false
 is_folded (octet ∷ rest) = if octet == 32 then true else octet == 9
 
 -- what is sent is one, whatever message there is; the other side takes the dots off (`IsText`) and has the message's lines; and no line
--- goes on with a field that didn't, or ceases to
+-- continues a field that didn't, or ceases to
 pub record SentStands : Type 0 where
   pub is : (message : List ℕ) → IsSent message (sent_from Start message) (text_from Start message)
   pub one : (message sent text : List ℕ) → IsSent message sent text → (sent ≡ sent_from Start message) × (text ≡ text_from Start message)
@@ -117,7 +117,7 @@ abbrev pub Hands : Option (Bor (List ℕ)) → Sent → Sent → Type 0
 Hands None s t = (left_of s ≡ []) × (t ≡ s)
 Hands (Some part) s t = (left_of s ≡ part.now ++ left_of t) × (part.now ≢ [])
 
--- the same, where not all was
+-- the same, if not all was
 abbrev pub Passes : Bor (List ℕ) → Sent → Sent → Type 0
 Passes part s t = (left_of s ≡ part.now ++ left_of t) × (part.now ≢ [])
 

@@ -83,7 +83,7 @@ fn is_compressed_ipv4(text: &[u8]) -> bool
     }
 }
 
-// Whether both counts are there and together at most so many.
+// Whether both counts are there and together at most `most`.
 fn fit(before: Option<usize>, behind: Option<usize>, most: usize) -> bool
     ensures { IsTrue result ↔ s.Fit before behind most }
 {
@@ -136,7 +136,7 @@ fn some_groups_of(text: &[u8]) -> Option<usize>
     groups_of(text)
 }
 
-// How many groups stand before a colon and an IPv4 address.
+// How many groups come before a colon and an IPv4 address.
 fn groups_and_ipv4(text: &[u8]) -> Option<usize>
     ensures { (count : ℕ) → (result ≡ Some count) ↔ s.AreGroupsAndIpv4 text.now count }
 {
@@ -152,7 +152,7 @@ fn groups_and_ipv4(text: &[u8]) -> Option<usize>
     }
 }
 
-// The same, where there may be the address alone.
+// The same, but there may be the address alone.
 fn ends_in_ipv4(text: &[u8]) -> Option<usize>
     ensures { (count : ℕ) → (result ≡ Some count) ↔ s.EndsInIpv4 text.now count }
 {
@@ -164,7 +164,7 @@ fn ends_in_ipv4(text: &[u8]) -> Option<usize>
 
 // ---- cuts
 
-// What stands before the first `::` and what behind it.
+// What comes before the first `::` and what comes after it.
 fn cut_doubled(text: &[u8]) -> Option<Cut<'_>>
     ensures found { IfSome result (λ cut. text.now ≡ cut.front.now ++ 58 ∷ 58 ∷ cut.rest.now) }
     ensures one { IfSome result (λ cut. (front rest : List ℕ) → s.CutsDoubled text.now front rest → (front ≡ cut.front.now) × (rest ≡ cut.rest.now)) }
@@ -184,7 +184,7 @@ fn begins_colon(text: &[u8]) -> bool
     }
 }
 
-// Whether `::` stands in front.
+// Whether `::` comes first.
 fn begins_doubled(text: &[u8]) -> bool
     ensures { result ≡ s.begins_doubled text.now }
 {
@@ -194,7 +194,7 @@ fn begins_doubled(text: &[u8]) -> bool
     }
 }
 
-// How many octets stand before the first `::`.
+// How many octets come before the first `::`.
 fn before_doubled(text: &[u8]) -> usize
     ensures value { result ≡ s.before_doubled text.now }
     ensures within { result ≤ length text.now }
@@ -211,7 +211,7 @@ fn before_doubled(text: &[u8]) -> usize
     count
 }
 
-// What stands before the last such octet and what behind it.
+// What comes before the last such octet and what comes after it.
 fn cut_last(text: &[u8], mark: u8) -> Option<Cut<'_>>
     ensures found { IfSome result (λ cut. s.CutsLast mark text.now cut.front.now cut.rest.now) }
     ensures none { IfNone result (HasNone mark text.now) }

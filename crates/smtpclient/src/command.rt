@@ -24,8 +24,8 @@ pub fn ehlo_line(alloc: Global, host: &[u8]) -> Result<Octets, AllocError>
     Ok(line)
 }
 
-/// MAIL with the letter's sender, and what is needed and offered: its size, BODY where an octet over 127 stands in its text, SMTPUTF8
-/// where one stands in an address (RFC 5321, section 4.1.1.2). Lack of memory is the only error. Time is linear in the letter's octets.
+/// MAIL with the message's sender, and what is needed and offered: its size, BODY if there is an octet over 127 in its text, SMTPUTF8
+/// if there is one in an address (RFC 5321, section 4.1.1.2). Lack of memory is the only error. Time is linear in the message's octets.
 pub fn mail_line(
     alloc: Global,
     offered: Extensions,
@@ -71,7 +71,7 @@ fn add_utf8(line: &mut Octets, letter: Letter<'_>) -> Result<(), AllocError>
     Ok(())
 }
 
-/// RCPT with the letter's target (RFC 5321, section 4.1.1.3). Lack of memory is the only error.
+/// RCPT with the message's recipient (RFC 5321, section 4.1.1.3). Lack of memory is the only error.
 pub fn rcpt_line(alloc: Global, letter: Letter<'_>) -> Result<Octets, AllocError>
     ensures { IfOk result (λ line. line ≡ s.rcpt_line (s.mail_of letter.entry)) }
 {

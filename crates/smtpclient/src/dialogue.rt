@@ -1,8 +1,8 @@
-//! What a reply makes of a letter.
+//! What a reply makes of a message.
 ghost use Rattle.std.specs.Prelude.{◌≡◌};
 ghost use Rattle.smtpclient.specs.Dialogues as s;
 
-/// What was written of a letter last.
+/// What was written last of a message.
 #[derive(Clone, Copy, Debug, PartialEq, Eq)]
 pub enum Stage {
     /// MAIL.
@@ -11,11 +11,11 @@ pub enum Stage {
     Recipient,
     /// DATA.
     Data,
-    /// The text, with the dot behind it.
+    /// The text, with the dot after it.
     Text,
 }
 
-/// How a letter's dialogue ends.
+/// How a message's dialogue ends.
 #[derive(Clone, Copy, Debug, PartialEq, Eq)]
 pub enum Ending {
     /// The server has taken it: its text was answered by 250.
@@ -34,17 +34,17 @@ pub enum Ending {
     Unaddressed,
 }
 
-/// What a reply makes of a letter.
+/// What a reply makes of a message.
 #[derive(Clone, Copy, Debug, PartialEq, Eq)]
 pub enum Turn {
-    /// It goes on with this.
+    /// It continues with this.
     Goes(Stage),
     /// It is at its end.
     Ends(Ending),
 }
 
-/// What a reply makes of a letter: MAIL and RCPT are taken by 2yz, DATA goes on by 3yz, and the message is taken by 250 alone (RFC 5321,
-/// section 4.3.2). Constant time.
+/// What a reply makes of a message: MAIL and RCPT are taken by 2yz, DATA continues by 3yz, and the message is taken by 250 alone (RFC
+/// 5321, section 4.3.2). Constant time.
 pub fn next_turn(stage: Stage, code: u16) -> Turn
     ensures { result ≡ s.turn_of stage code }
 {
@@ -72,7 +72,7 @@ fn go_on(is_taken: bool, stage: Stage, code: u16) -> Turn
     }
 }
 
-// What a reply that isn't the one that is waited for makes of a letter.
+// What a reply other than the awaited one makes of a message.
 fn ending_of(code: u16) -> Ending
     ensures { result ≡ s.ending_of code }
 {

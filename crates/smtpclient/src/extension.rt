@@ -40,7 +40,7 @@ impl Extensions {
         }
     }
 
-    // What lines offer more, where these octets are lines.
+    // What lines offer more, if these octets are lines.
     fn with_lines(self, octets: &[u8]) -> Extensions
         ensures { s.OffersMore octets.now self result }
     {
@@ -55,7 +55,7 @@ impl Extensions {
     }
 }
 
-// What stands behind a CRLF.
+// What follows a CRLF.
 fn behind_end(octets: &[u8]) -> &[u8]
     requires { 2 ≤ length octets.now }
     ensures { result.now ≡ drop 2 octets.now }
@@ -64,7 +64,7 @@ fn behind_end(octets: &[u8]) -> &[u8]
     behind
 }
 
-/// What is offered in a reply, of all its octets: its lines behind the first are keywords and what belongs to them, in upper or lower
+/// What is offered in a reply, of all its octets: its lines after the first are keywords and what belongs to them, in upper or lower
 /// case. Time is linear in its octets; no memory is taken.
 pub fn read_extensions(reply: &[u8]) -> Extensions
     ensures { s.Offers reply.now result }
@@ -78,7 +78,7 @@ pub fn read_extensions(reply: &[u8]) -> Extensions
     }
 }
 
-// The first word behind the code and its mark.
+// The first word after the code and its mark.
 fn keyword_of(line: &[u8]) -> &[u8]
     ensures { result.now ≡ s.keyword_of line.now }
 {

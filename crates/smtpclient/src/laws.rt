@@ -9,13 +9,13 @@ pub fn sent_stands()
     ensures { SentStands }
 {}
 
-/// A letter is sent only where all of it was written, and its last reply, that to its text, is 250. However its dialogue ends, what was
-/// written is a front of the lines of its own sender, target and text.
+/// A message is sent only if all of it was written, and its last reply, that to its text, is 250. However its dialogue ends, what was
+/// written is a prefix of the lines of its own sender, recipient and text.
 pub fn speaks_right()
     ensures { SpeaksRight }
 {}
 
-/// A mailbox has no CR, LF or NUL, nor another control. So the line of MAIL or RCPT that it stands in is one line.
+/// A mailbox has no CR, LF or NUL, nor another control. So the line of MAIL or RCPT that has it is one line.
 pub fn mailbox_stands()
     ensures { MailboxStands }
 {}

@@ -1,4 +1,4 @@
-//! A letter: a message with its envelope, and what it needs.
+//! A message with its envelope, and what it needs.
 ghost use Rattle.std.specs.Prelude.{◌≡◌, ◌↔◌, ◌≤◌, IsTrue, length};
 ghost use Rattle.smtpclient.specs.Letters as s;
 ghost use Rattle.smtpclient.specs.Sent as sent;
@@ -15,7 +15,7 @@ pub struct Letter<'a> {
     /// The sender's address; empty for that of a bounce.
     pub sender: &'a [u8],
     pub target: &'a [u8],
-    /// The text of the message, without the field `Return-Path` in front.
+    /// The text of the message, without the field `Return-Path` at its start.
     pub text: &'a [u8],
 }
 
@@ -29,7 +29,7 @@ impl<'a> Letter<'a> {
         is_sender(self.sender) && is_mailbox(self.target)
     }
 
-    /// Whether a server offers what it needs: SMTPUTF8 where an octet over 127 stands in an address, 8BITMIME where one stands in its
+    /// Whether a server offers what it needs: SMTPUTF8 if there is an octet over 127 in an address, 8BITMIME if there is one in its
     /// text, unless it may go without that.
     ///
     /// Time is linear in its octets; no memory is taken.
@@ -42,14 +42,14 @@ impl<'a> Letter<'a> {
         offered.eight_bit_mime || may_eight_bit || !self.needs_eight_bit()
     }
 
-    /// Whether an octet over 127 stands in an address.
+    /// Whether there is an octet over 127 in an address.
     pub fn needs_smtputf8(&self) -> bool
         ensures { result ≡ s.needs_smtputf8 (s.mail_of self.now) }
     {
         has_high(self.sender) || has_high(self.target)
     }
 
-    /// Whether an octet over 127 stands in the text.
+    /// Whether there is an octet over 127 in the text.
     pub fn needs_eight_bit(&self) -> bool
         ensures { result ≡ s.needs_eight_bit (s.mail_of self.now) }
     {
@@ -69,7 +69,7 @@ fn has_high(text: &[u8]) -> bool
     text.iter().any(|octet| is_high(*octet))
 }
 
-/// A message without the field `Return-Path` that its first line is (RFC 5321, section 4.4), or all of it where its first line is none.
+/// A message without the field `Return-Path` that its first line is (RFC 5321, section 4.4), or all of it if its first line is none.
 ///
 /// Time is linear in that field's octets; no memory is taken.
 pub fn without_path(message: &[u8]) -> &[u8]

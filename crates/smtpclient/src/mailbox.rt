@@ -9,7 +9,7 @@ use crate::extension::names;
 use octets::is_printable;
 
 /// Whether a text is a Mailbox (RFC 5321, section 4.1.2; RFC 6531, section 3.3): a local part, `@`, and a domain or an address
-/// literal: one in brackets that has four numbers, an IPv6 address behind its tag, or what another tag says, which isn't looked into.
+/// literal: one in brackets that has four numbers, an IPv6 address after its tag, or what another tag says, which isn't looked into.
 /// How long a mailbox is isn't looked at.
 ///
 /// Time is linear in its octets; no memory is taken.
@@ -28,7 +28,7 @@ fn is_utf8(octets: &[u8]) -> bool
     str::from_utf8(octets).is_ok()
 }
 
-// What stands behind the local part and its `@`.
+// What follows the local part and its `@`.
 fn host_of(text: &[u8]) -> Option<&[u8]>
     ensures found { IfSome result (λ host. s.CutsLocal text.now host.now) }
     ensures one { IfSome result (λ host. (other : List ℕ) → s.CutsLocal text.now other → other ≡ host.now) }
@@ -40,7 +40,7 @@ fn host_of(text: &[u8]) -> Option<&[u8]>
     }
 }
 
-// What stands behind a Dot-string and its `@`.
+// What follows a Dot-string and its `@`.
 fn behind_dotted(text: &[u8]) -> Option<&[u8]>
     ensures found { IfSome result (λ host. s.CutsDotted text.now host.now) }
     ensures one { IfSome result (λ host. (other : List ℕ) → s.CutsDotted text.now other → other ≡ host.now) }
@@ -58,7 +58,7 @@ fn behind_dotted(text: &[u8]) -> Option<&[u8]>
     }
 }
 
-// What stands behind the mark that closes a quoted string and its `@`.
+// What follows the mark that closes a quoted string and its `@`.
 fn behind_quoted(inner: &[u8]) -> Option<&[u8]>
     ensures found { IfSome result (λ host. s.Closes inner.now (64 ∷ host.now)) }
     ensures one { IfSome result (λ host. (other : List ℕ) → s.Closes inner.now (64 ∷ other) → other ≡ host.now) }
@@ -70,7 +70,7 @@ fn behind_quoted(inner: &[u8]) -> Option<&[u8]>
     }
 }
 
-// What stands behind the mark that closes a quoted string.
+// What follows the mark that closes a quoted string.
 fn behind_quotes(inner: &[u8]) -> Option<&[u8]>
     ensures { option_copied result ≡ s.behind_quotes false inner.now }
 {
@@ -239,7 +239,7 @@ fn is_ipv6_tag(text: &[u8]) -> bool
     names(text, b"ipv6")
 }
 
-// What stands behind a tag and its colon: an IPv6 address behind its own tag, and behind another one what that says.
+// What follows a tag and its colon: an IPv6 address after its own tag, and after another one what that says.
 fn is_tagged(text: &[u8]) -> bool
     ensures { IsTrue result ↔ (s.IsIpv6Tagged text.now ⊎ s.IsTagged text.now) }
 {
@@ -273,7 +273,7 @@ fn is_literal(text: &[u8]) -> bool
     }
 }
 
-// What stands between brackets.
+// What is between brackets.
 fn inner_of(text: &[u8]) -> Option<&[u8]>
     ensures found { IfSome result (λ inner. text.now ≡ 91 ∷ (inner.now ++ 93 ∷ [])) }
     ensures none { IfNone result ((inner : List ℕ) → text.now ≡ 91 ∷ (inner ++ 93 ∷ []) → ⊥) }
@@ -295,7 +295,7 @@ fn is_host(text: &[u8]) -> bool
 
 // ---- cuts
 
-// What stands behind that octet in front.
+// What follows that octet at the start.
 pub(crate) fn strip(text: &[u8], mark: u8) -> Option<&[u8]>
     ensures found { IfSome result (λ rest. text.now ≡ mark ∷ rest.now) }
     ensures none { IfNone result ((rest : List ℕ) → text.now ≡ mark ∷ rest → ⊥) }
@@ -306,14 +306,14 @@ pub(crate) fn strip(text: &[u8], mark: u8) -> Option<&[u8]>
     }
 }
 
-/// A text before a mark, and behind it.
+/// A text before a mark, and after it.
 #[derive(Clone, Copy)]
 pub(crate) struct Cut<'a> {
     pub(crate) front: &'a [u8],
     pub(crate) rest: &'a [u8],
 }
 
-// What stands before the first such octet and what behind it.
+// What comes before the first such octet and what comes after it.
 pub(crate) fn cut_at(text: &[u8], mark: u8) -> Option<Cut<'_>>
     ensures found { IfSome result (λ cut. s.CutsAt mark text.now cut.front.now cut.rest.now) }
     ensures none { IfNone result (s.HasNone mark text.now) }
@@ -326,7 +326,7 @@ pub(crate) fn cut_at(text: &[u8], mark: u8) -> Option<Cut<'_>>
     }
 }
 
-// How many octets stand before the first such one.
+// How many octets come before the first such one.
 pub(crate) fn length_before(text: &[u8], mark: u8) -> usize
     ensures value { result ≡ prefix_len (λ octet. not (octet == mark)) text.now }
     ensures within { result ≤ length text.now }

@@ -11,11 +11,11 @@ pub struct ReplyLine<'a> {
     pub code: u16,
     /// No other line of the reply follows.
     pub is_last: bool,
-    /// What stands behind the code and its mark.
+    /// What follows the code and its mark.
     pub text: &'a [u8],
 }
 
-/// The line of a reply that these octets are, without their CRLF; none where they are none.
+/// The line of a reply that these octets are, without their CRLF; none if they are none.
 pub fn read_reply_line(line: &[u8]) -> Option<ReplyLine<'_>>
     ensures { s.ReadsLine line.now result }
 {
@@ -38,7 +38,7 @@ fn code_of(first: u8, second: u8, third: u8) -> Option<u16>
     Some(100 * u16::from(first - b'0') + 10 * u16::from(second - b'0') + u16::from(third - b'0'))
 }
 
-// What stands behind the code.
+// What follows the code.
 fn read_mark(code: u16, rest: &[u8]) -> Option<ReplyLine<'_>>
     ensures { s.ReadsMark code rest.now result }
 {
@@ -62,18 +62,19 @@ fn read_mark(code: u16, rest: &[u8]) -> Option<ReplyLine<'_>>
     }
 }
 
-/// What stands first in the octets that a server sent.
+/// What comes first in the octets that a server sent.
 #[derive(Clone, Copy)]
 pub enum Heard {
     /// No whole reply yet.
     Need,
-    /// A reply with this code, of so many octets with the CRLF of each line.
+    /// A reply with this code, and its number of octets with the CRLF of each line.
     Reply { code: u16, count: usize },
     /// None, whatever follows.
     Bad,
 }
 
-/// What stands first in the octets that a server sent: a reply of one line or of several, all with the same code (RFC 5321, section 4.2.1).
+/// What comes first in the octets that a server sent: a reply of one line or of several, all with the same code (RFC 5321, section
+/// 4.2.1).
 ///
 /// A line has at most 2,048 octets with its CRLF. Time is linear in the octets of the reply; no memory is taken.
 pub fn first_reply(octets: &[u8]) -> Heard
@@ -104,7 +105,7 @@ pub fn first_reply(octets: &[u8]) -> Heard
     }
 }
 
-// The line of a reply that these octets are, where its code is that of the lines before it.
+// The line of a reply that these octets are, if its code is that of the lines before it.
 fn line_of(code: Option<u16>, octets: &[u8]) -> Option<ReplyLine<'_>>
     ensures { s.ReadsNext code octets.now result }
 {

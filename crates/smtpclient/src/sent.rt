@@ -1,14 +1,14 @@
-//! The text of a message, as it is sent behind DATA.
+//! The text of a message, as it is sent after DATA.
 ghost use Rattle.std.specs.Prelude.{◌≡◌, ◌≢◌, ◌++◌, [], ◌∷◌, ℕ, ◌<◌, ◌≤◌, ◌==◌, true, length, slice_index};
 ghost use Rattle.smtpclient.specs.Sent as s;
 ghost use Rattle.smtpclient.specs.declared.sent.Place.TheVariants.{Over as over};
 
 use memchr::memchr2;
 
-/// Where the next octet of a message stands.
+/// Where the next octet of a message is.
 #[derive(Clone, Copy, Debug, PartialEq, Eq)]
 pub enum Place {
-    /// At a line's front.
+    /// At the start of a line.
     Start,
     /// In a line.
     Inside,
@@ -16,11 +16,11 @@ pub enum Place {
     Over,
 }
 
-/// A message as it is sent behind DATA, in parts (RFC 5321, sections 2.3.8 and 4.5.2).
+/// A message as it is sent after DATA, in parts (RFC 5321, sections 2.3.8 and 4.5.2).
 ///
 /// Its lines end at LF, with a CR before it or without one, and each is sent with CRLF, the last one too. A CR in a line is sent as a
-/// space, or as `?` where it begins the line, so that no line becomes the continuation of a field. A dot stands before each line that
-/// begins with one, and a dot alone on a line behind the last one. It takes no memory: the parts are those of the message, or of a few
+/// space, or as `?` if it begins the line, so that no line becomes the continuation of a field. A dot is put before each line that
+/// begins with one, and a dot alone on a line after the last one. It takes no memory: the parts are those of the message, or of a few
 /// octets.
 #[derive(Drop)]
 pub struct Sent<'a> {
@@ -39,7 +39,7 @@ impl<'a> Sent<'a> {
         }
     }
 
-    /// The next part, which isn't empty; none where all is sent. For all parts together time is linear in the message's octets.
+    /// The next part, which isn't empty; none if all is sent. For all parts together time is linear in the message's octets.
     pub fn next(&mut self) -> Option<&'a [u8]>
         ensures { s.Hands result self.old self.new }
     {
@@ -50,7 +50,7 @@ impl<'a> Sent<'a> {
         }
     }
 
-    // At a line's front: the end, a dot before one that is there, a CR that begins the line, or as in a line.
+    // At the start of a line: the end, a dot before one that is there, a CR that begins the line, or as in a line.
     fn begin(&mut self) -> &'a [u8]
         requires { self.old.place ≡ s.start }
         ensures { s.Passes result self.old self.new }
@@ -64,7 +64,7 @@ impl<'a> Sent<'a> {
         }
     }
 
-    // In a line: what stands before the next CR or LF, or what these are sent as.
+    // In a line: what comes before the next CR or LF, or what these are sent as.
     fn go_on(&mut self) -> &'a [u8]
         requires { s.IsWithin self.old }
         ensures { s.Passes result self.old self.new }
@@ -77,7 +77,7 @@ impl<'a> Sent<'a> {
         self.put(run, rest, Place::Inside)
     }
 
-    // Where no other octet stands before the end of the line.
+    // The end of the line, when no other octet comes before it.
     fn end_line(&mut self) -> &'a [u8]
         requires within { s.IsWithin self.old }
         requires at { s.BeginsBreak self.old.left.now }
@@ -92,7 +92,7 @@ impl<'a> Sent<'a> {
         self.put(b"\r\n", rest, Place::Start)
     }
 
-    // Where a CR comes first, and then these: it is its LF's, or else a space.
+    // A CR came, and these follow: it belongs to its LF, or otherwise is a space.
     fn end_at_return(&mut self, rest: &'a [u8]) -> &'a [u8]
         requires within { s.IsWithin self.old }
         requires first { self.old.left.now ≡ 13 ∷ rest.now }
@@ -104,7 +104,7 @@ impl<'a> Sent<'a> {
         }
     }
 
-    // Hands out a part, behind which this is left.
+    // Hands out a part, after which this is left.
     fn put(&mut self, part: &'a [u8], left: &'a [u8], place: Place) -> &'a [u8]
         ensures part { result.now ≡ part.now }
         ensures left { self.new.left.now ≡ left.now }
@@ -116,7 +116,7 @@ impl<'a> Sent<'a> {
     }
 }
 
-// How many octets stand before the first CR or LF.
+// How many octets come before the first CR or LF.
 fn plain_length(octets: &[u8]) -> usize
     ensures within { result ≤ length octets.now }
     ensures plain { (j : ℕ) → j < result → s.is_break (slice_index octets.now j) ≡ true → ⊥ }

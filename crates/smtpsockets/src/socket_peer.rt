@@ -8,7 +8,7 @@ use std::net::{Net, TcpStream};
 use std::os::unix::net::UnixStream;
 use std::time::Duration;
 
-/// How long a connection is waited for, in seconds.
+/// For how many seconds a connection is waited for.
 const CONNECTING: u64 = 120;
 
 /// How often a read or a write that a signal interrupts is made again.
@@ -31,7 +31,7 @@ pub struct SocketPeer<'a, N: Net<Stream = TcpStream>> {
 }
 
 impl<'a, N: Net<Stream = TcpStream>> SocketPeer<'a, N> {
-    /// It isn't connected yet.
+    /// Not yet connected.
     pub fn new(net: &'a N, target: Target<'a>) -> SocketPeer<'a, N> {
         SocketPeer {
             net,
@@ -139,7 +139,7 @@ impl<'a, N: Net<Stream = TcpStream>> Peer for SocketPeer<'a, N> {
     }
 }
 
-// Writes all octets. Answers whether it could.
+// Writes all octets. Returns whether it could.
 fn write_all<W: Write>(stream: &mut W, octets: &[u8]) -> bool {
     stream.write_all(octets).is_ok() && stream.flush().is_ok()
 }
@@ -164,7 +164,7 @@ fn is_late(kind: ErrorKind) -> bool {
     matches!(kind, ErrorKind::WouldBlock | ErrorKind::TimedOut)
 }
 
-// Reads as many octets as there are before the stream's wait is over; none where there are none.
+// Reads as many octets as there are before the stream's wait is over; none if there are none.
 fn read_at_once<R: Read>(stream: &mut R, piece: &mut [u8]) -> Result<Option<usize>, Lost>
     ensures { IfOk result (λ found. IfSome found (λ count. count ≤ length piece.new)) }
 {

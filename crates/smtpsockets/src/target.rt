@@ -10,7 +10,7 @@ pub enum Target<'a> {
 
 impl<'a> Target<'a> {
     /// What a word of the command line names: `ADDRESS:PORT`, as `127.0.0.1:25` or `[::1]:25`, or a path, which has a `/`. No name is
-    /// resolved. None where it is neither.
+    /// resolved. None if it is neither.
     pub fn read(word: &'a str) -> Option<Target<'a>> {
         if word.as_bytes().contains(&b'/') {
             return Some(Target::Path(word));

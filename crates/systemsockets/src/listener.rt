@@ -16,7 +16,7 @@ pub enum Listener {
 }
 
 impl Listener {
-    /// A connection that waits to be accepted. What is sent on it is sent at once.
+    /// Accepts a connection that waits. What is sent on it is sent at once.
     pub fn accept(&self) -> io::Result<Stream> {
         match self {
             Listener::Tcp(listener) => {

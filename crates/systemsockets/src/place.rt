@@ -1,4 +1,4 @@
-//! Where listeners are had, besides a port: in the file system, or from the process that started this one.
+//! Where listeners come from, besides a port: the file system, or the process that started this one.
 use crate::listener::Listener;
 use mio::net::{TcpListener, UnixListener, UnixStream};
 use std::fs::{Files, Metadata, Permissions};
@@ -12,11 +12,11 @@ use std::{fs, io};
 /// The owner of the file may connect, and its group.
 const MODE: u32 = 0o660;
 
-/// What listens at a path of the file system. A socket that a process left there when it ended is removed before.
+/// What listens at a path of the file system. A socket that a process left there when it ended is removed first.
 ///
 /// # Errors
 ///
-/// `AlreadyExists` where something else than a socket is there, `AddrInUse` where somebody listens at it, and what the system says.
+/// `AlreadyExists` if something other than a socket is there, `AddrInUse` if somebody listens at it, and what the system says.
 pub fn bind_path<R: Files + Net>(system: &R, path: &str) -> io::Result<Listener> {
     if let Some(metadata) = find(system, path)? {
         clear(system, path, &metadata)?;
@@ -46,7 +46,7 @@ fn clear<R: Files + Net>(system: &R, path: &str, metadata: &Metadata) -> io::Res
     }
 }
 
-/// By what it came to that somebody was to answer. One whose queue is full answers later.
+/// Judges by what an attempt to connect came to. A socket whose queue is full is in use: it answers later.
 fn clear_after<R: Files>(system: &R, path: &str, error: io::Error) -> io::Result<()> {
     match error.kind() {
         ErrorKind::ConnectionRefused => fs::remove_file(system, path),
@@ -55,12 +55,12 @@ fn clear_after<R: Files>(system: &R, path: &str, error: io::Error) -> io::Result
     }
 }
 
-/// The listener that another process opened and left to this one, in the file system or by TCP, as systemd does on descriptor 0. It
-/// doesn't block from now on, for neither of the two.
+/// The listener that another process opened and left to this one, in the file system or by TCP, as systemd does on descriptor 0. From
+/// now on it doesn't block, for either of the two.
 ///
 /// # Errors
 ///
-/// Where it is no such socket, and what the system says. Whether it listens isn't seen before the first connection.
+/// If it is no such socket, and what the system says. Whether it listens isn't seen before the first connection.
 pub fn inherit(descriptor: &impl AsFd) -> io::Result<Listener> {
     let listener = net::UnixListener::from(descriptor.as_fd().try_clone_to_owned()?);
     if listener.local_addr().is_err() {

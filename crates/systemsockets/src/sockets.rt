@@ -16,19 +16,19 @@ use wires::outcome::{Accepted, Fault, Input, Output, Wake};
 /// The tokens of connections come after those of listeners.
 const FIRST_CONNECTION: usize = 64;
 
-/// At most so many events are taken from the system at once.
+/// At most this many events are taken from the system at once.
 const MAX_EVENTS: usize = 64;
 
-/// So many milliseconds a listener rests after a connection that couldn't be accepted (no descriptor was left, say).
+/// For how many milliseconds a listener rests after a connection that couldn't be accepted (no descriptor was left, say).
 const REST: u64 = 100;
 
-/// So many it rests where there is no place for who knocks: then it is asked again whether one makes room.
+/// For how many it rests if there is no place for who knocks: then it is asked again whether one makes room.
 const CROWDED_REST: u64 = 10;
 
 /// No more octets are dropped at once.
 const MAX_DISCARD: usize = 4096;
 
-/// A listener, and the moment up to which it rests, in milliseconds, where it does.
+/// A listener, and the moment up to which it rests, in milliseconds, if it does.
 #[derive(Drop)]
 struct Door {
     listener: Listener,
@@ -41,11 +41,11 @@ struct Link {
     stream: Stream,
     /// A read got all that there was: there is no more until a wait tells of the connection.
     drained: bool,
-    /// Its peer sends no more, which a read tells behind the last octet.
+    /// Its peer sends no more, which a read tells after the last octet.
     over: bool,
 }
 
-/// Listeners, one for each kind of connection (its number is its place), and their connections by their numbers. No call but `wait`
+/// Listeners, one for each kind of connection (its number is its index), and their connections by their numbers. No call but `wait`
 /// blocks. What the system does can't be seen by a contract.
 #[derive(Drop)]
 pub struct SystemSockets<'n, N: Net + Clock> {
@@ -66,7 +66,7 @@ impl<'n, N: Net + Clock> SystemSockets<'n, N> {
     ///
     /// # Errors
     ///
-    /// Where memory or a descriptor is lacking, or the clock can't be read.
+    /// If memory or a descriptor is lacking, or the clock can't be read.
     pub fn new(
         system: &'n N,
         alloc: Global,
@@ -102,7 +102,7 @@ impl<'n, N: Net + Clock> SystemSockets<'n, N> {
         Ok(())
     }
 
-    /// The moment, in milliseconds since the start; the last one that could be read where the clock can't be read now.
+    /// The moment, in milliseconds since the start; the last one that could be read if the clock can't be read now.
     pub fn now(&mut self) -> u64 {
         if let Ok(now) = Instant::now(self.system) {
             let passed = now.duration_since(self.started).as_millis();
@@ -111,12 +111,12 @@ impl<'n, N: Net + Clock> SystemSockets<'n, N> {
         self.moment
     }
 
-    /// Waits until something may be done, or for so many milliseconds, and puts what the system then tells into `ready`, in its order. The
-    /// system is asked each time, so what it tells comes also where something is told again.
+    /// Waits until something may be done, or for this many milliseconds, and puts what the system then tells into `ready`, in its order. The
+    /// system is asked each time, so what it tells comes even if something is told again.
     ///
     /// # Errors
     ///
-    /// Where the system can't wait.
+    /// If the system can't wait.
     pub fn wait(&mut self, within: u32, ready: &mut VecDeque<Wake>) -> Result<(), Fault>
         requires { ready.old.items ≡ [] }
         ensures { OnErr result (ready.new ≡ ready.old) }
@@ -158,7 +158,7 @@ impl<'n, N: Net + Clock> SystemSockets<'n, N> {
         Ok(())
     }
 
-    /// Of those who knock it is told behind the connections: who has said something is heard before another one takes its place.
+    /// Those who knock are told of after the connections: who has said something is heard before another one takes its place.
     fn tell_knocks(&mut self) -> io::Result<()> {
         for event in &self.events {
             if let Some(Wake::Knock(kind)) = wake_of(event.token()) {
@@ -168,7 +168,7 @@ impl<'n, N: Net + Clock> SystemSockets<'n, N> {
         Ok(())
     }
 
-    /// For how many milliseconds the listener that rests shortest does; the greatest number where none rests.
+    /// For how many milliseconds the listener that rests shortest does; the greatest number if none rests.
     fn shortest_rest(&mut self) -> u64 {
         if self.doors.iter().all(|door| door.rests_until.is_none()) {
             return u64::MAX;
@@ -202,7 +202,7 @@ impl<'n, N: Net + Clock> SystemSockets<'n, N> {
         self.listen_again(kind as usize);
     }
 
-    /// Has a wait tell of those that stand at a listener.
+    /// Has a wait tell of those that wait at a listener.
     fn listen_again(&mut self, kind: usize) {
         let Some(door) = self.doors.get_mut(kind) else {
             return;
@@ -215,7 +215,7 @@ impl<'n, N: Net + Clock> SystemSockets<'n, N> {
             .reregister(&mut door.listener, token, Interest::READABLE);
     }
 
-    /// Accepts a connection of that kind that waits, under this number. After a failure its listener rests, and a wait tells of it again.
+    /// Accepts a waiting connection of that kind, under this number. After a failure its listener rests, and a wait tells of it again.
     pub fn accept(&mut self, kind: u32, id: u32) -> Accepted {
         let kind = kind as usize;
         let Some(door) = self.doors.get(kind) else {
@@ -245,18 +245,18 @@ impl<'n, N: Net + Clock> SystemSockets<'n, N> {
         Accepted::Came
     }
 
-    /// A listener rests after a connection that couldn't be accepted.
+    /// Lets a listener rest after a connection that couldn't be accepted.
     fn rest(&mut self, kind: usize) -> Accepted {
         self.rest_for(kind, REST);
         Accepted::Nobody
     }
 
-    /// A listener rests, since there is no place, and a wait tells of it again then.
+    /// Lets a listener rest, since there is no place; a wait tells of it again then.
     pub fn defer(&mut self, kind: u32) {
         self.rest_for(kind as usize, CROWDED_REST);
     }
 
-    /// A listener rests for so many milliseconds.
+    /// Lets a listener rest for this many milliseconds.
     fn rest_for(&mut self, kind: usize, span: u64) {
         let until = self.now().saturating_add(span);
         if let Some(door) = self.doors.get_mut(kind) {
@@ -264,7 +264,7 @@ impl<'n, N: Net + Clock> SystemSockets<'n, N> {
         }
     }
 
-    /// Reads of a connection what there is, at most as many octets as the buffer has. Behind a read that left room in its buffer the
+    /// Reads what there is of a connection, at most as many octets as the buffer has. After a read that left room in its buffer the
     /// system isn't asked again until a wait tells of the connection: what comes later is told of anew.
     pub fn read(&mut self, id: u32, buffer: &mut [u8]) -> Input
         requires { 0 < length buffer.old }
@@ -287,7 +287,7 @@ impl<'n, N: Net + Clock> SystemSockets<'n, N> {
         }
     }
 
-    /// Reads of a connection what there is, and drops it; at most 4,096 octets.
+    /// Reads what there is of a connection, and drops it; at most 4,096 octets.
     pub fn discard(&mut self, id: u32) -> Input
         ensures { DiscardFits result }
     {

@@ -30,7 +30,7 @@ impl Stream {
         }
     }
 
-    /// Gives octets to the system, to be sent, and answers how many it took.
+    /// Gives octets to the system, to be sent, and returns how many it took.
     pub fn write(&mut self, octets: &[u8]) -> io::Result<usize> {
         match self {
             Stream::Tcp(stream) => stream.write(octets),

@@ -3,7 +3,7 @@ use accountfiles::{AccountFile, Head, LetterKind, Part, ReadError, Writer, read}
 use octets::{Octets, write_decimal};
 use std::alloc::{AllocError, Global};
 
-/// What the text says, a part behind the other; none where it is that of no account.
+/// What the text says, one part after the other; none if it is that of no account.
 pub fn add_account(alloc: Global, out: &mut Octets, text: &[u8]) -> Result<(), AllocError> {
     match read(alloc, text) {
         Ok(file) => add_file(alloc, out, text, &file),
@@ -146,7 +146,7 @@ fn add_number(out: &mut Octets, number: u64) -> Result<(), AllocError> {
     write_decimal(out, number)
 }
 
-/// The flags, where there are some.
+/// The flags, if there are some.
 fn add_flags(out: &mut Octets, flags: &[u8]) -> Result<(), AllocError> {
     if flags.is_empty() {
         return Ok(());

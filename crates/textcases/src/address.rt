@@ -57,7 +57,7 @@ fn address_of(alloc: Global, local: &[u8], domain: &[u8]) -> Result<Addr, AllocE
     Ok(Addr { local, domain })
 }
 
-/// Appends an address as `LOCAL|DOMAIN`, with what stands before and after it.
+/// Appends an address as `LOCAL|DOMAIN`, with what comes before and after it.
 fn add<'a>(
     out: &mut Octets,
     front: &'a [u8],

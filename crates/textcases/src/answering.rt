@@ -75,7 +75,7 @@ impl Answering<'_> {
     }
 }
 
-/// Tries a response, whose line ends are CRLF, or a line of it a line.
+/// Tries a response, whose line ends are CRLF, or a line of it, line by line.
 fn try_reply(
     alloc: Global,
     tally: &mut Tally,

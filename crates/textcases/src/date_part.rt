@@ -6,7 +6,7 @@ use maildates::{DatePart, DateTime, read_date, read_zone, write_part};
 use octets::{Octets, parse_decimal};
 use std::alloc::AllocError;
 
-/// A part of a date, of a field's text or of `@` and a moment, in a zone, or in that of the text where the zone is empty.
+/// A part of a date, of a field's text or of `@` and a moment, in a zone, or in that of the text if the zone is empty.
 pub fn add_part(out: &mut Octets, text: &[u8], zone: &[u8], part: &[u8]) -> Result<(), AllocError> {
     match (DatePart::named(part), date_in(text, zone)) {
         (Some(part), Some(date)) => write_part(out, part, &date),

@@ -5,7 +5,7 @@ use octets::{Octets, parse_decimal, write_decimal};
 use std::alloc::{AllocError, Global};
 use vacreply::{AddressedMail, Decision, decide};
 
-/// Tries a decision a line: the moment kept or `-`, this moment, and the reason's number or `send`.
+/// Tries one decision per line: the moment kept or `-`, this moment, and the reason's number or `send`.
 pub fn try_decisions(
     alloc: Global,
     tally: &mut Tally,

@@ -4,7 +4,7 @@ use mailflags::Flags;
 use octets::Octets;
 use std::alloc::{AllocError, Global};
 
-/// What steps make of no flags: their names, `|`, and their letters. A step is `set`, `add` or `remove`, and behind a blank the texts
+/// What steps make of no flags: their names, `|`, and their letters. A step is `set`, `add` or `remove`, and after a blank the texts
 /// of one command, with `;` between two.
 pub fn add_flags(alloc: Global, out: &mut Octets, steps: &[Octets]) -> Result<(), AllocError> {
     let mut flags = Flags::new(alloc);

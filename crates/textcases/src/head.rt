@@ -5,7 +5,7 @@ use mailhead::{Field, Head};
 use octets::Octets;
 use std::alloc::{AllocError, Global};
 
-/// Tries each case of the file. `message` is a message as it stands, `mail` one whose line ends are CRLF.
+/// Tries each case of the file. `message` is a message as it is, `mail` one whose line ends are CRLF.
 pub fn try_all(alloc: Global, tally: &mut Tally, file: &str) -> Result<(), AllocError> {
     let mut heads = Heads {
         message: Message::empty(),

@@ -1,4 +1,4 @@
-//! What stands first in the octets of a ManageSieve client (RFC 5804).
+//! What comes first in the octets of a ManageSieve client (RFC 5804).
 use casefiles::Part::{Number, Text};
 use casefiles::add_parts;
 use msproto::{Command, Item, Reach, Scan, extent, first};

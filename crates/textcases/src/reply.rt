@@ -83,7 +83,7 @@ fn last(alloc: Global, given: &[Octets]) -> Result<Option<Reply>, AllocError> {
     }))
 }
 
-/// The text, or none where it is empty.
+/// The text, or none if it is empty.
 fn some(alloc: Global, text: &Octets) -> Result<Option<Octets>, AllocError> {
     if text.is_empty() {
         return Ok(None);

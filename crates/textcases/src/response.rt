@@ -2,7 +2,7 @@
 use casefiles::{Lines, Tally, decode};
 use std::alloc::{AllocError, Global};
 
-/// A response, and whether each line that is tried stands in it.
+/// A response, and whether each line that is tried is in it.
 #[derive(Drop)]
 pub struct Response<'a> {
     pub text: &'a [u8],

@@ -62,7 +62,7 @@ impl<'a> Trial<'a> {
         Ok(Envelope { from, to })
     }
 
-    /// When the message is delivered; the first second of 1970 where the file says no number, and UTC where it says no zone.
+    /// When the message is delivered; the first second of 1970 if the file says no number, and UTC if it says no zone.
     pub fn when(&self) -> When {
         let moment = self.moment.trim_ascii_end().parse::<u64>().unwrap_or(0);
         let zone = read_zone(self.zone.trim_ascii_end().as_bytes()).unwrap_or(0);

@@ -26,14 +26,14 @@ impl Answers for Dialogues {
     }
 }
 
-/// A server's side, and of a message of how many octets it has room.
+/// A server's side, and for how many octets of a message it has room.
 #[derive(Drop)]
 struct Server {
     receiver: Receiver,
     room: u64,
 }
 
-/// What is said to the pieces of a client where this goes on, and what goes on then.
+/// What is said to the pieces of a client in this state, and the state that follows.
 fn answer_in(
     alloc: Global,
     out: &mut Octets,
@@ -93,7 +93,7 @@ impl Server {
         }
     }
 
-    /// Octets come, and all that can be answered is.
+    /// Takes octets, and answers all that can be answered.
     fn hear(&mut self, octets: &[u8], out: &mut Octets) -> Result<(), AllocError> {
         self.receiver.give(octets)?;
         for _ in 0..MAX_ITEMS {
@@ -104,7 +104,7 @@ impl Server {
         Ok(())
     }
 
-    /// Answers what comes next; false where nothing can be answered.
+    /// Answers what comes next; false if nothing can be answered.
     fn go_on(&mut self, out: &mut Octets) -> Result<bool, AllocError> {
         match self.receiver.next() {
             Next::Need | Next::Over => return Ok(false),
@@ -165,7 +165,7 @@ fn outcome_for(word: &[u8]) -> Outcome<'static> {
     }
 }
 
-/// What stands before an address' first hyphen or at sign.
+/// What comes before an address' first hyphen or at sign.
 fn front(address: &[u8]) -> &[u8] {
     let end = address
         .iter()

@@ -61,7 +61,7 @@ const DAEMONS: [&str; 6] = [
     "mail-places.daemon",
 ];
 
-/// Those of the daemon where mail moves on.
+/// Those of the daemon when mail moves on.
 const MOVERS: [&str; 1] = ["mail-moves.daemon"];
 
 /// Those of a daemon whose connections may hold 4 KiB.
@@ -70,7 +70,7 @@ const SMALL: [&str; 1] = ["mail-memory.daemon"];
 /// Those of a daemon whose connections may hold 128 KiB.
 const SHARED: [&str; 1] = ["mail-share.daemon"];
 
-/// So many KiB the connections of the others may hold.
+/// How many KiB the connections of the others may hold.
 const MEMORY: u32 = 65_536;
 
 /// The dialogues of LMTP.
@@ -81,7 +81,7 @@ const DIALOGUES: &str = "lmtp.cases";
 enum Server {
     Echo,
     Daemon,
-    /// The daemon, where mail moves on.
+    /// The daemon, when mail moves on.
     Mover,
     /// The daemon, whose connections may hold 4 KiB.
     Small,
@@ -166,7 +166,7 @@ fn tell(rt: &HostRuntime, file: &str, tally: &Tally) -> io::Result<bool> {
     Ok(tally.failures().is_empty())
 }
 
-/// Plays the schedules of a text, between which a line `----` stands.
+/// Plays the schedules of a text, which a line `----` separates.
 fn try_text(
     alloc: Global,
     server: Server,
@@ -183,7 +183,7 @@ fn try_text(
     Ok(())
 }
 
-/// Plays a schedule that stands behind so many lines.
+/// Plays a schedule that comes after this many lines.
 fn try_part(
     alloc: Global,
     server: Server,
@@ -206,7 +206,7 @@ fn note_checks(tally: &mut Tally, before: usize, checks: &List<Check>) -> Result
     Ok(())
 }
 
-/// Plays a schedule, and gives all that was wanted and what came.
+/// Plays a schedule, and returns all that was wanted and what came.
 fn play(alloc: Global, server: Server, schedule: &Schedule) -> Result<List<Check>, AllocError> {
     match server {
         Server::Echo => play_echo(alloc, schedule),

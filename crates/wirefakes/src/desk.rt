@@ -13,7 +13,7 @@ use wires::outside::Outside;
 pub enum Note {
     /// It did nothing but answer.
     Answered,
-    /// It added so much to the total.
+    /// It added this much to the total.
     Added(u64),
     /// A second passed.
     Ticked,
@@ -21,7 +21,7 @@ pub enum Note {
 
 /// A total, beside sockets and a clock.
 pub trait Desk: Outside<Note = Note, Rest = u64> {
-    /// Adds to the total, which begins anew behind 2^64 - 1, and gives it.
+    /// Adds to the total, which begins anew after 2^64 - 1, and returns it.
     fn add(&mut self, id: u32, count: u64) -> u64
         ensures told { TellsIf Self.tells Self.seen self.old (Noted id (Added count)) self.new }
         ensures total { IsTrue (Self.tells self.new) → Self.rest self.new ≡ (Self.rest self.old + count) % 2 ^ 64 }

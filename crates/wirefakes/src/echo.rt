@@ -15,10 +15,10 @@ const MAX_LINE: usize = 100;
 /// An answer takes no more octets.
 const MAX_ANSWER: usize = 128;
 
-/// A line is to come within so many milliseconds.
+/// A line is to come within this many milliseconds.
 const MAX_SILENCE: u64 = 60000;
 
-/// The machine works each time so many milliseconds have passed.
+/// The machine works each time this many milliseconds have passed.
 const PERIOD: u64 = 1000;
 
 /// A client.
@@ -33,7 +33,7 @@ pub struct Guest {
     /// What it said and wasn't answered yet.
     pub unread: Pending,
     pub want: Want,
-    /// How long it waits, where it does.
+    /// How long it waits, if it does.
     pub span: Option<u64>,
     /// The moment by which it is late.
     pub deadline: u64,
@@ -66,7 +66,7 @@ impl Echo {
         }
     }
 
-    /// Takes the first line of a client, and gives what it asks for.
+    /// Takes the first line of a client, and returns what it asks for.
     fn take(&mut self, now: u64, id: u32, out: &mut Octets) -> Result<Asked, AllocError>
         ensures { self.new.due ≡ self.old.due }
     {
@@ -151,7 +151,7 @@ impl Guest {
     }
 }
 
-/// What one wants who said this, which wasn't answered yet.
+/// What a client wants next that said this, which wasn't answered yet.
 fn next_want(unread: &[u8]) -> Want {
     if unread.len() > MAX_LINE || unread.contains(&b'\n') {
         Want::Step
@@ -160,7 +160,7 @@ fn next_want(unread: &[u8]) -> Want {
     }
 }
 
-/// How long the first line is without its LF; none where it is too long.
+/// How long the first line is without its LF; none if it is too long.
 fn line_end(unread: &[u8]) -> Option<usize>
     ensures { IfSome result (λ end. end < length unread.now) }
 {

@@ -62,7 +62,7 @@ impl<N: Drop, R: Drop> Fake<N, R> {
         }
     }
 
-    /// A wait of at most so many milliseconds that tells these, in their order.
+    /// A wait of at most this many milliseconds that tells these, in their order.
     pub fn answer_wait(&mut self, within: u32, wakes: &[Wake], ready: &mut VecDeque<Wake>)
         requires { ready.old.items ≡ [] }
         ensures seen { IsTrue (not self.new.lost) → self.new.acts.items ≡ self.old.acts.items ++ Woke within ready.new.items ∷ [] }
@@ -77,7 +77,7 @@ impl<N: Drop, R: Drop> Fake<N, R> {
         }
     }
 
-    /// A read of a connection that comes to this, or finds nothing; the octets stand first in the buffer, those for which it
+    /// A read of a connection that comes to this, or finds nothing; the octets come first in the buffer, those for which it
     /// has no room are lost.
     pub fn answer_read(&mut self, id: u32, reading: Option<Reading>, buffer: &mut [u8]) -> Input
         requires { 0 < length buffer.old }
@@ -109,7 +109,7 @@ impl<N: Drop, R: Drop> Fake<N, R> {
         }
     }
 
-    /// The same, where the octets are dropped.
+    /// The same, but the octets are dropped.
     pub fn answer_discard(&mut self, id: u32, reading: Option<Reading>) -> Input
         ensures fits { DiscardFits result }
         ensures seen { IsTrue (not self.new.lost) → AfterDiscard self.old.acts.items id result self.new.acts.items }
@@ -141,7 +141,7 @@ impl<N: Drop, R: Drop> Fake<N, R> {
         }
     }
 
-    /// A write to a connection that takes so many octets, or finds no room.
+    /// A write to a connection that takes this many octets, or finds no room.
     pub fn answer_write(&mut self, id: u32, octets: &[u8], count: usize) -> Output
         requires { count ≤ length octets.now }
         ensures fits { WriteFits octets.now result }
@@ -162,7 +162,7 @@ impl<N: Drop, R: Drop> Fake<N, R> {
         Output::Taken(count)
     }
 
-    /// Reads what there is; the octets stand first in the buffer.
+    /// Reads what there is; the octets come first in the buffer.
     fn hear(&mut self, id: u32, piece: &[u8], buffer: &mut [u8]) -> Input
         requires some { 0 < length piece.now }
         requires room { 0 < length buffer.old }
@@ -183,7 +183,7 @@ impl<N: Drop, R: Drop> Fake<N, R> {
     }
 }
 
-/// Puts these at the end of what is ready, and gives a list of them.
+/// Puts these at the end of what is ready, and returns a list of them.
 fn tell_wakes(
     alloc: Global,
     wakes: &[Wake],

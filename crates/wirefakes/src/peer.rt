@@ -28,7 +28,7 @@ pub struct Peer {
     /// What it said and nobody read yet.
     pub pieces: VecDeque<Pending>,
     pub side: Side,
-    /// How many octets it takes yet; it takes all where they aren't counted.
+    /// How many more octets it takes; it takes all if they aren't counted.
     pub room: Option<usize>,
     /// Whether a wait is to tell of it.
     pub news: bool,
@@ -71,7 +71,7 @@ impl Peer {
         !self.pieces.is_empty() || self.side != Side::Open || self.room != Some(0)
     }
 
-    /// What a read of at most so many octets comes to; nothing where there is nothing yet.
+    /// What a read of at most this many octets comes to; nothing if there is nothing yet.
     pub fn read(&mut self, alloc: Global, most: usize) -> Result<Option<Reading>, AllocError> {
         if self.side == Side::Failed {
             return Ok(Some(Reading::Lost));

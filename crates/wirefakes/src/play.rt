@@ -7,7 +7,7 @@ use std::alloc::{AllocError, Global};
 use wires::machine::Machine;
 use wires::service::{Service, act};
 
-/// So many acts may follow until all is done that can be done.
+/// How many acts may follow until all is done that can be done.
 const MAX_ACTS: u32 = 10_000_000;
 
 /// What was wanted at a line of a schedule, and what came.
@@ -19,7 +19,7 @@ pub struct Check {
     pub got: Octets,
 }
 
-/// What makes something of the entries that are the machine's own.
+/// Handles the entries of a schedule that are the machine's own.
 pub trait Owner<O> {
     /// One such entry; `checks` gets what it wants and what came.
     fn own(

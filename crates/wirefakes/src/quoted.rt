@@ -9,19 +9,19 @@ enum Place {
     Before,
     /// Among its octets.
     Within,
-    /// Behind a `\`.
+    /// After a `\`.
     Escaped,
-    /// Behind `\x`.
+    /// After `\x`.
     High,
-    /// Behind `\x` and a digit of this value.
+    /// After `\x` and a digit of this value.
     Low(u8),
-    /// Behind its last quotation mark.
+    /// After its last quotation mark.
     Behind,
     /// Nowhere: it isn't such a text.
     Wrong,
 }
 
-/// The octets of a text between quotation marks, in which `\r`, `\n`, `\"`, `\\` and `\xHH` are one each; none where it isn't
+/// The octets of a text between quotation marks, in which `\r`, `\n`, `\"`, `\\` and `\xHH` are one each; none if it isn't
 /// such a text.
 pub fn unquoted(alloc: Global, text: &[u8]) -> Result<Option<Octets>, AllocError> {
     let mut out = Octets::new(alloc);

@@ -29,7 +29,7 @@ pub enum Deed {
     Fails,
     /// From now on it takes nothing.
     TakesNothing,
-    /// It takes so many octets more.
+    /// It takes this many more octets.
     Takes(usize),
     /// It takes whatever is sent to it.
     TakesAll,
@@ -94,7 +94,7 @@ fn add_line(
     }
 }
 
-/// What stands before the first blank, and what behind it.
+/// What comes before the first blank, and what after it.
 pub fn split_word(text: &[u8]) -> (&[u8], &[u8]) {
     match text.iter().position(|octet| *octet == b' ') {
         Some(at) => cut_at(text, at),
@@ -184,7 +184,7 @@ fn parse_state(what: &[u8]) -> Option<Deed> {
     }
 }
 
-/// A text, or a count and a text that stands for it so many times.
+/// A text, or a count and a text that stands for it that many times.
 pub fn parse_text(alloc: Global, what: &[u8]) -> Result<Option<Octets>, AllocError> {
     if what.starts_with(b"\"") {
         return unquoted(alloc, what);

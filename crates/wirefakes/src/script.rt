@@ -18,7 +18,7 @@ pub enum Reading {
 }
 
 /// What is to happen, each in its order. A read or a write of another connection than the first of its list finds nothing, or
-/// takes all; so does each where a list is used up.
+/// takes all; so does each once a list is used up.
 #[derive(Drop)]
 pub struct Script {
     /// What each wait tells.
@@ -83,7 +83,7 @@ impl Script {
         }
     }
 
-    /// How many of so many octets a write of that connection takes.
+    /// How many of `most` octets a write of that connection takes.
     pub fn next_room(&mut self, id: u32, most: usize) -> usize
         ensures { result ≤ most }
     {

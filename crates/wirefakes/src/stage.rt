@@ -31,7 +31,7 @@ pub struct Stage<N: Drop, R: Drop> {
     pub idle: u32,
 }
 
-/// An outside that has its sockets and its clock of a stage.
+/// An outside that has its sockets and its clock from a stage.
 pub trait Staged: Sockets + Clock {
     /// What the stage keeps of a machine's notes, and beside sockets and clock.
     type Told: Drop;
@@ -137,7 +137,7 @@ fn tell_news(
     Ok(wakes)
 }
 
-/// Of a listener it is told where somebody knocks there now.
+/// A listener is told of if somebody knocks there now.
 fn tell_knock(wakes: &mut Vec<Wake>, kind: u32, peers: &Vec<Peer>) -> Result<(), AllocError> {
     if anyone_knocks(peers, kind) {
         wakes.push(Wake::Knock(kind))?;
@@ -183,7 +183,7 @@ fn read_of(
     Ok(None)
 }
 
-/// How many of these octets are taken; none counts as a failure where the connection failed.
+/// How many of these octets are taken; 0 counts as a failure if the connection failed.
 fn take_of(peers: &mut Vec<Peer>, id: u32, octets: &[u8]) -> Result<usize, AllocError>
     ensures { (count : _) → result ≡ Ok count → count ≤ length octets.now }
 {

@@ -1,4 +1,4 @@
--- What is true of a life: of all acts, and of each front of them.
+-- What is true of a life: of all acts, and of each prefix of them.
 use Rattle.std.specs.Prelude.{◌≡◌, ◌⊎◌, ℕ, ◌+◌, Bool, true, false, cond, List, [], ◌∷◌, ◌++◌, length, ◌≤◌, Option, Some, None, IsTrue}
 use Rattle.std.specs.List.{list_any}
 use Rattle.wires.specs.declared.act.Act.{Act}
@@ -31,11 +31,11 @@ pub record Lives {M N R : Type 0} (rules : Rules M N R) (m n : Moment M N R) : T
   pub grows : n.seen ≡ m.seen ++ acts_of moves
   pub passes : Passes rules m moves n
 
--- the same, where it is told
+-- the same, if it is told
 abbrev pub LivesIf : {O M N R : Type 0} → (O → Bool) → (O → List (Act N)) → (O → R) → Rules M N R → O → M → Service → O → M → Service → Type 0
 LivesIf tells seen rest rules o m s p n t = IsTrue (tells p) → Lives rules (at seen rest o m s) (at seen rest p n t)
 
--- so many acts were added, where it is told
+-- this many acts were added, if it is told
 abbrev pub AddsIf : {O N : Type 0} → (O → Bool) → (O → List (Act N)) → O → ℕ → O → Type 0
 AddsIf tells seen o count p = IsTrue (tells p) → length (seen p) ≡ length (seen o) + count
 
@@ -78,7 +78,7 @@ IsFrontOf {X = X} xs ys = (rest : List X) × (xs ++ rest ≡ ys)
 
 -- ---- the laws
 
--- at each front of the acts, what was sent on a connection is a front of what the machine said to it: nothing else, nothing twice
+-- at each prefix of the acts, what was sent on a connection is a prefix of what the machine said to it: nothing else, nothing twice
 abbrev pub OneConnection : {M N R : Type 0} → Rules M N R → Type 0
 OneConnection {M = M} {N = N} {R = R} rules =
     (m n : Moment M N R) (some rest : List (Move N)) → Fresh m.service → Passes rules m (some ++ rest) n
@@ -136,7 +136,7 @@ EndsRight {M = M} {N = N} {R = R} rules =
 
 -- ---- how many are open
 
--- the kind of a connection where it is open: it came, and hasn't ended since
+-- the kind of a connection if it is open: it came, and hasn't ended since
 abbrev pub kind_by : {N : Type 0} → ℕ → Option ℕ → Act N → Option ℕ
 kind_by id o (Came n kind) = cond (same n id) (Some kind) o
 kind_by id o (Ended n) = cond (same n id) None o
@@ -151,11 +151,11 @@ abbrev pub Distinct : (ℕ → Type 0) → List ℕ → Type 0
 Distinct Is [] = Unit {0}
 Distinct Is (id ∷ ids) = Is id × (list_any (λ other. same other id) ids ≡ false) × Distinct Is ids
 
--- connections of a kind that are open behind some moves
+-- connections of a kind that are open after some moves
 abbrev pub AreOpen : {N : Type 0} → ℕ → List (Move N) → List ℕ → Type 0
 AreOpen kind moves ids = Distinct (λ id. kind_on id None moves ≡ Some kind) ids
 
--- at each front of the acts no more connections of a kind are open than the machine's limit says
+-- at each prefix of the acts no more connections of a kind are open than the machine's limit says
 abbrev pub Bounded : {M N R : Type 0} → Rules M N R → Type 0
 Bounded {M = M} {N = N} {R = R} rules =
     (m n : Moment M N R) (some rest : List (Move N)) → Fresh m.service → Passes rules m (some ++ rest) n

@@ -25,7 +25,7 @@ Queues ready (Woke within wakes) later = later ≡ wakes
 Queues ready (Began wake) later = ready ≡ wake ∷ later
 Queues ready _ later = later ≡ ready
 
--- who waits for something else than its socket stands in a list, once, in the order in which they came, until it is roused or ends
+-- who waits for something other than its socket is in a list, once, in the order in which they came, until it is roused or ends
 abbrev pub Waiters : {N : Type 0} → List ℕ → Act N → List ℕ → Type 0
 Waiters waiting (Waits id) later = later ≡ (if list_any (λ n. n == id) waiting then waiting else waiting ++ id ∷ [])
 Waiters waiting (Roused id) later = later ≡ filter (λ n. not (n == id)) waiting
@@ -37,18 +37,18 @@ abbrev pub Ticks : {N : Type 0} → ℕ → Act N → ℕ → Type 0
 Ticks now (Timed moment) later = later ≡ (if nat_lt now moment then moment else now)
 Ticks now _ later = later ≡ now
 
--- a number is given once, to one that comes, or passed over where a connection has it; no other act changes which is next
+-- a number is given once, to one that comes, or passed over if a connection has it; no other act changes which is next
 abbrev pub Numbers : {N : Type 0} → ℕ → Act N → ℕ → Type 0
 Numbers next (Came id kind) later = later ≡ after_number id
 Numbers next (InUse id) later = later ≡ after_number id
 Numbers next _ later = later ≡ next
 
--- the number that is next where a wait ends is kept until the next one ends
+-- the number that is next when a wait ends is kept until the next one ends
 abbrev pub Marks : {N : Type 0} → Service → Act N → ℕ → Type 0
 Marks s (Woke within wakes) later = later ≡ s.next
 Marks s _ later = later ≡ s.since
 
--- what is neither sockets nor clock is changed by the machine alone, where it notes something
+-- what is neither sockets nor clock is changed by the machine alone, when it notes something
 abbrev pub Leaves : {N R : Type 0} → R → Act N → R → Type 0
 Leaves r (Noted id note) q = Unit {0}
 Leaves r (Worked note) q = Unit {0}
@@ -69,7 +69,7 @@ pub record Moves {M N R : Type 0} (rules : Rules M N R) (m n : Moment M N R) : T
   pub talks : (id : ℕ) → Talks m.service.moment id (client_of m.service id) act said (client_of n.service id)
   pub turns : Turns rules m.machine m.rest m.service act said n.machine n.rest n.service
 
--- the same, or where a wait failed nothing
+-- the same, or nothing if a wait failed
 abbrev pub MovesOr : {M N R T F : Type 0} → Rules M N R → Moment M N R → Moment M N R → Result T F → Type 0
 MovesOr rules m n (Ok done) = Moves rules m n
 MovesOr rules m n (Err fault) = n ≡ m
@@ -78,7 +78,7 @@ MovesOr rules m n (Err fault) = n ≡ m
 abbrev pub at : {O M N R : Type 0} → (O → List (Act N)) → (O → R) → O → M → Service → Moment M N R
 at seen rest o m s = moment (seen o) (rest o) m s
 
--- one call, where it is told: a move, or where a wait failed nothing
+-- one call, if it is told: a move, or nothing if a wait failed
 abbrev pub MovesIf : {O M N R : Type 0} → (O → Bool) → (O → List (Act N)) → (O → R) → Rules M N R → O → M → Service → O → M → Service → Type 0
 MovesIf tells seen rest rules o m s p n t = IsTrue (tells p) → Moves rules (at seen rest o m s) (at seen rest p n t)
 

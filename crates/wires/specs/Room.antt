@@ -1,4 +1,4 @@
--- Which connection makes room for another of its kind, where all places are taken.
+-- Which connection makes room for another of its kind when all places are taken.
 use Rattle.std.specs.Prelude.{◌≡◌, ℕ, ◌-◌, ◌==◌, ◌&&◌, nat_le, nat_lt, Bool, true, false, if◌then◌else◌, List, [], ◌∷◌, Option, Some, None, option_map}
 use Rattle.std.specs.List.{Contains}
 use Rattle.wires.specs.declared.machine.Claim.{Claim}
@@ -28,7 +28,7 @@ number_of best = option_map (λ (it : ℕ × Claim). it.0) best
 
 -- ---- who may go
 
--- of what waits to be sent it took nothing for so many milliseconds, where something waits
+-- something waits to be sent to it, of which it took nothing for this many milliseconds
 abbrev pub min_deaf : ℕ
 min_deaf = 1000
 
@@ -36,7 +36,7 @@ abbrev pub has_had_by : ℕ → ℕ → List ℕ → Bool
 has_had_by now until [] = true
 has_had_by now until (x ∷ more) = nat_le until (after_span now (max_unsent - min_deaf))
 
--- it is open, of that kind, and has had what was said to it, or doesn't take it
+-- it is open, of that kind, and has received what was said to it, or doesn't take it
 abbrev pub may_go : ℕ → ℕ → Client → Bool
 may_go now kind c = is_open_by c.phase && ((c.kind == kind) && has_had_by now c.until (waits c))
 

@@ -6,10 +6,10 @@ use Rattle.wires.specs.declared.machine.Claim.{Claim}
 use Rattle.wires.specs.declared.machine.Want.{Want}
 
 -- of a machine M that notes N and acts on R, all of the outside that is neither sockets nor clock: how many connections of a
--- kind may be open; of a connection by its number whether it may make room at a moment, where that many are, what it wants,
--- and the moment by which it is late; whether it has work of its own at a moment, and for how long it may rest. Then, for each happening (at a moment, where
--- one stands first), what it says to that connection and the machine after it; a step and work of its own may change R. A rule
--- may allow more than one. `lates`: it was late or made room, and ends. `lacks`: memory was lacking for it
+-- kind may be open; of a connection by its number whether it may make room at a moment, when that many are, what it wants,
+-- and the moment by which it is late; whether it has work of its own at a moment, and for how long it may rest. Then, for each
+-- happening (at a moment, if one comes first), what it says to that connection and the machine after it; a step and work of its own
+-- may change R. A rule may allow more than one. `lates`: it was late or made room, and ends. `lacks`: memory was lacking for it
 pub record Rules (M N R : Type 0) : Type 1 where
   pub limit : ℕ → ℕ
   pub claim : M → ℕ → ℕ → Option Claim
@@ -25,7 +25,7 @@ pub record Rules (M N R : Type 0) : Type 1 where
   pub lacks : M → ℕ → M → Type 0
   pub closes : M → ℕ → ℕ → M → Type 0
 
--- a machine went on with a connection, and noted it in one act
+-- a machine continued with a connection, and noted it in one act
 pub record Steps {M N R : Type 0} (rules : Rules M N R) (seen : List (Act N)) (m : M) (r : R) (now id : ℕ) (said : List ℕ)
     (later : List (Act N)) (n : M) (q : R) : Type 0 where
   pub note : N
@@ -38,13 +38,13 @@ pub record Works {M N R : Type 0} (rules : Rules M N R) (seen : List (Act N)) (m
   pub grows : later ≡ seen ++ Worked note ∷ []
   pub works : rules.works m r now note n q
 
--- the same, where it is told
+-- the same, if it is told
 abbrev pub StepsIf : {O M N R : Type 0} → (O → Bool) → (O → List (Act N)) → (O → R) → Rules M N R → O → M → ℕ → ℕ → List ℕ → O → M → Type 0
 StepsIf tells seen rest rules o m now id said p n = IsTrue (tells p) → Steps rules (seen o) m (rest o) now id said (seen p) n (rest p)
 
 abbrev pub WorksIf : {O M N R : Type 0} → (O → Bool) → (O → List (Act N)) → (O → R) → Rules M N R → O → M → ℕ → O → M → Type 0
 WorksIf tells seen rest rules o m now p n = IsTrue (tells p) → Works rules (seen o) m (rest o) now (seen p) n (rest p)
 
--- nothing was done outside, where it is told
+-- nothing was done outside, if it is told
 abbrev pub IdlesIf : {O N R : Type 0} → (O → Bool) → (O → List (Act N)) → (O → R) → O → O → Type 0
 IdlesIf tells seen rest o p = IsTrue (tells p) → (seen p ≡ seen o) × (rest p ≡ rest o)

@@ -58,18 +58,18 @@ abbrev pub is_closing : Option Client → Bool
 is_closing (Some c) = is_closing_by c.phase
 is_closing None = false
 
--- so many octets are dropped behind the last answer, or a few more
+-- this many octets are dropped after the last answer, or a few more
 abbrev pub max_dropped : ℕ
 max_dropped = 1048576
 
--- so many milliseconds may pass until the peer takes some more of what is to be sent, and behind the last that is said to it
+-- this many milliseconds may pass until the peer takes some more of what is to be sent, and after the last that is said to it
 abbrev pub max_unsent : ℕ
 max_unsent = 60000
 
 abbrev pub max_parting : ℕ
 max_parting = 2000
 
--- one that makes room for another has no time behind that
+-- one that makes room for another has no time after that
 abbrev pub parting_span : Phase → ℕ
 parting_span phase.Yielding = 0
 parting_span phase.Open = max_parting
@@ -83,7 +83,7 @@ shut_from phase.Open = phase.Shut max_dropped
 shut_from phase.Closing = phase.Shut max_dropped
 shut_from (phase.Shut left) = phase.Shut max_dropped
 
--- the moment so many milliseconds later
+-- the moment this many milliseconds later
 abbrev pub after_span : ℕ → ℕ → ℕ
 after_span now span = (now + span) % 2 ^ 64
 
@@ -96,31 +96,31 @@ task_wanted now (want.Until moment) = if nat_lt now moment then Rest else Step
 task_wanted now want.Done = HangUp
 
 -- what is to be done on a connection to which all is sent: one that is open gets what the machine wants; one that was late or makes room
--- is hung up; of one that is shut so many octets more are dropped
+-- is hung up; of one that is shut this many octets more are dropped
 abbrev pub task_sent : Phase → ℕ → Want → Task
 task_sent phase.Open now wanted = task_wanted now wanted
 task_sent phase.Closing now wanted = HangUp
 task_sent phase.Yielding now wanted = HangUp
 task_sent (phase.Shut left) now wanted = if left == 0 then End else Drain
 
--- after so many acts in a row of one connection another has its turn
+-- after this many acts in a row of one connection another has its turn
 abbrev pub fair : ℕ
 fair = 16
 
--- so many octets of answers and more are sent before another step is made
+-- this many octets of answers and more are sent before another step is made
 abbrev pub max_gathered : ℕ
 max_gathered = 16384
 
--- what waits lies in one piece
+-- what waits is in one piece
 abbrev pub is_nothing : List ℕ → Bool
 is_nothing [] = true
 is_nothing (x ∷ more) = false
 
--- a step may be made before what waits is sent: while that is less, lies in one piece, and one more act is left of the turn
+-- a step may be made before what waits is sent: while that is less, is in one piece, and one more act is left of the turn
 abbrev pub gathers : Client → ℕ → Bool
 gathers c count = is_nothing c.behind && (nat_lt (length c.unsent) max_gathered && nat_lt (count + 1) fair)
 
--- where something waits it is sent; but a step that is wanted is made before where that may be
+-- if something waits it is sent; but a step that is wanted is made before if that may be
 abbrev pub task_unsent : Bool → Task → Task
 task_unsent true Step = Step
 task_unsent true _ = Send
@@ -130,17 +130,17 @@ abbrev pub task_by : List ℕ → Bool → Phase → ℕ → Want → Task
 task_by [] gathers at now wanted = task_sent at now wanted
 task_by (x ∷ more) gathers at now wanted = task_unsent gathers (task_sent at now wanted)
 
--- nothing waits behind: more may be said to it
+-- nothing waits after it: more may be said to it
 abbrev pub takes_more : Option Client → Bool
 takes_more (Some c) = is_nothing c.behind
 takes_more None = true
 
--- what is to be done on a connection after so many acts of its turn
+-- what is to be done on a connection after this many acts of its turn
 abbrev pub task : {M N R : Type 0} → Rules M N R → M → ℕ → ℕ → ℕ → Option Client → Task
 task rules m now count id (Some c) = task_by (waits c) (gathers c count) c.phase now (rules.wants m id)
 task rules m now count id None = Nothing
 
--- the moment by which a connection is late: the machine's where it is open and all is sent, else by what is to be sent or dropped
+-- the moment by which a connection is late: the machine's if it is open and all is sent, else by what is to be sent or dropped
 abbrev pub due_by : List ℕ → Phase → ℕ → ℕ → ℕ
 due_by [] phase.Open until deadline = deadline
 due_by [] phase.Closing until deadline = until
@@ -151,11 +151,11 @@ due_by (x ∷ more) at until deadline = until
 abbrev pub is_late : ℕ → ℕ → Client → Bool
 is_late now deadline c = not (nat_lt now (due_by (waits c) c.phase c.until deadline))
 
--- to one that comes what the machine says then is to be sent
+-- to one that comes, what the machine says then is to be sent
 abbrev pub newcomer : ℕ → ℕ → ℕ → List ℕ → Client
 newcomer now id kind said = record { id = id; kind = kind; unsent = said; behind = []; phase = phase.Open; until = after_span now max_unsent }
 
--- one came, and is there, or not where memory was lacking
+-- one came, and is there, or isn't because memory was lacking
 pub record Comes (now id kind : ℕ) (said : List ℕ) (o p : Option Client) : Type 0 where
   pub new : o ≡ None
   pub here : (p ≡ Some (newcomer now id kind said)) ⊎ (p ≡ None)
@@ -166,12 +166,12 @@ pub record Stays (before after : Client) : Type 0 where
   pub kind : after.kind ≡ before.kind
   pub phase : after.phase ≡ before.phase
 
--- the moment by which some of what waits is to be taken: what is said behind something that waits leaves it
+-- the moment by which some of what waits is to be taken: what is said after something that waits leaves it
 abbrev pub due_after : ℕ → List ℕ → ℕ → ℕ
 due_after now [] until = after_span now max_unsent
 due_after now (x ∷ more) until = until
 
--- what is said waits, behind what waited
+-- what is said waits, after what waited
 pub record Gathers (now : ℕ) (said : List ℕ) (before after : Client) : Type 0 where
   pub joins : waits after ≡ waits before ++ said
   pub until : after.until ≡ due_after now (waits before) before.until
@@ -185,25 +185,25 @@ pub record Answers (now : ℕ) (said : List ℕ) (o p : Option Client) : Type 0 
   pub is : p ≡ Some after
   pub gathers : Gathers now said before after
 
--- what is sent next of two pieces: the first, where there is one
+-- what is sent next of two pieces: the first, if there is one
 abbrev pub next_piece : List ℕ → List ℕ → List ℕ
 next_piece [] behind = behind
 next_piece (x ∷ more) behind = x ∷ more
 
--- the moment by which some more of what waits is to be taken: behind what is said last it stays
+-- the moment by which some more of what waits is to be taken: after what is said last it stays
 abbrev pub due_taken : ℕ → Phase → ℕ → ℕ
 due_taken now phase.Open until = after_span now max_unsent
 due_taken now phase.Closing until = until
 due_taken now phase.Yielding until = until
 due_taken now (phase.Shut left) until = until
 
--- a front of what waits is taken off
+-- a prefix of what waits is taken off
 pub record Taken (now : ℕ) (octets : List ℕ) (before after : Client) : Type 0 where
   pub front : waits before ≡ octets ++ waits after
   pub until : after.until ≡ due_taken now before.phase before.until
   pub stays : Stays before after
 
--- what is sent is a front of what waits, and not nothing
+-- what is sent is a prefix of what waits, and not empty
 pub record Sends (now : ℕ) (octets : List ℕ) (o p : Option Client) : Type 0 where
   pub before : Client
   pub was : o ≡ Some before
@@ -246,7 +246,7 @@ pub record Drops (count : ℕ) (o p : Option Client) : Type 0 where
   pub was : o ≡ Some before
   pub after : p ≡ Some (record before { phase = drained count before.phase })
 
--- what changes a connection stands at its own acts alone
+-- what changes a connection is at its own acts alone
 abbrev pub At : Bool → Type 0 → Type 0 → Type 0
 At true changes stays = changes
 At false changes stays = stays

@@ -18,11 +18,11 @@ largest_piece = 4096
 abbrev pub Tells : {N : Type 0} → List (Act N) → Act N → List (Act N) → Type 0
 Tells seen act later = later ≡ seen ++ act ∷ []
 
--- the same, where it is told
+-- the same, if it is told
 abbrev pub TellsIf : {O N : Type 0} → (O → Bool) → (O → List (Act N)) → O → Act N → O → Type 0
 TellsIf tells seen old act new = IsTrue (tells new) → Tells (seen old) act (seen new)
 
--- all that is neither sockets nor clock is as it was, where it is told
+-- all that is neither sockets nor clock is as it was, if it is told
 abbrev pub LeavesIf : {O R : Type 0} → (O → Bool) → (O → R) → O → O → Type 0
 LeavesIf tells rest old new = IsTrue (tells new) → rest new ≡ rest old
 
@@ -30,7 +30,7 @@ abbrev pub AfterAccept : {N : Type 0} → List (Act N) → ℕ → ℕ → Accep
 AfterAccept seen kind id accepted.Came later = Tells seen (Came id kind) later
 AfterAccept seen kind id accepted.Nobody later = Tells seen (NoneCame kind) later
 
--- the octets that were read stand first in the buffer
+-- the octets that were read come first in the buffer
 abbrev pub AfterRead : {N : Type 0} → List (Act N) → ℕ → List ℕ → Input → List (Act N) → Type 0
 AfterRead seen id buffer (input.Got count) later = Tells seen (Heard id (take count buffer)) later
 AfterRead seen id buffer input.Nothing later = Tells seen (ReadBlocked id) later
@@ -59,7 +59,7 @@ IsOwn (InUse id) = Unit {0}
 IsOwn (Full id) = Unit {0}
 IsOwn _ = ⊥
 
--- a count is within a buffer, and not none
+-- a count is within a buffer, and not zero
 abbrev pub ReadFits : List ℕ → Input → Type 0
 ReadFits buffer (input.Got count) = (0 < count) × (count ≤ length buffer)
 ReadFits buffer input.Nothing = Unit {0}

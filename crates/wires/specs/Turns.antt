@@ -35,12 +35,12 @@ pub record Tasks {M N R : Type 0} (rules : Rules M N R) (m : M) (s : Service) (i
   pub few : count < fair
   pub task : task rules m s.moment count id (client_of s id) ≡ wanted
 
--- whose turn begins by what a wait told: the door's, or that of a connection which is there
+-- whose turn begins by what a wait told: the listener's, or that of a connection which is there
 abbrev pub turn_by : ℕ → Option Client → Turn
 turn_by id (Some c) = Busy id 0
 turn_by id None = Free
 
--- how many numbers are given from one number to another; behind the last of all comes 0
+-- how many numbers are given from one number to another; after the last of all comes 0
 abbrev pub numbers_between : ℕ → ℕ → ℕ
 numbers_between first id = (id + (2 ^ 32 - first)) % 2 ^ 32
 
@@ -52,7 +52,7 @@ came_among kind since next clients = list_any (λ (c : Client). (c.kind == kind)
 abbrev pub came_since : ℕ → Service → Bool
 came_since kind s = came_among kind s.since s.next (tree.values s.clients)
 
--- a knock counts only where none of its kind has come since it was told: who knocked may be the one that came
+-- a knock counts only if none of its kind has come since it was told: who knocked may be the one that came
 abbrev pub turn_of : Wake → Service → Turn
 turn_of (Knock kind) s = Door kind (not (came_since kind s))
 turn_of (Ready id) s = turn_by id (client_of s id)
@@ -81,18 +81,18 @@ pub record Quiet {M N R : Type 0} (rules : Rules M N R) (m : M) (s : Service) : 
   pub none : s.ready.items ≡ []
   pub nobody : first_roused rules m s ≡ None
 
--- a wait follows where the machine has no work, or has just done some
+-- a wait follows if the machine has no work, or has just done some
 abbrev pub MayWait : {M N R : Type 0} → Rules M N R → M → Service → Type 0
 MayWait rules m s = (s.turn ≡ Rested) ⊎ (Calm rules m s × (rules.has_work m s.moment ≡ false))
 
--- at the door: one may come, under a number that is free
+-- at the listener: one may come, under a number that is free
 pub record Admits {M N R : Type 0} (rules : Rules M N R) (s : Service) (kind : ℕ) : Type 0 where
   pub knocked : Bool
   pub door : s.turn ≡ Door kind knocked
   pub place : HasPlace rules kind s
   pub free : client_of s s.next ≡ None
 
--- at the door: no more may come
+-- at the listener: no more may come
 pub record NoPlace {M N R : Type 0} (rules : Rules M N R) (s : Service) (kind : ℕ) (knocked : Bool) : Type 0 where
   pub door : s.turn ≡ Door kind knocked
   pub full : ¬ HasPlace rules kind s
@@ -101,7 +101,7 @@ pub record NoPlace {M N R : Type 0} (rules : Rules M N R) (s : Service) (kind : 
 abbrev pub after_number : ℕ → ℕ
 after_number id = (id + 1) % 2 ^ 32
 
--- one that came is there and the door goes on, or memory was lacking for it
+-- one that came is there and the listener's turn goes on, or memory was lacking for it
 abbrev pub Opens : {M N R : Type 0} → Rules M N R → M → ℕ → ℕ → ℕ → List ℕ → M → Service → Type 0
 Opens rules m now id kind said n t =
     (rules.opens m now kind id said n × (client_of t id ≡ Some (newcomer now id kind said)) × (t.turn ≡ Door kind false))
@@ -122,7 +122,7 @@ pub record Enters {M N R : Type 0} (rules : Rules M N R) (m : M) (s : Service) (
 abbrev pub Goes : Type 0 → Type 0 → ℕ → ℕ → ℕ → List ℕ → Turn → Type 0
 Goes done lacks id kind count said turn = (done × (turn ≡ Busy id (count + 1))) ⊎ (lacks × (said ≡ []) × (turn ≡ Stuffed id kind))
 
--- a piece is heard only where all is sent and the machine wants more
+-- a piece is heard only if all is sent and the machine wants more
 pub record Hears {M N R : Type 0} (rules : Rules M N R) (m : M) (s : Service) (id : ℕ) (piece said : List ℕ) (n : M) (t : Service) : Type 0 where
   pub count : ℕ
   pub wanted : Tasks rules m s id count Hear
@@ -130,7 +130,7 @@ pub record Hears {M N R : Type 0} (rules : Rules M N R) (m : M) (s : Service) (i
   pub short : length piece ≤ largest_piece
   pub goes : Goes (rules.gives m s.moment id piece said n) (rules.lacks m id n) id (kind_of (client_of s id)) count said t.turn
 
--- what is said to a connection is to be sent, and its turn goes on, of which so many acts are over then
+-- what is said to a connection is to be sent, and its turn goes on, of which this many acts are done by then
 pub record Answered (id count : ℕ) (said : List ℕ) (s t : Service) : Type 0 where
   pub turn : t.turn ≡ Busy id count
   pub speaks : Alone id (Answers s.moment said) s t
@@ -159,7 +159,7 @@ Silent m said n = (n ≡ m) × (said ≡ [])
 abbrev pub GoesOn : {M N R : Type 0} → Rules M N R → M → Service → ℕ → Task → Turn → Type 0
 GoesOn rules m s id wanted turn = (count : ℕ) × Tasks rules m s id count wanted × (turn ≡ Busy id (count + 1))
 
--- a step of a connection whose turn goes on: one act more of it is over, or more where the step took long
+-- a step of a connection whose turn goes on: one more act of it is done, or more if the step took long
 pub record StepsOn {M N R : Type 0} (rules : Rules M N R) (m : M) (s : Service) (id : ℕ) (turn : Turn) : Type 0 where
   pub count : ℕ
   pub wanted : Tasks rules m s id count Step
@@ -172,7 +172,7 @@ pub record StepsOn {M N R : Type 0} (rules : Rules M N R) (m : M) (s : Service) 
 abbrev pub Stops : {M N R : Type 0} → Rules M N R → M → Service → ℕ → Task → Turn → Turn → Type 0
 Stops rules m s id wanted to turn = (count : ℕ) × Tasks rules m s id count wanted × (turn ≡ to)
 
--- a read may find nothing, or an end, where it is to be heard or drained
+-- a read may find nothing, or an end, when it is to be heard or drained
 abbrev pub Reads : {M N R : Type 0} → Rules M N R → M → Service → ℕ → Turn → Turn → Type 0
 Reads rules m s id to turn = Stops rules m s id Hear to turn ⊎ Stops rules m s id Drain to turn
 
@@ -180,14 +180,15 @@ Reads rules m s id to turn = Stops rules m s id Hear to turn ⊎ Stops rules m s
 abbrev pub Fails : {M N R : Type 0} → Rules M N R → M → Service → ℕ → Turn → Turn → Type 0
 Fails rules m s id to turn = Stops rules m s id Send to turn ⊎ Reads rules m s id to turn
 
--- memory may be lacking for it: it came or was heard without, or can't go on
+-- memory may be lacking for it: it came or was heard without, or can't continue
 abbrev pub Lacks : {M N R : Type 0} → Rules M N R → M → Service → ℕ → M → Service → Type 0
 Lacks rules m s id n t =
     ((kind : ℕ) × (s.turn ≡ Stuffed id kind) × (n ≡ m) × (t.turn ≡ Leaving id kind))
     ⊎ ((rules.lacks m id n × Stops rules m s id Step (Leaving id (kind_of (client_of s id))) t.turn)
     ⊎ ((n ≡ m) × Stops rules m s id Rest (Leaving id (kind_of (client_of s id))) t.turn))
 
--- to one that is late or makes room and to which nothing waits something is said last; any other, or where memory is lacking, is closed
+-- to one that is late or makes room and to which nothing waits something is said last; any other is closed, and so is one for which
+-- memory is lacking
 abbrev pub Parting : {M N R : Type 0} → Rules M N R → M → Service → ℕ → List ℕ → M → Service → Type 0
 Parting rules m s id said n t =
     ((is_quiet (client_of s id) ≡ true) × rules.lates m s.moment id said n × (t.turn ≡ Busy id 0) × (is_closing (client_of t id) ≡ true))
@@ -205,20 +206,20 @@ pub record Parted {M N R : Type 0} (rules : Rules M N R) (m : M) (s : Service) (
   pub waiting : t.waiting ≡ s.waiting
   pub moment : t.moment ≡ s.moment
 
--- another has its turn after so many acts, and not before; or where it isn't there
+-- another has its turn after this many acts, and not before; or if it isn't there
 abbrev pub Yields : {M N R : Type 0} → Rules M N R → M → Service → ℕ → Type 0
 Yields rules m s id = ((count : ℕ) × (s.turn ≡ Busy id count) × (fair ≤ count)) ⊎ ((count : ℕ) × Tasks rules m s id count Nothing)
 
--- it is closed right behind a cause, or where the machine is done with it, all is sent and its peer had time
+-- it is closed right after a cause, or when the machine is done with it, all is sent and its peer had time
 abbrev pub MayEnd : {M N R : Type 0} → Rules M N R → M → Service → ℕ → ℕ → Type 0
 MayEnd rules m s id kind = (s.turn ≡ Leaving id kind) ⊎ ((count : ℕ) × Tasks rules m s id count End × (kind ≡ kind_of (client_of s id)))
 
--- one that waits goes on where nothing is left of what the last wait told, the first that has something to do
+-- one that waits goes on when nothing is left of what the last wait told, the first that has something to do
 pub record Rouses {M N R : Type 0} (rules : Rules M N R) (m : M) (s : Service) (id : ℕ) : Type 0 where
   pub none : s.ready.items ≡ []
   pub first : first_roused rules m s ≡ Some id
 
--- the machine works where nobody else has something to do, and it has
+-- the machine works when nobody else has something to do, and it has
 pub record MayWork {M N R : Type 0} (rules : Rules M N R) (m : M) (s : Service) : Type 0 where
   pub calm : Calm rules m s
   pub quiet : Quiet rules m s

@@ -6,7 +6,7 @@ use octets::{List, Octets};
 /// notes.
 #[derive(Drop)]
 pub enum Act<N> {
-    /// A wait of at most so many milliseconds ended, and told this; nothing where nothing happened for that long.
+    /// A wait of at most this many milliseconds ended, and told this; nothing if nothing happened for that long.
     Woke(u32, List<Wake>),
     /// The first of what a wait told was taken up.
     Began(Wake),
@@ -14,7 +14,7 @@ pub enum Act<N> {
     Timed(u64),
     /// `id` was too late with what it owes.
     Late(u32),
-    /// `id` waits for something else than its socket.
+    /// `id` waits for something other than its socket.
     Waits(u32),
     /// What `id` waited for is there.
     Roused(u32),
@@ -30,7 +30,7 @@ pub enum Act<N> {
     Displaced(u32),
     /// There was none, and a wait is to tell again of those of that `kind` who knock.
     Listened(u32),
-    /// The next number is that of an open connection, and is passed over.
+    /// The next number belongs to an open connection, and is passed over.
     InUse(u32),
     /// These octets of `id` were read.
     Heard(u32, Octets),
@@ -44,15 +44,15 @@ pub enum Act<N> {
     WriteBlocked(u32),
     /// A read or a write of `id` failed.
     Lost(u32),
-    /// The machine went on with what it had heard of `id`, and noted this.
+    /// The machine continued with what it had heard of `id`, and noted this.
     Noted(u32, N),
     /// Memory was lacking for `id`.
     Full(u32),
     /// A wait is to tell of `id` again.
     Again(u32),
-    /// To `id` no more is sent: its peer is told that this side is shut.
+    /// Nothing more is sent to `id`: its peer is told that this side is shut.
     Shut(u32),
-    /// So many octets of `id` were read and dropped, after this side was shut.
+    /// This many octets of `id` were read and dropped, after this side was shut.
     Dropped(u32, usize),
     /// `id` was closed.
     Ended(u32),

@@ -5,7 +5,7 @@ ghost use Rattle.wires.specs.Room.{FirstGoes};
 use crate::machine::Machine;
 use crate::outside::Outside;
 
-/// At each front of the acts, what was sent on a connection is a front of what the machine said to it since it came.
+/// At each prefix of the acts, what was sent on a connection is a prefix of what the machine said to it since it came.
 pub fn one_connection<O: Outside, M: Machine<O>>()
     ensures { OneConnection M.rules }
 {}
@@ -15,7 +15,7 @@ pub fn apart<O: Outside, M: Machine<O>>()
     ensures { Apart M.rules }
 {}
 
-/// At each front of the acts no more connections of a kind are open than `Machine::limit` says.
+/// At each prefix of the acts no more connections of a kind are open than `Machine::limit` says.
 pub fn bounded<O: Outside, M: Machine<O>>()
     ensures { Bounded M.rules }
 {}
@@ -30,7 +30,7 @@ pub fn none_forgotten<O: Outside, M: Machine<O>>()
     ensures { NoneForgotten M.rules }
 {}
 
-/// Who makes room may go, and no other that may claims what goes before its claim; where there is none, none of those claims.
+/// Whoever makes room may go, and no other that may go has a claim before its claim; if nobody makes room, none of those claims.
 pub fn first_goes<O: Outside, M: Machine<O>>()
     ensures { FirstGoes M.rules }
 {}

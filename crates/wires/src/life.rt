@@ -7,11 +7,11 @@ use crate::outcome::Fault;
 use crate::outside::{Clock, Sockets};
 use crate::service::{Service, act};
 
-/// Serves connections, for so many acts, neither fewer nor more.
+/// Serves connections for exactly this many acts.
 ///
 /// # Errors
 ///
-/// Where a wait failed.
+/// If a wait failed.
 pub fn serve<O: Sockets + Clock, M: Machine<O>>(
     outside: &mut O,
     machine: &mut M,

@@ -6,22 +6,22 @@ use crate::outside::Outside;
 use octets::Octets;
 use std::alloc::AllocError;
 
-/// What a machine wants of a connection. All but a step waits until what it said is sent, and so does a step where that is much.
+/// What a machine wants of a connection. All but a step waits until what it said is sent, and so does a step if that is much.
 #[derive(Clone, Copy, Debug, PartialEq, Eq)]
 pub enum Want {
     /// More octets.
     More,
-    /// To go on with what it has heard.
+    /// To continue with what it has heard.
     Step,
-    /// To go on once something else is there than octets.
+    /// To continue once something other than octets is there.
     Wait,
-    /// To go on at that moment.
+    /// To continue at that moment.
     Until(u64),
     /// That it ends.
     Done,
 }
 
-/// What a connection has of its own that speaks for its going, where its place is wanted for another one: of all of its kind the one of the
+/// What a connection has that speaks for closing it when its place is wanted for another one: of all of its kind the one of the
 /// lowest rank goes, and of those of one rank the one with the earliest moment.
 #[derive(Clone, Copy, Debug, PartialEq, Eq)]
 pub struct Claim {
@@ -30,10 +30,10 @@ pub struct Claim {
     pub moment: u64,
 }
 
-/// An abstract machine: connections come, send octets and go, and each time it says something to that connection. It is kept
-/// by `rules`, which are all that is known of it.
+/// An abstract machine: connections come, send octets and go, and each time it says something to that connection. It obeys
+/// `rules`, which are all that is known of it.
 ///
-/// While it goes on with what it heard it may do something outside, on what is neither sockets nor clock, and it notes that in
+/// While it continues with what it heard it may do something outside, on what is neither sockets nor clock, and it notes that in
 /// one act. `now` is the latest moment that the clock showed, in milliseconds.
 pub trait Machine<O: Outside> {
     ghost rules: { Rules Self O.Note O.Rest };
@@ -42,8 +42,8 @@ pub trait Machine<O: Outside> {
     fn limit(&self, kind: u32) -> usize
         ensures { result ≡ rules.limit kind };
 
-    /// Whether a connection may make room at that moment for one of its kind that knocks, where so many are open, and before which others it
-    /// does. It is asked again for each that knocks: where one that has just come may go, those who knock push each other out.
+    /// Whether a connection may make room at that moment for one of its kind that knocks, when as many are open as may be, and before
+    /// which others it does. It is asked again for each that knocks: if one that has just come may go, those who knock push each other out.
     fn claim(&self, now: u64, id: u32) -> Option<Claim>
         ensures { result ≡ rules.claim self.now now id };
 
@@ -51,7 +51,7 @@ pub trait Machine<O: Outside> {
     fn wants(&self, id: u32) -> Want
         ensures { result ≡ rules.wants self.now id };
 
-    /// The moment by which that connection is late, where all that was said to it is sent.
+    /// The moment by which that connection is late, if all that was said to it is sent.
     fn deadline(&self, id: u32) -> u64
         ensures { result ≡ rules.deadline self.now id };
 
@@ -59,7 +59,7 @@ pub trait Machine<O: Outside> {
     fn has_work(&self, now: u64) -> bool
         ensures { result ≡ rules.has_work self.now now };
 
-    /// For how many milliseconds it may rest where nothing happens: a wait lasts no longer.
+    /// For how many milliseconds it may rest if nothing happens: a wait lasts no longer.
     fn patience(&self) -> u32
         ensures { result ≡ rules.patience self.now };
 
@@ -67,7 +67,7 @@ pub trait Machine<O: Outside> {
     ///
     /// # Errors
     ///
-    /// Where memory is lacking: that connection is ended.
+    /// If memory is lacking: that connection is ended.
     fn open(&mut self, now: u64, kind: u32, id: u32, out: &mut Octets) -> Result<(), AllocError>
         requires { out.old ≡ [] }
         ensures ok { OnOk result (rules.opens self.old now kind id out.new self.new) }
@@ -77,17 +77,17 @@ pub trait Machine<O: Outside> {
     ///
     /// # Errors
     ///
-    /// Where memory is lacking: that connection is ended.
+    /// If memory is lacking: that connection is ended.
     fn give(&mut self, now: u64, id: u32, piece: &[u8], out: &mut Octets) -> Result<(), AllocError>
         requires { out.old ≡ [] }
         ensures ok { OnOk result (rules.gives self.old now id piece.now out.new self.new) }
         ensures err { OnErr result (rules.lacks self.old id self.new) };
 
-    /// It goes on with what it heard of a connection, and notes what it does outside. It makes room for what it says first.
+    /// Continues with what it heard of a connection, and notes what it does outside. It reserves memory for what it says first.
     ///
     /// # Errors
     ///
-    /// Where memory is lacking: nothing is done outside, and that connection is ended.
+    /// If memory is lacking: nothing is done outside, and that connection is ended.
     fn step(
         &mut self,
         outside: &mut O,
@@ -105,13 +105,13 @@ pub trait Machine<O: Outside> {
     ///
     /// # Errors
     ///
-    /// Where memory is lacking: nothing is said to it.
+    /// If memory is lacking: nothing is said to it.
     fn late(&mut self, now: u64, id: u32, out: &mut Octets) -> Result<(), AllocError>
         requires { out.old ≡ [] }
         ensures ok { OnOk result (rules.lates self.old now id out.new self.new) }
         ensures err { OnErr result (rules.lacks self.old id self.new) };
 
-    /// It does something of its own, and notes what it does outside.
+    /// Does something of its own, and notes what it does outside.
     fn work(&mut self, outside: &mut O, now: u64)
         ensures kept { IsTrue (O.tells outside.new) → IsTrue (O.tells outside.old) }
         ensures works { WorksIf O.tells O.seen O.rest rules outside.old self.old now outside.new self.new };

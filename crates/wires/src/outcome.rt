@@ -20,11 +20,11 @@ pub enum Accepted {
 /// What a read comes to.
 #[derive(Clone, Copy, Debug, PartialEq, Eq)]
 pub enum Input {
-    /// So many octets, one at least.
+    /// The number of octets, at least one.
     Got(usize),
     /// None for now.
     Nothing,
-    /// None ever.
+    /// None, ever again.
     Over,
     /// The connection failed.
     Lost,
@@ -33,7 +33,7 @@ pub enum Input {
 /// What a write comes to.
 #[derive(Clone, Copy, Debug, PartialEq, Eq)]
 pub enum Output {
-    /// So many octets were taken, one at least.
+    /// The number of octets that were taken, at least one.
     Taken(usize),
     /// None for now.
     Nothing,

@@ -19,10 +19,10 @@ pub trait Outside {
     /// What contracts see of all that is neither sockets nor clock; no code holds one.
     type Rest;
 
-    /// Whether it tells what happens. Where it no longer does it never does again.
+    /// Whether it tells what happens. Once it no longer does, it never does again.
     ghost tells: { Self → Bool };
 
-    /// All acts so far, in their order, where it tells them.
+    /// All acts so far, in their order, if it tells them.
     ghost seen: { Self → List (Act Self.Note) };
 
     /// All of the outside that is neither sockets nor clock: what a machine keeps there, and acts on.
@@ -34,11 +34,11 @@ pub trait Outside {
 
 /// Listeners, each for a kind of connection, and their connections, each under a number. Each call but `wait` answers at once.
 pub trait Sockets: Outside {
-    /// Waits until something may be done, or for so many milliseconds, and puts what it then tells into `ready`, in its order.
+    /// Waits until something may be done, or for this many milliseconds, and puts what it then tells into `ready`, in its order.
     ///
     /// # Errors
     ///
-    /// Where the system can't wait; nothing is told.
+    /// If the system can't wait; nothing is told.
     fn wait(&mut self, within: u32, ready: &mut VecDeque<Wake>) -> Result<(), Fault>
         requires { ready.old.items ≡ [] }
         ensures ok { OnOk result (TellsIf Self.tells Self.seen self.old (Woke within ready.new.items) self.new) }
@@ -48,13 +48,13 @@ pub trait Sockets: Outside {
         ensures left { LeavesIf Self.tells Self.rest self.old self.new }
         ensures kept { IsTrue (Self.tells self.new) → IsTrue (Self.tells self.old) };
 
-    /// Accepts a connection of that kind that waits, under this number.
+    /// Accepts a waiting connection of that kind, under this number.
     fn accept(&mut self, kind: u32, id: u32) -> Accepted
         ensures seen { IsTrue (Self.tells self.new) → AfterAccept (Self.seen self.old) kind id result (Self.seen self.new) }
         ensures left { LeavesIf Self.tells Self.rest self.old self.new }
         ensures kept { IsTrue (Self.tells self.new) → IsTrue (Self.tells self.old) };
 
-    /// Reads of a connection what there is, at most as many octets as the buffer has.
+    /// Reads what there is of a connection, at most as many octets as the buffer has.
     fn read(&mut self, id: u32, buffer: &mut [u8]) -> Input
         requires { 0 < length buffer.old }
         ensures fits { ReadFits buffer.new result }
@@ -62,7 +62,7 @@ pub trait Sockets: Outside {
         ensures left { LeavesIf Self.tells Self.rest self.old self.new }
         ensures kept { IsTrue (Self.tells self.new) → IsTrue (Self.tells self.old) };
 
-    /// Reads of a connection what there is, and drops it; at most 4,096 octets.
+    /// Reads what there is of a connection, and drops it; at most 4,096 octets.
     fn discard(&mut self, id: u32) -> Input
         ensures fits { DiscardFits result }
         ensures seen { IsTrue (Self.tells self.new) → AfterDiscard (Self.seen self.old) id result (Self.seen self.new) }

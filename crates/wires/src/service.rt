@@ -20,27 +20,28 @@ use std::alloc::Global;
 use std::collections::{BTreeMap, VecDeque};
 use std::mem;
 
-/// While fewer octets than that wait to be sent to a connection, steps of it go on before they are.
+/// While fewer octets than this wait to be sent to a connection, its steps continue before they are sent.
 const MAX_GATHERED: usize = 16384;
 
 /// No more octets of a connection are read at once.
 const MAX_PIECE: usize = 4096;
 
-/// After so many acts in a row of one connection another has its turn, and earlier behind a step that took long.
+/// After this many acts in a row of one connection another has its turn, and earlier after a step that took long.
 const MAX_ACTS: u32 = 16;
 
-/// So many octets, or a few more, are read and dropped of a connection after this side was shut: its peer sees what was said
+/// This many octets, or a few more, are read and dropped of a connection after this side was shut: its peer sees what was said
 /// to it last, instead of an error.
 const MAX_DROPPED: usize = 1048576;
 
-/// So many milliseconds may pass until the peer of a connection takes some more of what is to be sent.
+/// Within this many milliseconds the peer of a connection has to take some more of what is to be sent.
 const MAX_UNSENT: u64 = 60000;
 
-/// One to which something waits to be sent may make room once it has taken nothing for so many milliseconds: then nobody waits for that.
+/// A connection to which something waits to be sent may make room once it has taken nothing for this many milliseconds: then nobody
+/// waits for that.
 const MIN_DEAF: u64 = 1000;
 
-/// So many milliseconds the peer of a connection has, behind the last that is said to it. One that makes room has none: its place is free
-/// at once.
+/// The milliseconds that the peer of a connection has after the last that is said to it. One that makes room has none: its place is
+/// free at once.
 const MAX_PARTING: u64 = 2000;
 
 /// How far a connection is.
@@ -50,9 +51,9 @@ pub enum Phase {
     Open,
     /// It was late: what is said to it last is sent.
     Closing,
-    /// It makes room for another: what is said to it last is sent where that goes at once, and it is closed.
+    /// It makes room for another: what is said to it last is sent if that goes at once, and it is closed.
     Yielding,
-    /// This side was shut, and so many octets more are read and dropped.
+    /// This side was shut, and this many octets more are read and dropped.
     Shut(usize),
 }
 
@@ -65,7 +66,7 @@ pub struct Client {
     pub kind: u32,
     /// What is to be sent.
     pub unsent: Pending,
-    /// What is to be sent behind it, where memory was lacking to put it there.
+    /// What is to be sent after it, if memory was lacking to put it there.
     pub behind: Octets,
     pub phase: Phase,
     /// The moment by which it is late with what is to be sent, or dropped.
@@ -80,7 +81,7 @@ pub struct Service {
     pub clients: BTreeMap<u32, Client>,
     /// What the last wait told and is not yet taken up.
     pub ready: VecDeque<Wake>,
-    /// Who waits for something else than its socket, in the order in which they came.
+    /// Those who wait for something other than their socket, in the order in which they came.
     pub waiting: Vec<u32>,
     /// The latest moment that the clock showed.
     pub moment: u64,
@@ -116,7 +117,7 @@ impl Service {
 ///
 /// # Errors
 ///
-/// Where a wait failed; nothing has changed.
+/// If a wait failed; nothing has changed.
 pub fn act<O: Sockets + Clock, M: Machine<O>>(
     outside: &mut O,
     machine: &mut M,
@@ -155,7 +156,7 @@ pub fn act<O: Sockets + Clock, M: Machine<O>>(
 
 // ---- nobody's turn
 
-/// Takes up what a wait told, then who may go on; where there is neither, the machine works or a wait begins.
+/// Takes up what a wait told, then who may go on; if there is neither, the machine works or a wait begins.
 fn calm_once<O: Sockets + Clock, M: Machine<O>>(
     outside: &mut O,
     machine: &mut M,
@@ -179,7 +180,7 @@ fn calm_once<O: Sockets + Clock, M: Machine<O>>(
     }
 }
 
-/// The machine does some work of its own, or a wait begins.
+/// Lets the machine do some work of its own, or begins a wait.
 fn idle_once<O: Sockets + Clock, M: Machine<O>>(
     outside: &mut O,
     machine: &mut M,
@@ -198,7 +199,7 @@ fn idle_once<O: Sockets + Clock, M: Machine<O>>(
     wait_once(outside, machine, service)
 }
 
-/// The same behind work of the machine's own: now a wait begins.
+/// The same after work of the machine's own: now a wait begins.
 fn rested_once<O: Sockets + Clock, M: Machine<O>>(
     outside: &mut O,
     machine: &mut M,
@@ -239,7 +240,7 @@ fn time_once<O: Sockets + Clock, M: Machine<O>>(
     service.turn = Turn::Sweep;
 }
 
-/// Says that a connection is late, where one is.
+/// Says that a connection is late, if one is.
 fn sweep_once<O: Sockets + Clock, M: Machine<O>>(
     outside: &mut O,
     machine: &mut M,
@@ -366,7 +367,7 @@ fn late_once<O: Sockets + Clock, M: Machine<O>>(
     dismiss(machine, service, id, Phase::Closing);
 }
 
-/// To one to which all is sent the machine says something last, and it is `at` that phase then; any other is closed.
+/// If all is sent to it, the machine says something last, and it is `at` that phase then; otherwise it is closed.
 fn dismiss<O: Sockets + Clock, M: Machine<O>>(
     machine: &mut M,
     service: &mut Service,
@@ -393,7 +394,7 @@ fn is_quiet_at(service: &Service, id: u32) -> bool
     }
 }
 
-/// The machine says something last.
+/// Has the machine say something last.
 fn part<O: Sockets + Clock, M: Machine<O>>(
     machine: &mut M,
     service: &mut Service,
@@ -420,7 +421,7 @@ fn part<O: Sockets + Clock, M: Machine<O>>(
     client.until = service.moment.wrapping_add(parting_span(at));
 }
 
-/// So many milliseconds its peer has behind the last that is said to it at that phase.
+/// How many milliseconds its peer has after the last that is said to it at that phase.
 fn parting_span(at: Phase) -> u64
     ensures { result ≡ parting_span at }
 {
@@ -448,7 +449,7 @@ fn begin_once<O: Sockets + Clock, M: Machine<O>>(
     service.turn = turn_of_wake(service, wake);
 }
 
-/// Lets one go on that waited.
+/// Lets one that waited go on.
 fn rouse_once<O: Sockets + Clock, M: Machine<O>>(
     outside: &mut O,
     machine: &mut M,
@@ -479,7 +480,7 @@ fn turn_of_wake(service: &Service, wake: Wake) -> Turn
     }
 }
 
-/// Whether one of that kind has come since the last wait, and is there.
+/// Whether one of that kind has come since the last wait, and is still there.
 fn has_come(service: &Service, kind: u32) -> bool
     ensures { result ≡ came_since kind service.now }
 {
@@ -488,7 +489,7 @@ fn has_come(service: &Service, kind: u32) -> bool
         && client.id.wrapping_sub(service.since) < given)
 }
 
-/// The machine does something of its own.
+/// Has the machine do something of its own.
 fn work_once<O: Sockets + Clock, M: Machine<O>>(
     outside: &mut O,
     machine: &mut M,
@@ -535,7 +536,7 @@ fn count_open(service: &Service, kind: u32) -> usize
         .count()
 }
 
-/// Accepts one that waits, where there is a place for it.
+/// Accepts one that waits, if there is a place for it.
 fn door_once<O: Sockets + Clock, M: Machine<O>>(
     outside: &mut O,
     machine: &mut M,
@@ -559,8 +560,8 @@ fn door_once<O: Sockets + Clock, M: Machine<O>>(
     accept_once(outside, machine, service, kind, id)
 }
 
-/// Where there is no place: has one make room for one that knocks. Where one could, but nobody has knocked since the last was
-/// accepted, it asks whether somebody does; and where none can, whether somebody still does a little later.
+/// If there is no place: has one make room for one that knocks. If one could, but nobody has knocked since the last was
+/// accepted, it asks whether somebody does; and if none can, whether somebody still does a little later.
 fn crowd_once<O: Sockets + Clock, M: Machine<O>>(
     outside: &mut O,
     machine: &mut M,
@@ -617,7 +618,7 @@ fn find_room<O: Sockets + Clock, M: Machine<O>>(
     number_of(best)
 }
 
-/// What it claims, where it may go.
+/// What it claims, if it may go.
 fn claim_of<O: Sockets + Clock, M: Machine<O>>(
     machine: &M,
     now: u64,
@@ -633,7 +634,7 @@ fn claim_of<O: Sockets + Clock, M: Machine<O>>(
     }
 }
 
-/// Whether it is open, of that kind, and has had what was said to it, or doesn't take it.
+/// Whether it is open, of that kind, and has received what was said to it, or doesn't take it.
 fn may_go(now: u64, kind: u32, client: &Client) -> bool
     ensures { result ≡ may_go now kind client.now }
 {
@@ -757,7 +758,7 @@ fn admit<O: Sockets + Clock, M: Machine<O>>(
 
 // ---- the turn of one connection
 
-/// What is to be done on it, after so many acts of its turn.
+/// What is to be done on it, after this many acts of its turn.
 fn task_of<O: Sockets + Clock, M: Machine<O>>(
     machine: &M,
     service: &Service,
@@ -782,7 +783,7 @@ fn task_of_client(client: &Client, now: u64, count: u32, want: Want) -> Task
     task_of_unsent(may_gather(client, count), task)
 }
 
-/// What is to be done where all is sent.
+/// What is to be done if all is sent.
 fn task_of_phase(phase: Phase, now: u64, want: Want) -> Task
     ensures { result ≡ task_sent phase now want }
 {
@@ -793,7 +794,7 @@ fn task_of_phase(phase: Phase, now: u64, want: Want) -> Task
     }
 }
 
-/// What is to be done where something waits: that is sent, but for a step that may be made before.
+/// What is to be done if something waits: that is sent, but for a step that may be made before.
 fn task_of_unsent(gathers: bool, task: Task) -> Task
     ensures { result ≡ task_unsent gathers task }
 {
@@ -901,7 +902,7 @@ fn first_piece(client: &Client) -> &[u8]
     client.unsent.as_slice()
 }
 
-/// So many octets of that were sent.
+/// Takes off this many octets, which were sent.
 #[tactic(auto, using(crate::proofs::SendLemmas::taken_front))]
 fn take_off(client: &mut Client, alloc: Global, now: u64, count: usize)
     requires { count ≤ length (next_piece client.old.unsent client.old.behind) }
@@ -912,7 +913,7 @@ fn take_off(client: &mut Client, alloc: Global, now: u64, count: usize)
     client.until = due_taken(now, client.phase, client.until);
 }
 
-/// By which moment some more of what waits is to be taken, where some was: behind what is said last that stays.
+/// By which moment some more of what waits is to be taken, after some was: for what is said last it stays.
 fn due_taken(now: u64, phase: Phase, until: u64) -> u64
     ensures { result ≡ due_taken now phase until }
 {
@@ -922,7 +923,7 @@ fn due_taken(now: u64, phase: Phase, until: u64) -> u64
     }
 }
 
-/// Where nothing waits before it, what waits behind is next.
+/// If nothing waits before it, what waits after it is next.
 fn bring_up(client: &mut Client, alloc: Global)
     ensures first { client.new.unsent ≡ next_piece client.old.unsent client.old.behind }
     ensures waits { waits client.new ≡ waits client.old }
@@ -986,7 +987,7 @@ fn give<O: Sockets + Clock, M: Machine<O>>(
     }
 }
 
-/// What is said to it is to be sent, and its turn goes on, of which `count` acts are over then.
+/// What is said to it is to be sent, and its turn goes on, with `count` acts done by then.
 fn answer(service: &mut Service, id: u32, count: u32, said: Octets)
     requires some { IsSome (client_of service.old id) }
     requires more { takes_more (client_of service.old id) ≡ true }
@@ -999,7 +1000,7 @@ fn answer(service: &mut Service, id: u32, count: u32, said: Octets)
     gather(client, service.moment, said);
 }
 
-/// What is said to it is to be sent, behind what waits.
+/// What is said to it is to be sent, after what waits.
 fn gather(client: &mut Client, now: u64, said: Octets)
     requires { is_nothing client.old.behind ≡ true }
     ensures { Gathers now said client.old client.new }
@@ -1014,7 +1015,7 @@ fn gather(client: &mut Client, now: u64, said: Octets)
     }
 }
 
-/// Has the machine go on.
+/// Has the machine continue.
 fn step_once<O: Sockets + Clock, M: Machine<O>>(
     outside: &mut O,
     machine: &mut M,
@@ -1039,7 +1040,7 @@ fn step_once<O: Sockets + Clock, M: Machine<O>>(
     }
 }
 
-/// How many acts of its turn are over behind a step: a long one leaves it one act more at most, in which its answer is sent.
+/// How many acts of its turn are done after a step: a long one leaves it at most one more act, in which its answer is sent.
 fn count_behind(count: u32, long: bool) -> u32
     requires { count < 16 }
     ensures further { count < result }
@@ -1052,7 +1053,7 @@ fn count_behind(count: u32, long: bool) -> u32
     }
 }
 
-/// Lets it wait for something else than its socket.
+/// Lets it wait for something other than its socket.
 fn rest_once<O: Sockets + Clock, M: Machine<O>>(
     outside: &mut O,
     machine: &mut M,
@@ -1100,7 +1101,7 @@ fn shut_once<O: Sockets + Clock, M: Machine<O>>(
     service.turn = Turn::Busy(id, count + 1);
 }
 
-/// How far it is once this side is shut: of one that makes room nothing more is read.
+/// Its phase once this side is shut: of one that makes room nothing more is read.
 fn shut_from(phase: Phase) -> Phase
     ensures { result ≡ shut_from phase }
 {
@@ -1144,7 +1145,7 @@ fn drain_once<O: Sockets + Clock, M: Machine<O>>(
     }
 }
 
-/// So many octets more were dropped.
+/// Counts this many octets more as dropped.
 fn drain(phase: Phase, count: usize) -> Phase
     ensures { result ≡ drained count phase }
 {
@@ -1158,7 +1159,7 @@ fn drain(phase: Phase, count: usize) -> Phase
 
 // ---- ends
 
-/// It waits no more.
+/// It no longer waits.
 fn forget(waiting: &mut Vec<u32>, id: u32)
     ensures { waiting.new.items ≡ filter (λ n. not (n == id)) waiting.old.items }
 {

@@ -8,11 +8,11 @@ pub enum Turn {
     Rested,
     /// Nobody's: a wait has ended, and the clock is to be read.
     Waked,
-    /// Nobody's: the clock was read, and who is late comes first.
+    /// Nobody's: the clock was read, and those who are late come first.
     Sweep,
     /// That of those who come, of a kind, and whether a wait told that somebody knocks, and none has come since that wait.
     Door(u32, bool),
-    /// A connection's, after so many acts of it.
+    /// A connection's, after this many acts of it.
     Busy(u32, u32),
     /// That of a connection for which memory is lacking, and its kind.
     Stuffed(u32, u32),
@@ -27,9 +27,9 @@ pub enum Task {
     Send,
     /// To read, and have the machine hear it.
     Hear,
-    /// To have the machine go on.
+    /// To have the machine continue.
     Step,
-    /// To let it wait for something else than its socket.
+    /// To let it wait for something other than its socket.
     Rest,
     /// To tell the peer that no more comes.
     HangUp,
