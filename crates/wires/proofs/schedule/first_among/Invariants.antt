@@ -1,7 +1,7 @@
 use Rattle.std.proofs.Common.{◌≡◌, length, find}
 use Rattle.wires.specs.Talk.{client_of, task}
 use Rattle.wires.specs.Turns.{goes_on}
-use Rattle.wires.proofs.service.first_among.Given as goal
+use Rattle.wires.proofs.schedule.first_among.Given as goal
 
 abbrev pub invariant-loop-id : goal.invariant-loop-id
 invariant-loop-id g l =
