@@ -143,7 +143,7 @@ impl<S: Shelf + Drop> DeskFake<S> {
             return None;
         }
         let others = self.let_others();
-        let answer = self.stage.fake.rest.change(clients, &event);
+        let answer = self.stage.fake.rest.apply_event(clients, &event);
         self.note_event(id, others, event, &answer);
         Some(answer)
     }
@@ -295,7 +295,7 @@ impl<S: Shelf + Drop> Desk for DeskFake<S> {
             return None;
         }
         let others = self.let_others();
-        let answer = self.stage.fake.rest.change(clients, event);
+        let answer = self.stage.fake.rest.apply_event(clients, event);
         self.note_done(id, others, event, &answer);
         Some(answer)
     }
@@ -310,7 +310,7 @@ impl<S: Shelf + Drop> Desk for DeskFake<S> {
             return None;
         }
         let others = self.let_others();
-        let lookup = self.stage.fake.rest.find(user);
+        let lookup = self.stage.fake.rest.find_account(user);
         self.note_asked(id, others, user, lookup);
         Some(lookup)
     }

@@ -35,7 +35,7 @@ impl Shelf for MemShelf {
 
     ghost has = { λ shelf mails. shelf.sink.messages ≡ mails };
 
-    fn change(&mut self, clients: &mut Clients, event: &Event) -> Answer {
+    fn apply_event(&mut self, clients: &mut Clients, event: &Event) -> Answer {
         match apply(clients, &mut self.store, event) {
             Ok(answer) => answer,
             Err(AllocError) => Answer::Refused(Refusal::Memory),
@@ -93,7 +93,7 @@ impl Shelf for MemShelf {
         }
     }
 
-    fn find(&mut self, user: &[u8]) -> Lookup {
+    fn find_account(&mut self, user: &[u8]) -> Lookup {
         find_account(&mut self.store, user)
     }
 

@@ -21,7 +21,7 @@ pub trait Shelf {
     ghost has: { Self → List KeptMail → Type 0 };
 
     /// One event, as [`mailengine::apply`] applies it.
-    fn change(&mut self, clients: &mut Clients, event: &Event) -> Answer
+    fn apply_event(&mut self, clients: &mut Clients, event: &Event) -> Answer
         requires { ¬ IsGivenUp event.now }
         ensures applied { IsApplied view event.now result self.old clients.old.sessions self.new clients.new.sessions }
         ensures still { StillHas has self.old self.new };
@@ -34,7 +34,7 @@ pub trait Shelf {
         ensures still { StillHas has self.old self.new };
 
     /// Whether there is an account of that name.
-    fn find(&mut self, user: &[u8]) -> Lookup
+    fn find_account(&mut self, user: &[u8]) -> Lookup
         ensures found { IsFound result }
         ensures sought { IsSought view user.now result self.old self.new };
 

@@ -112,7 +112,7 @@ impl<K: Keeper + Drop, T: MailSink + Drop> HeldStore<K, T> {
     }
 
     /// Applies an event to the store and the sessions, and answers it; none if the store isn't held.
-    pub fn change(&mut self, clients: &mut Clients, event: &Event) -> Option<Answer>
+    pub fn apply_event(&mut self, clients: &mut Clients, event: &Event) -> Option<Answer>
         requires { ¬ IsGivenUp event.now }
         ensures { Brings K.S.Store K.tells K.holds event.now result self.old clients.old.sessions self.new clients.new.sessions }
     {
@@ -126,7 +126,7 @@ impl<K: Keeper + Drop, T: MailSink + Drop> HeldStore<K, T> {
     }
 
     /// Whether there is an account of that name; none if the store isn't held.
-    pub fn find(&mut self, user: &[u8]) -> Option<Lookup>
+    pub fn find_account(&mut self, user: &[u8]) -> Option<Lookup>
         ensures found { IfSome result IsFound }
         ensures seeks { Seeks K.S.Store K.tells K.holds user.now result self.old self.new }
     {

@@ -234,7 +234,7 @@ impl<'a, N: Net + time::Clock, E: Write + Drop, K: Keeper + Drop, T: MailSink + 
     }
 
     /// Applies an event to the store, if that may be asked and is available.
-    fn ask(&mut self, id: u32, clients: &mut Clients, event: &Event) -> Option<Answer>
+    fn try_apply_event(&mut self, id: u32, clients: &mut Clients, event: &Event) -> Option<Answer>
         requires { ¬ IsGivenUp event.now }
         ensures { Brings K.S.Store K.tells K.holds event.now result self.old.held clients.old.sessions self.new.held clients.new.sessions }
     {
@@ -247,7 +247,7 @@ impl<'a, N: Net + time::Clock, E: Write + Drop, K: Keeper + Drop, T: MailSink + 
         let begun = start(self.system);
         self.reach();
         let is_guest = user_of(clients, id).is_none();
-        let answer = self.held.change(clients, event)?;
+        let answer = self.held.apply_event(clients, event)?;
         self.news.note_answer(&answer, self.held.code());
         note_time(&mut self.news, self.system, begun);
         let kept = self.is_kept();
@@ -287,14 +287,14 @@ impl<'a, N: Net + time::Clock, E: Write + Drop, K: Keeper + Drop, T: MailSink + 
             return None;
         }
         self.reach();
-        let lookup = self.held.find(user)?;
+        let lookup = self.held.find_account(user)?;
         self.news.note_lookup(lookup, self.held.code());
         let kept = self.is_kept();
         Some(found(lookup, kept))
     }
 
     /// Delivers a message at the moment that the clock shows, if the store may be asked and is available.
-    fn file(&mut self, id: u32, parcel: &Parcel) -> Option<Answer>
+    fn try_deliver(&mut self, id: u32, parcel: &Parcel) -> Option<Answer>
         ensures { (when : When) × ((kept : Kept) → Brings K.S.Store K.tells K.holds (delivery_of parcel.now (terms when self.old.default)) result
             self.old.held kept self.new.held kept) }
     {
@@ -636,7 +636,7 @@ impl<N: Net + time::Clock, E: Write + Drop, K: Keeper + Drop, T: MailSink + Drop
     ghost default = { λ host. host.default };
 
     fn carry(&mut self, id: u32, clients: &mut Clients, event: &Event) -> Option<Answer> {
-        match self.ask(id, clients, event) {
+        match self.try_apply_event(id, clients, event) {
             Some(answer) => {
                 self.queue.leave(id);
                 self.news.note_command();
@@ -671,7 +671,7 @@ impl<N: Net + time::Clock, E: Write + Drop, K: Keeper + Drop, T: MailSink + Drop
     }
 
     fn deliver(&mut self, id: u32, _clients: &mut Clients, parcel: &Parcel) -> Option<Answer> {
-        match self.file(id, parcel) {
+        match self.try_deliver(id, parcel) {
             Some(answer) => {
                 self.queue.leave(id);
                 self.end_act_of(id, parcel.user.as_slice(), b"delivery");

@@ -176,7 +176,7 @@ impl Post {
     }
 
     /// The store was asked a question, and this is what was found. Returns what is said. Takes no memory.
-    pub fn found(&mut self, now: u64, question: Question, lookup: Lookup, room: Room) -> Octets
+    pub fn answer_recipient(&mut self, now: u64, question: Question, lookup: Lookup, room: Room) -> Octets
         requires found { posts.IsFound lookup }
         requires asked { s.Demands now self.old (demands.Account question) }
         requires slot { s.HasSlot self.old }

@@ -131,7 +131,7 @@ fn ask<O: Desk>(
     match outside.look_up(id, &mut daemon.clients, question.user.as_slice()) {
         Some(lookup) => {
             daemon.holding = daemon.holding.asked_at(now);
-            post.found(now, question, lookup, room)
+            post.answer_recipient(now, question, lookup, room)
         }
         None => {
             post.await_store(now);

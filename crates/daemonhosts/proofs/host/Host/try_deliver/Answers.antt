@@ -8,7 +8,7 @@ use Rattle.sieveddaemon.proofs.StillLemmas.{still_then}
 use Rattle.daemonhosts.specs.Held.{view_of, Brings, IsClean}
 use Rattle.daemonhosts.proofs.HeldLemmas.{done_behind, nothing_behind}
 use Rattle.daemonhosts.proofs.RoomLemmas.{told_done}
-use Rattle.daemonhosts.proofs.host.Host.file.Goals as goal
+use Rattle.daemonhosts.proofs.host.Host.try_deliver.Goals as goal
 
 pub returns-in-Some : goal.returns-in-Some
 returns-in-Some g c =

@@ -4,7 +4,7 @@ use Rattle.mailposts.specs.Posts.{taken_with, Asked}
 use Rattle.mailposts.specs.Stands.{Does}
 use Rattle.mailposts.specs.declared.post.Post.{Post as Code}
 use Rattle.mailposts.proofs.PostLemmas.{found, tried, not_taken}
-use Rattle.mailposts.proofs.post.Post.found.Goals as goal
+use Rattle.mailposts.proofs.post.Post.answer_recipient.Goals as goal
 
 pub returns-in-Known-clause-does : goal.returns-in-Known-clause-does
 returns-in-Known-clause-does c =

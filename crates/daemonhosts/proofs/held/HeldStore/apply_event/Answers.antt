@@ -2,7 +2,7 @@
 use Rattle.std.proofs.Common.{subst, sym}
 use Rattle.daemonhosts.specs.Held.{view_of, ShowsBy, LeavesBy}
 use Rattle.daemonhosts.proofs.HeldLemmas.{done_alone}
-use Rattle.daemonhosts.proofs.held.HeldStore.change.Goals as goal
+use Rattle.daemonhosts.proofs.held.HeldStore.apply_event.Goals as goal
 
 pub returns-in-Ok : goal.returns-in-Ok
 returns-in-Ok g c = λ clean.

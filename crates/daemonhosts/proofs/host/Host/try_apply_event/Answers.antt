@@ -4,7 +4,7 @@ use Rattle.sieveddaemon.specs.Desk.{IsDone}
 use Rattle.sieveddaemon.proofs.StillLemmas.{still_then}
 use Rattle.daemonhosts.specs.Held.{view_of, IsClean}
 use Rattle.daemonhosts.proofs.HeldLemmas.{done_behind}
-use Rattle.daemonhosts.proofs.host.Host.ask.Goals as goal
+use Rattle.daemonhosts.proofs.host.Host.try_apply_event.Goals as goal
 
 pub returns : goal.returns
 returns g c = λ clean.

@@ -3,7 +3,7 @@ use Rattle.std.proofs.Common.{subst, sym}
 use Rattle.mailmoves.specs.Enduring.{MayLeave, none_tried, leaves_of}
 use Rattle.sqlite.specs.Held.{state}
 use Rattle.daemonhosts.specs.Held.{ShowsBy, LeavesBy}
-use Rattle.daemonhosts.proofs.held.HeldStore.find.Goals as goal
+use Rattle.daemonhosts.proofs.held.HeldStore.find_account.Goals as goal
 
 pub returns-clause-seeks : goal.returns-clause-seeks
 returns-clause-seeks g c = λ clean accounts shown.

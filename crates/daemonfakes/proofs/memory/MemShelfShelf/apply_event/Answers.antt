@@ -4,7 +4,7 @@ use Rattle.sqlite.specs.Held.{state}
 use Rattle.sqlite.specs.Steps.{over_memory}
 use Rattle.mailengine.specs.Hosts.{IsEvent, IsGivenUp, host_with}
 use Rattle.mailmoves.proofs.EnduringLemmas.{event_endures}
-use Rattle.daemonfakes.proofs.memory.MemShelfShelf.change.Goals as goal
+use Rattle.daemonfakes.proofs.memory.MemShelfShelf.apply_event.Goals as goal
 
 pub returns-in-Ok-clause-applied : goal.returns-in-Ok-clause-applied
 returns-in-Ok-clause-applied c = λ w is.
