@@ -4,11 +4,11 @@ use Rattle.octets.specs.Ascii.{is_blank}
 use Rattle.addrparts.specs.declared.scanner.Kind.{Kind}
 use Rattle.addrparts.specs.declared.scanner.Kind.TheVariants as K
 
--- the octets that stand in no atom, beside the marks and blanks: control characters, and what closes or escapes something
+-- the octets that no atom has, besides the marks and blanks: control characters, and what closes or escapes something
 abbrev pub is_stray : ℕ → Bool
 is_stray octet = nat_lt octet 33 || octet == 127 || octet == 41 || octet == 93 || octet == 92
 
--- the kind of piece that begins with this octet (RFC 5322, 3.2.3: atext and specials; octets from 128 on stand in atoms)
+-- the kind of piece that begins with this octet (RFC 5322, 3.2.3: atext and specials; atoms may have octets from 128 on)
 abbrev pub kind_of : ℕ → Kind
 kind_of octet =
     if octet == 34 then K.Quoted
@@ -39,7 +39,7 @@ pub record Piece : Type 0 where
   pub kind : Kind
   pub text : List ℕ
 
--- an octet alone, or after a backslash (RFC 5322, 3.2.1: quoted-pair)
+-- an octet by itself, or after a backslash (RFC 5322, 3.2.1: quoted-pair)
 pub data Inner : Type 0 where
   Plain : ℕ → Inner
   Pair : ℕ → Inner

@@ -75,7 +75,7 @@ pub record IsNext (text : List ℕ) (kind : Kind) (first : List ℕ) (rest : Lis
   pub cut : text ≡ first ++ rest
   pub pieces : pieces text ≡ (record { kind = kind; text = first }) ∷ pieces rest
 
--- the addresses that these pieces bring to an end
+-- the addresses of the parts that end among these pieces
 abbrev pub collected : Draft → List Piece → List Addr
 collected draft [] = option_to_list (outcome draft)
 collected draft (piece ∷ more) =

@@ -211,7 +211,7 @@ fn first_of<C: Comparator>(value: &[u8], from: usize, octet: u8) -> Option<usize
     }
 }
 
-// The first place from `from` on, and before `end`, whose octet has the image of `wanted`, or else `end`.
+// The first place from `from` on, and before `end`, whose octet has the image of `wanted`; if there is none, `end`.
 #[inline(always)]
 fn next_place<C: Comparator>(value: &[u8], from: usize, end: usize, wanted: u8) -> usize
     requires ordered { from ≤ end }

@@ -114,7 +114,7 @@ pub data Response : Type 0 where
   Quiet : Reason → Response
   Sent : (key octets : List ℕ) → (kept : ℕ) → Response
 
--- what is answered, given the decision on a response; last is the moment that is kept under its key
+-- the response, given the decision on it; last is the moment that is kept under its key
 abbrev pub Follows : Addr → ℕ → MailSpec → VacArgs → Option ℕ → Decision → Response → Type 0
 Follows own moment mail args last D.Send response =
     (reply : List ℕ) × (IsReply args mail own moment reply × (response ≡ Sent (key_of (handle_of args)) reply (latest last moment)))

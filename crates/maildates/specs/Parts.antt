@@ -62,7 +62,7 @@ sign (negsuc n) = 45
 abbrev pub zone_text : ℤ → List ℕ
 zone_text zone = sign zone ∷ (two (unsigned_abs zone / 60) ++ two (unsigned_abs zone % 60))
 
--- Z for UTC, else +hh:mm or -hh:mm
+-- Z for UTC, otherwise +hh:mm or -hh:mm
 abbrev pub iso_zone : ℤ → List ℕ
 iso_zone zone = cond (unsigned_abs zone == 0) (codes "Z") (sign zone ∷ (two (unsigned_abs zone / 60) ++ (58 ∷ two (unsigned_abs zone % 60))))
 

@@ -16,7 +16,7 @@ abbrev pub IsEnd : ℕ → List ℕ → Type 0
 IsEnd first [] = Unit {0}
 IsEnd first (octet ∷ _) = goes_on first octet ≡ false
 
--- a piece before a text: nothing at the very end, else as long as it can be
+-- a piece before a text: nothing at the very end, otherwise as long as it can be
 abbrev pub IsShape : List ℕ → List ℕ → Type 0
 IsShape [] after = after ≡ []
 IsShape (first ∷ more) after = (opens_gap first ≡ false) × ((list_all (goes_on first) more ≡ true) × IsEnd first after)

@@ -28,7 +28,7 @@ number_of BadMime = 21
 number_of LongReasonLine = 22
 number_of BadCharacter = 23
 
--- the words that tell a script's author of a fault
+-- the words for a script's author about a fault
 abbrev pub text_of : FaultKind → List ℕ
 text_of NotUtf8 = codes "not UTF-8"
 text_of BadByte = codes "bad octet"

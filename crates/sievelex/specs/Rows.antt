@@ -27,7 +27,7 @@ AreNumerals (n ∷ (next ∷ more)) = IsNumeral n × ((n.blanks ≢ []) × AreNu
 abbrev pub numeral_spelling : Numeral → List ℕ
 numeral_spelling n = n.word ++ n.blanks
 
--- *blank, and then numbers, which are these words: *blank hex-pair *(1*blank hex-pair) *blank, or blanks alone
+-- *blank, and then numbers, which are these words: *blank hex-pair *(1*blank hex-pair) *blank, or only blanks
 pub record IsRow (s : List ℕ) (words : List (List ℕ)) : Type 0 where
   pub lead : List ℕ
   pub numerals : List Numeral

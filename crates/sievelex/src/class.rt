@@ -1,4 +1,4 @@
-//! The classes of octets outside strings: what an octet begins.
+//! The classes of octets: what an octet outside strings begins.
 ghost use Rattle.std.specs.Prelude.{◌≡◌};
 ghost use Rattle.sievelex.specs.Class.{class_of, is_name_start, is_name_octet, is_white};
 
