@@ -32,7 +32,7 @@ AreFilingRows user rows own = OfCopies user own (λ copies. rows ≡ map filing_
 
 -- ---- notices
 
--- for the notices that the user's rows show with their numbers, whatever else they show, this holds
+-- of the notices that the user's rows show with their numbers, whatever else they show, this holds
 abbrev pub OfNotices : List ℕ → Tables → (List (ℕ × Notice) → Type 0) → Type 0
 OfNotices user own P = (a : Account) (s : IsShown user own a) → P s.notices.entries
 
@@ -52,7 +52,7 @@ notice_with n entries = option_map (λ e. e.1) (find (λ e. e.0 == n) entries)
 abbrev pub IsNoticeOf : List ℕ → ℕ → Option Notice → Tables → Type 0
 IsNoticeOf user n notice own = OfNotices user own (λ entries. notice ≡ notice_with n entries)
 
--- and the first row shows it, for a number as the database has it
+-- and the first row shows it, of a number as the database has it
 abbrev pub HasNoticeRow : List ℕ → ℤ → List Row → Tables → Type 0
 HasNoticeRow user id rows own = OfNotices user own (λ entries. (n : ℕ) → id ≡ pos n → slice_get rows 0 ≡ option_map notice_cells (notice_with n entries))
 

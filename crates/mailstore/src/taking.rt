@@ -127,7 +127,7 @@ impl<S: Alter> Store<S> {
     }
 
     /// Takes the first message out of the folder of a user whose account was entered, in one transaction: removes its copy, its
-    /// row if that was the last copy of it, and so the folder if that was its last message. The numbers are not used again. The caller has
+    /// row if that was the last copy of it, and with its last message the folder. The numbers are not used again. The caller has
     /// to see to it that the folder has a message: without one nothing changes. The copy is found by its key, and no message and no
     /// copy but another one of the same message is read.
     ///

@@ -31,7 +31,7 @@ abbrev pub RunsText : {X : Type 0} → List ℕ → Row → State → State → 
 RunsText sql params old new (Ok x) = (count : ℕ) × ExecutesInside 0 sql params old new (Ok count)
 RunsText sql params old new (Err e) = ExecutesInside 0 sql params old new (Err e)
 
--- the last commit stands, and after Ok what is seen has turned like this
+-- the last commit stays, and after Ok what is seen has turned like this
 abbrev pub Makes : {X : Type 0} → (Database → Database → Type 0) → State → State → Result X Error → Type 0
 Makes Turned old new result = KeepsCommit old new × OnOk result (Turned old.now new.now × Shows old new new.now old.committed true)
 

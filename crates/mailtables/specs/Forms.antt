@@ -22,7 +22,7 @@ needed name kind = record { name = name; kind = kind; is_strict = true; not_null
 abbrev pub maybe : List ℕ → Kind → Column
 maybe name kind = record { name = name; kind = kind; is_strict = true; not_null = false; default = Null; collation = Binary }
 
--- a table with one key, whose columns are given in the third argument
+-- a table with one key, which the third argument says by its places
 abbrev pub keyed : List ℕ → ℕ → List ℕ → List Reference → List Column → Table
 keyed name tree primary references columns = record {
   name = name;
@@ -39,7 +39,7 @@ keyed name tree primary references columns = record {
   is_counted = false;
 }
 
--- the column with this index is equal to the parameter
+-- the column at the place is equal to the parameter
 abbrev pub equals : ℕ → ℕ → Term
 equals place param = op2 (Compare Eq Binary) (col 1 place) (col 0 param)
 

@@ -1,4 +1,4 @@
-//! Reads an input to its end and writes texts, and how far a write came if it fails.
+//! Reads an input to its end, and writes texts; says how far a write came if it fails.
 ghost use Rattle.std.specs.Prelude.{◌≡◌, ◌≢◌, ◌+◌, ◌<◌, ◌≤◌, ◌++◌, [], Some, None, take, drop, decimal, length, vec_len, unwrap_or, IfOk, IfErr, IfSome, OnOk, OnErr};
 ghost use Rattle.std.specs.Io.KnownBytes.{Appends, Consumes, IsAtEnd, Keeps};
 ghost use Rattle.std.specs.IoError.{error_kind};

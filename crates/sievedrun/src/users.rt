@@ -71,7 +71,7 @@ fn user_lines<S: Alter>(alloc: Global, store: &mut Store<S>) -> Result<Octets, R
         };
         next = add_user(store, name.as_slice(), &mut text)?;
     }
-    // No store has so many accounts.
+    // No store has that many accounts.
     Err(Refusal::Store)
 }
 

@@ -170,7 +170,7 @@ pub fn first_line(text: &[u8]) -> &[u8]
     text.split_at(len).0
 }
 
-/// How many octets stand before the first LF, or in all.
+/// How many octets come before the first LF, or all if there is none.
 fn line_len(text: &[u8]) -> usize
     ensures { result ≡ prefix_len is_in_line text.now }
 {
