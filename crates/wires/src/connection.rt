@@ -1,5 +1,5 @@
 //! The turn of one connection: what is sent to it, read of it and done for it.
-ghost use Rattle.std.specs.Prelude.{◌≡◌, ◌==◌, ◌<◌, ◌≤◌, length, take, true, Some, None, IsTrue, IsSome};
+ghost use Rattle.std.specs.Prelude.{ℕ, ◌≡◌, ◌==◌, ◌<◌, ◌≤◌, length, take, true, Some, None, IsTrue, IsSome};
 ghost use Rattle.wires.specs.Moves.{MovesIf};
 ghost use Rattle.wires.specs.Talk.{client_of, kind_of, waits, shut_from, is_nothing, gathers, task, task_by, task_sent};
 ghost use Rattle.wires.specs.Talk.{task_unsent, task_wanted, takes_more, next_piece, Gathers, Taken, Stays, drained, due_taken};
