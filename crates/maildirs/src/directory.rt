@@ -23,7 +23,7 @@ const DIGEST_DIGITS: usize = 64;
 /// is `INBOX`, since IMAP has one INBOX.
 ///
 /// A name that is empty or has an empty level, isn't UTF-8 or has a longer directory gets one by its digest; so does one that Dovecot 2.3
-/// doesn't list as it is, with NUL or a `\` before two hexadecimal digits of an octet over 127, and one whose directory a digest may have.
+/// doesn't list as it is, with NUL or a `\` before two hexadecimal digits of an octet over 127, and one whose directory looks like that of a digest.
 /// Time and memory are linear in the name.
 pub fn directory_of(alloc: Global, name: &[u8], separator: Separator) -> Result<Octets, AllocError>
     ensures { IfOk result (λ place. place ≡ directory separator name.now) }

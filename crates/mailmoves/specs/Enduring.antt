@@ -26,8 +26,8 @@ ShowsTried event answer met trees = ⊥
 abbrev pub none_tried : Trees → Type 0
 none_tried trees = ⊥
 
--- what may be left after a call, by which accounts became others: these; what might be left before it, if no account changed; or what
--- was tried in it
+-- what a crash after a call may leave: the later accounts; if the call changed none, what a crash before it might have left; or what the
+-- call tried
 abbrev pub MayLeave : (Trees → Type 0) → Accounts → (Trees → Type 0) → Accounts → (Trees → Type 0) → Type 0
 MayLeave before accounts after later Tried = (trees : Trees) → after trees → ShowsIn trees later ⊎ ((later ≡ accounts) × before trees) ⊎ Tried trees
 

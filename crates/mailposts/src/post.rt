@@ -76,7 +76,7 @@ impl Post {
         self.tally.due()
     }
 
-    /// Since when no recipient is taken, if its client owes octets. None if one is, and if something is owed to the client.
+    /// Since when a client without an accepted recipient owes octets. None if it has a recipient, or if an answer is owed to it.
     pub fn owed_since(&self) -> Option<u64>
         ensures { result ≡ s.owed_since self.now }
     {

@@ -45,7 +45,7 @@ pub struct Tally {
     pub spent: u64,
     /// The moment from which on the client's silence is counted.
     pub since: u64,
-    /// The moment since which no recipient is taken; if one is, that of what was done last.
+    /// Since when the client has no accepted recipient. While it has one: the moment of its last step.
     pub guest: u64,
 }
 
@@ -130,7 +130,7 @@ impl Tally {
         }
     }
 
-    /// After this many octets that came; of a text that is sent each octet buys a millisecond.
+    /// After this many octets came. While the client sends a message's text each octet moves its deadline by a millisecond.
     pub fn heard(&self, now: u64, sending: bool, count: usize) -> Tally
         ensures { result ≡ s.heard now sending count self.now }
     {

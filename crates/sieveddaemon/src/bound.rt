@@ -99,7 +99,7 @@ fn left(mail: &MailDaemon) -> usize
     less_held(left, &mail.posts)
 }
 
-/// The least number of octets more with which those who aren't logged in pass their share; 0 if they have.
+/// One octet more than what those who aren't logged in may still hold of their share; 0 if they have passed it.
 fn left_to_guests(mail: &MailDaemon) -> usize
     ensures { result ≡ bounds.share mail.now + 1 - bounds.guests mail.now }
 {

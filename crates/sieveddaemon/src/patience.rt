@@ -9,19 +9,19 @@ use crate::mail::MailDaemon;
 use crate::place::Waits;
 use mailposts::Wanted;
 
-/// If one waits for the store, in milliseconds.
+/// How long the loop waits for its sockets while a client waits for the store, in milliseconds.
 const WHILE_AWAY: u32 = 5;
 
-/// If the store is held.
+/// The same while the daemon holds the store.
 const WHILE_HAD: u32 = 20;
 
-/// If something is kept back.
+/// The same while something is kept back.
 const WHILE_KEPT: u32 = 100;
 
-/// If mail moves on soon, and the store isn't held.
+/// The same while mail is to move soon, and the store isn't held.
 const WHILE_SOON: u32 = 50;
 
-/// Otherwise.
+/// The same at other times.
 const AT_REST: u32 = 1000;
 
 /// For how many milliseconds it may rest if nothing happens.

@@ -1,4 +1,4 @@
-//! Who claims to go when another one of its kind wants its place, and all are taken.
+//! Which connection is closed when all places of its kind are taken and a new one knocks: what each claims.
 ghost use Rattle.std.specs.Prelude.{◌≡◌, ◌-◌};
 ghost use Rattle.sieveddaemon.specs.DaemonRules as rules;
 ghost use Rattle.sieveddaemon.specs.Places as places;
@@ -81,7 +81,7 @@ fn rank_of(session: &Session) -> u32
     if session.has_failed() { FAILED } else { SILENT }
 }
 
-/// What one claims of which that is wanted.
+/// The claim of a connection of which the loop wants this.
 fn want_claim(now: u64, want: Want, rank: u32, since: u64) -> Option<Claim>
     ensures { result ≡ room.want_claim now want rank since }
 {

@@ -1,4 +1,4 @@
-//! Nobody's turn: whose turn it is next, who is late, and what a wait told.
+//! While it is no connection's turn: chooses the next one, closes who is late, and takes up what a wait told.
 ghost use Rattle.std.specs.Prelude.{◌≡◌, ◌==◌, ◌<◌, ◌↔◌, [], find, true, Some, None, IsTrue, OnErr};
 ghost use Rattle.wires.specs.Moves.{MovesIf, MovesOrIf};
 ghost use Rattle.wires.specs.Talk.{client_of, kind_of, waits, is_closing_by, parting_span, is_quiet, is_late, task};
