@@ -1,4 +1,4 @@
-//! What is told on the errors, and how long the store is left alone.
+//! The log on standard error, the counts of its status line, and the pause after a failure of the store.
 ghost use Rattle.std.specs.Prelude.{◌≡◌, true};
 ghost use Rattle.daemonhosts.specs.Events as events;
 ghost use Rattle.daemonhosts.specs.Log.{is_filed, has_moved, store_failed};

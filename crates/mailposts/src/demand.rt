@@ -9,7 +9,7 @@ pub struct Question {
     pub user: Octets,
     /// The recipient's address.
     pub address: Octets,
-    /// How many forms of its name were asked for with this one, if another form follows.
+    /// `Some(n)`: if there is no such account, form `n` of its name is asked for next.
     pub next: Option<usize>,
 }
 

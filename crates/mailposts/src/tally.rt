@@ -45,7 +45,7 @@ pub struct Tally {
     pub spent: u64,
     /// The moment from which on the client's silence is counted.
     pub since: u64,
-    /// Since when the client has no accepted recipient. While it has one: the moment of its last step.
+    /// From this moment on its claim counts: its last step with an accepted recipient, else when it came.
     pub guest: u64,
 }
 

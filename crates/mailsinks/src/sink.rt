@@ -41,8 +41,7 @@ pub trait MailSink {
     /// What the system said of the last failure.
     ghost said: { Self → Option ErrorKind };
 
-    /// What holds of a sink that was opened at a path, until it is opened at another. Only an Ok of `open` says it, so who can say it of
-    /// any sink opened it for that path.
+    /// Holds from an Ok of `open` with that path to the next `open`; nothing else grants it.
     ghost is_at: { Self → List ℕ → Type 0 } = { λ _ _. ⊤ };
 
     /// What holds of a sink that refused a call, and why. Only the refusals of `open` and `keep` say it, so who can say it of any sink

@@ -143,7 +143,7 @@ impl<S: Alter> Store<S> {
     ///
     /// # Errors
     ///
-    /// `NoUser` without an account and if it is closed, `Memory`, `Store`.
+    /// `NoUser` if there is no account or it is closed; `Memory`; `Store`.
     pub fn enter(&mut self, user: &[u8]) -> Result<Profile, Refusal>
         ensures { Reads user.now (λ profile a. profile ≡ profile_of a) (state S.Store self.old) (state S.Store self.new) result }
     {

@@ -47,8 +47,7 @@ fn is_move_due(holding: &Holding, now: u64) -> bool
     holding.moves && holding.next <= now && is_turn(holding, now)
 }
 
-/// Whether the store isn't held, or it was looked since the last event that asked it whether somebody waits for it: so who waits comes
-/// first.
+/// Whether the store isn't held, or since its last event the daemon looked whether another process waits for it, which then comes first.
 fn is_looked(holding: &Holding) -> bool {
     !holding.had || holding.asked < holding.look
 }

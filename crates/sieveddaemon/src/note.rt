@@ -10,8 +10,8 @@ use octets::{List, Octets};
 pub enum Note {
     /// An event was applied to the store, and answered so.
     Did {
-        /// By these other processes had changed the accounts, since the daemon held the store last; the sessions in them
-        /// come and go there.
+        /// The events by which other processes changed the accounts while the daemon didn't hold the store; the sessions in
+        /// them begin and end there.
         others: List<Event>,
         event: Event,
         answer: Answer,

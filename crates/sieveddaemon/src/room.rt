@@ -14,8 +14,8 @@ use sessions::Session;
 use std::collections::BTreeMap;
 use wires::machine::{Claim, Want};
 
-/// For how many milliseconds a guest of ManageSieve is left alone since it came, and a client of LMTP that hasn't said LHLO, when many
-/// haven't: a client on the same machine answers its greeting within one or two, and 300 that say nothing have gone by within a second.
+/// For so many milliseconds after it came a ManageSieve client that isn't logged in isn't closed for another, nor an LMTP client before
+/// its LHLO while many are: a client on the same machine answers its greeting within one or two, and 300 that say nothing have gone by within a second.
 const FIRST_SPAN: u64 = 50;
 
 /// For how many milliseconds any other client of LMTP is left alone while no recipient of its is taken.

@@ -10,7 +10,7 @@ pub enum Turn {
     Waked,
     /// Nobody's: the clock was read, and those who are late come first.
     Sweep,
-    /// That of those who come, of a kind, and whether a wait told that somebody knocks, and none has come since that wait.
+    /// Connections of that kind are accepted; true if the last wait told of one and none has come since.
     Door(u32, bool),
     /// A connection's, after this many acts of it.
     Busy(u32, u32),

@@ -95,7 +95,7 @@ pub(crate) fn plain_command(
     }
 }
 
-/// The texts of the `:flags` of `keep`, if it is permitted.
+/// The texts of `:flags` of `keep`; a fault if `imap4flags` isn't required.
 fn permitted_keep(
     alloc: Global,
     args: &[Argument<'_>],
