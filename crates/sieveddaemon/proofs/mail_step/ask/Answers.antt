@@ -8,8 +8,8 @@ returns-in-Some-clause-does g c = λ spare.
     let looks : LooksUp g.O.Outside.tells g.O.Outside.seen g.O.Outside.rest g.O.Desk.view g.O.Desk.clean c.args.id c.args.question.user c.args.outside.now c.args.daemon.now.clients.sessions (Some c.in-Some.lookup) c.look_up.new.self c.look_up.new.clients.sessions =
     subst (λ u. LooksUp g.O.Outside.tells g.O.Outside.seen g.O.Outside.rest g.O.Desk.view g.O.Desk.clean c.args.id u c.args.outside.now c.args.daemon.now.clients.sessions (Some c.in-Some.lookup) c.look_up.new.self c.look_up.new.clients.sessions)
     c.as_slice.ensures c.in-Some.ensures.asks in
-    asked g.O.Outside.tells g.O.Outside.seen g.O.Outside.rest g.O.Desk.view g.O.Desk.clean g.met.O.Desk.sure c.args.outside.now c.look_up.new.self c.args.daemon.now c.look_up.new.clients c.args.now c.args.id c.found.result
-    c.args.post.now c.found.new.self spare c.found.ensures.held c.args.question.user c.in-Some.lookup looks c.found.ensures.does c.asked_at-daemon.result c.asked_at-daemon.ensures
+    asked g.O.Outside.tells g.O.Outside.seen g.O.Outside.rest g.O.Desk.view g.O.Desk.clean g.met.O.Desk.sure c.args.outside.now c.look_up.new.self c.args.daemon.now c.look_up.new.clients c.args.now c.args.id c.answer_recipient.result
+    c.args.post.now c.answer_recipient.new.self spare c.answer_recipient.ensures.held c.args.question.user c.in-Some.lookup looks c.answer_recipient.ensures.does c.asked_at-daemon.result c.asked_at-daemon.ensures
 
 pub returns-in-None-clause-does : goal.returns-in-None-clause-does
 returns-in-None-clause-does g c = λ spare.

@@ -12,12 +12,12 @@ returns-clause-brings g c =
     let rest : c.is_away.new.self.stage.fake ≡ c.args.self.now.stage.fake = ap (λ s. s.fake) c.is_away.ensures in
     let lets : LetsOthers g.S.Shelf.view others c.args.self.now.stage.fake.rest c.let_others-others.new.self.stage.fake.rest =
     subst (λ f. LetsOthers g.S.Shelf.view others f.rest c.let_others-others.new.self.stage.fake.rest) rest c.let_others-others.ensures.others in
-    let done : IsDone g.S.Shelf.view others c.args.event c.change-answer.result c.args.self.now.stage.fake.rest c.args.clients.now.sessions c.note_event.new.self.stage.fake.rest c.change-answer.new.clients.sessions =
-    subst (λ s. IsDone g.S.Shelf.view others c.args.event c.change-answer.result c.args.self.now.stage.fake.rest c.args.clients.now.sessions s c.change-answer.new.clients.sessions) (sym c.note_event.ensures.left)
-    (done_behind g.S.Shelf.view others c.args.event c.change-answer.result c.args.self.now.stage.fake.rest c.let_others-others.new.self.stage.fake.rest c.change-answer.new.self c.args.clients.now.sessions c.change-answer.new.clients.sessions
-    lets c.change-answer.ensures.applied) in (
+    let done : IsDone g.S.Shelf.view others c.args.event c.apply_event-answer.result c.args.self.now.stage.fake.rest c.args.clients.now.sessions c.note_event.new.self.stage.fake.rest c.apply_event-answer.new.clients.sessions =
+    subst (λ s. IsDone g.S.Shelf.view others c.args.event c.apply_event-answer.result c.args.self.now.stage.fake.rest c.args.clients.now.sessions s c.apply_event-answer.new.clients.sessions) (sym c.note_event.ensures.left)
+    (done_behind g.S.Shelf.view others c.args.event c.apply_event-answer.result c.args.self.now.stage.fake.rest c.let_others-others.new.self.stage.fake.rest c.apply_event-answer.new.self c.args.clients.now.sessions c.apply_event-answer.new.clients.sessions
+    lets c.apply_event-answer.ensures.applied) in (
       others,
       λ clean. done,
       λ tells. c.note_event.ensures.told tells
-          ∙ ap (λ acts. acts.items ++ Noted c.args.id (Did others c.args.event c.change-answer.result) ∷ []) (c.let_others-others.ensures.acts ∙ ap (λ f. f.acts) rest),
+          ∙ ap (λ acts. acts.items ++ Noted c.args.id (Did others c.args.event c.apply_event-answer.result) ∷ []) (c.let_others-others.ensures.acts ∙ ap (λ f. f.acts) rest),
     )

@@ -10,8 +10,8 @@ returns-clause-seeks g c = λ clean.
     let view = view_of g.K.S.Store g.K.Keeper.tells g.K.Keeper.holds in
     let kept = c.is_kept-kept.ensures.kept clean in
     let own = subst (IsClean g.K.S.Store g.K.Keeper.tells) kept.1 clean in
-    let finds : Finds view (IsClean g.K.S.Store g.K.Keeper.tells) c.args.user.now (Some c.in_ok-lookup.lookup) c.args.self.now.held c.find.new.self = λ clean.
-    found_behind view c.args.self.now.held c.reach.new.self.held c.find.new.self c.args.user.now c.in_ok-lookup.lookup
+    let finds : Finds view (IsClean g.K.S.Store g.K.Keeper.tells) c.args.user.now (Some c.in_ok-lookup.lookup) c.args.self.now.held c.find_account.new.self = λ clean.
+    found_behind view c.args.self.now.held c.reach.new.self.held c.find_account.new.self c.args.user.now c.in_ok-lookup.lookup
     (still_then view c.args.self.now.held c.may_ask.new.self.held c.reach.new.self.held c.may_ask.ensures.shown c.reach.ensures.shown) (c.in_ok-lookup.ensures.seeks clean) in
     subst (λ held. Finds view (IsClean g.K.S.Store g.K.Keeper.tells) c.args.user.now (Some c.found.result) c.args.self.now.held held) (sym kept.1)
-    (subst (λ lookup. Finds view (IsClean g.K.S.Store g.K.Keeper.tells) c.args.user.now (Some lookup) c.args.self.now.held c.find.new.self) (sym (c.found.ensures.same kept.0)) finds) clean
+    (subst (λ lookup. Finds view (IsClean g.K.S.Store g.K.Keeper.tells) c.args.user.now (Some lookup) c.args.self.now.held c.find_account.new.self) (sym (c.found.ensures.same kept.0)) finds) clean
